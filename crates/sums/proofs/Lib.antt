@@ -1,0 +1,6 @@
+-- The laws, lowest first.
+pub mod Ring
+pub mod Sums
+pub mod Sizes
+pub mod Lists
+pub mod Every

@@ -1,0 +1,3 @@
+-- Definitions that know nothing of grids.
+pub mod Sums
+pub mod Lists
