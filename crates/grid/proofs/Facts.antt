@@ -1,0 +1,74 @@
+-- What specs/Facts.antt states of the grid holds.
+-- Assumes nothing.
+use Rattle.grid.specs.Facts.{IndexFacts, BlockFacts, DifferenceFacts, LevelOneFacts, Combination}
+use Rattle.grid.proofs.Levels as Levels
+use Rattle.grid.proofs.Lower as Lower
+use Rattle.grid.proofs.Blocks as Blocks
+use Rattle.grid.proofs.Rules as Rules
+use Rattle.grid.proofs.Differences as Differences
+use Rattle.grid.proofs.Sampled as Sampled
+use Rattle.grid.proofs.LevelOne as LevelOne
+use Rattle.grid.proofs.Combine as Combine
+use Rattle.grid.proofs.Masks as Masks
+
+pub index-facts : IndexFacts
+index-facts =
+    record {
+      within-sure = Levels.within-sure;
+      within-back = Levels.within-back;
+      lower-sure = Lower.lower-sure;
+      lower-back = Lower.lower-back;
+      lower-once = Lower.lower-once;
+      units-small = Levels.units-small;
+    }
+
+pub block-facts : BlockFacts
+block-facts =
+    record {
+      size = Blocks.size;
+      nth = Blocks.nth;
+      new = λ k n v h. Blocks.new k v n h;
+      every = λ k p v e. Blocks.every k v p e;
+      different = λ k n m v a b e. Blocks.different k v n m a b e;
+      rank-of-point = λ k n v h. Blocks.rank-of-point k v n h;
+      rank-below = λ k p v e. Blocks.rank-is-below k v p e;
+      point-of-rank = λ k p v e. Blocks.point-of-rank k v p e;
+    }
+
+pub difference-facts : DifferenceFacts
+difference-facts =
+    record {
+      difference-only = Differences.difference-only;
+      tensor-only = Differences.tensor-only;
+      difference-whole = Differences.difference-whole;
+      tensor-whole = Differences.tensor-whole;
+      difference-size = Differences.difference-size;
+      tensor-size = Differences.tensor-size;
+      difference-linear = Differences.difference-linear;
+      tensor-linear = Differences.tensor-linear;
+      difference-blocks = Rules.difference-blocks;
+      tensor-blocks = Rules.tensor-blocks;
+      alternating = Differences.alternating;
+      tensor-sampled = Sampled.tensor-sampled;
+      difference-sampled = Sampled.difference-sampled;
+    }
+
+pub level-one-facts : LevelOneFacts
+level-one-facts =
+    record {
+      excess-same = LevelOne.excess-same;
+      units-same = LevelOne.units-same;
+      size-same = LevelOne.size-same;
+      point-same = LevelOne.point-same;
+      difference-same = LevelOne.difference-same;
+      tensor-same = LevelOne.tensor-same;
+      coefficient-same = LevelOne.coefficient-same;
+    }
+
+pub combination : Combination
+combination =
+    record {
+      identity = λ J R d. Combine.identity J d R;
+      coefficients-one = Combine.coefficients-one;
+      masks = Masks.masks;
+    }

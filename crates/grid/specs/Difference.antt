@@ -1,0 +1,36 @@
+-- The difference of an index ("Blocks and differences"), with the weights of the difference rule.
+-- Readings come in as a function of the index and of the point's number in its block.
+use mathlib.Core.List.{List, [], _∷_}
+use Prim.Native.Nat.{ℕ, zero, suc, _+_, _-_, _^_}
+use lib.IntN.{ℤ, pos, _*ℤ_}
+use Rattle.sums.specs.Sums.{sumTo, sumOf}
+use Rattle.rule.specs.Weights.{unit, differenceWeight}
+use Rattle.grid.specs.Index.{lower}
+use Rattle.grid.specs.Block.{blockSize}
+
+abbrev pub Readings : Type 0
+Readings = List ℕ → ℕ → ℤ
+
+-- The units of the axes' levels together: a product of weights of k is in units of 2^−(units k).
+unfoldable pub units : List ℕ → ℕ
+units [] = 0
+units (k ∷ ks) = unit k + units ks
+
+-- The product of the axes' difference weights: k is the index, l the index in whose block the reading lies.
+unfoldable pub differenceProduct : List ℕ → List ℕ → ℤ
+differenceProduct [] l = pos 1
+differenceProduct (k ∷ ks) [] = pos 1
+differenceProduct (k ∷ ks) (l ∷ ls) = differenceWeight k l *ℤ differenceProduct ks ls
+
+-- The sum of all readings of its own block and of the blocks of every index that is nowhere higher, each times the product
+-- of the axes' weights, in units of 2^−(units k).
+unfoldable pub differenceSum : List ℕ → Readings → ℤ
+differenceSum k R = sumOf (lower k) (λ l. sumTo (blockSize l) (λ n. differenceProduct k l *ℤ R l n))
+
+-- The *difference* of an index, times 2^20.
+unfoldable pub difference : List ℕ → Readings → ℤ
+difference k R = pos (2 ^ (20 - units k)) *ℤ differenceSum k R
+
+-- The *scaled mean* of a set of delivered indices: the sum of their differences times 2^20.
+unfoldable pub scaledMean : List (List ℕ) → Readings → ℤ
+scaledMean J R = sumOf J (λ k. difference k R)

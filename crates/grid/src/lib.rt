@@ -1,0 +1,1 @@
+// Indices by value: ceilings, neighbours, blocks, points, subsets.
