@@ -13,3 +13,4 @@ pub mod LevelOne
 pub mod Masks
 pub mod Boundary
 pub mod Facts
+pub mod Turns

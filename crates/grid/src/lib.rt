@@ -1,1 +1,112 @@
-// Indices by value: ceilings, neighbours, blocks, points, subsets.
+// Indices by value: ceilings, neighbours, blocks and their points, subsets of the axes as masks.
+ghost use mathlib.Core.Path.{_≡_};
+ghost use Prim.Native.Nat.{_≤_, _<_};
+ghost use lib.ListN.{set};
+ghost use Rattle.grid.specs.Index.{level, Within, within, forward, backward};
+ghost use Rattle.grid.specs.Block.{blockSize, pointOf};
+ghost use Rattle.grid.specs.Coefficient.{sign, raisedOn, marks};
+
+// Whether each level is 1 to 8 and the excess at most 12; exact for any levels.
+pub fn within_ceilings(levels: [u32; 8]) -> bool
+    ensures { λ r. ⌜ r ≡ within levels ⌝ }
+{
+    let mut excess: u32 = 0;
+    let mut axis: usize = 0;
+    while axis < 8 {
+        let level = levels[axis];
+        if level < 1 {
+            return false;
+        }
+        if 8 < level {
+            return false;
+        }
+        excess += level - 1;
+        axis += 1;
+    }
+    excess <= 12
+}
+
+// How many points the block of an index has.
+pub fn block_size(levels: [u32; 8]) -> usize
+    requires { ⌜ Within levels ⌝ }
+    ensures { λ r. ⌜ r ≡ blockSize levels ⌝ }
+{
+    let mut size: usize = 1;
+    let mut axis: usize = 0;
+    while axis < 8 {
+        size *= rule::new_count(levels[axis]);
+        axis += 1;
+    }
+    size
+}
+
+// The positions of the n-th point of a block, from 0: axis 1 slowest. The axes at level 1 stand at the centre.
+pub fn point_of(levels: [u32; 8], n: usize) -> [u8; 8]
+    requires { ⌜ Within levels × (n < blockSize levels) ⌝ }
+    ensures { λ r. ⌜ r ≡ pointOf levels n ⌝ }
+{
+    let mut point = [0u8; 8];
+    let mut left = n;
+    let mut size = block_size(levels);
+    let mut axis: usize = 0;
+    while axis < 8 {
+        let level = levels[axis];
+        let count = rule::new_count(level);
+        size /= count;
+        point[axis] = rule::new_point(level, left / size);
+        left %= size;
+        axis += 1;
+    }
+    point
+}
+
+// The forward neighbour along an axis: the level list copied with one level raised.
+pub fn forward_neighbour(levels: [u32; 8], axis: usize) -> [u32; 8]
+    requires { ⌜ (axis < 8) × (level levels axis ≤ 8) ⌝ }
+    ensures { λ r. ⌜ r ≡ forward levels axis ⌝ }
+{
+    let mut neighbour = levels;
+    neighbour[axis] = levels[axis] + 1;
+    neighbour
+}
+
+// The backward neighbour along an axis: the level list copied with one level lowered.
+pub fn backward_neighbour(levels: [u32; 8], axis: usize) -> [u32; 8]
+    requires { ⌜ (axis < 8) × (1 < level levels axis) ⌝ }
+    ensures { λ r. ⌜ r ≡ backward levels axis ⌝ }
+{
+    let mut neighbour = levels;
+    neighbour[axis] = levels[axis] - 1;
+    neighbour
+}
+
+// +1 for an even and -1 for an odd subset; bit a of the mask marks axis a + 1.
+pub fn subset_sign(mask: u8) -> i64
+    ensures { λ r. ⌜ r ≡ sign (marks 8 mask) ⌝ }
+{
+    let mut odd = false;
+    let mut axis: u8 = 0;
+    while axis < 8 {
+        if (mask >> axis) & 1 == 1 {
+            odd = !odd;
+        }
+        axis += 1;
+    }
+    if odd { -1 } else { 1 }
+}
+
+// The index raised by one on a subset.
+pub fn raised_on(levels: [u32; 8], mask: u8) -> [u32; 8]
+    requires { ⌜ Within levels ⌝ }
+    ensures { λ r. ⌜ r ≡ raisedOn levels (marks 8 mask) ⌝ }
+{
+    let mut raised = levels;
+    let mut axis: usize = 0;
+    while axis < 8 {
+        if (mask >> axis) & 1 == 1 {
+            raised[axis] += 1;
+        }
+        axis += 1;
+    }
+    raised
+}
