@@ -1,0 +1,4 @@
+-- The laws, lowest first.
+pub mod Slices
+pub mod Records
+pub mod Lookups

@@ -1,0 +1,49 @@
+-- Levels compared cell by cell, and the search for a level list.
+-- The idea: what is still to be compared, or searched, answers as the whole did.
+-- Assumes nothing.
+use mathlib.Core.Path.{_≡_, refl, ap, sym, _∙_}
+use mathlib.Core.Bool.{Bool, true, false, cond}
+use mathlib.Core.List.{List, [], _∷_, _++_}
+use Prim.Native.Nat.{ℕ, zero, suc, _+_, _≤_, _<_, _-_, _*_, _/_}
+use native.Mathlib.Numerals.{add-one}
+use native.Mathlib.Omega.{arith}
+use lib.Dec.{eqb}
+use lib.ListN.{length, getD, take, drop, drop-of-length-le}
+use lib.Seq.{drop-cons, getD-take, length-take-le}
+use borrow.Author.Tests.{eq-eqb, ne-eqb}
+use Rattle.grid.specs.Coefficient.{sameLevels}
+use Rattle.area.specs.declared.IndexRecord.{IndexRecord}
+use Rattle.area.specs.declared.Found.{Found}
+use Rattle.area.specs.declared.Found.the-variants.{At, Nothing}
+use Rattle.area.specs.Records.{recordsOf, blank, heldIn}
+use Rattle.area.specs.Lookup.{foundFrom, foundIn}
+use Rattle.area.proofs.Records.{length-recordsOf}
+
+-- one level of each list
+pub same-head : (a b : List ℕ) (i : ℕ) → i < length a → i < length b → getD a i 0 ≡ getD b i 0
+    → sameLevels (drop i a) (drop i b) ≡ sameLevels (drop (i + 1) a) (drop (i + 1) b)
+unfolding sameLevels
+same-head a b i ha hb e = rw (drop-cons a i 0 ha, drop-cons b i 0 hb, eq-eqb (getD a i 0) (getD b i 0) e, add-one i)
+
+pub other-head : (a b : List ℕ) (i : ℕ) → i < length a → i < length b → (getD a i 0 ≡ getD b i 0 → ⊥) → sameLevels (drop i a) (drop i b) ≡ false
+unfolding sameLevels
+other-head a b i ha hb e = rw (drop-cons a i 0 ha, drop-cons b i 0 hb, ne-eqb (getD a i 0) (getD b i 0) e)
+
+pub same-end : (a b : List ℕ) (i : ℕ) → length a ≤ i → length b ≤ i → sameLevels (drop i a) (drop i b) ≡ true
+unfolding sameLevels
+same-end a b i ha hb = rw (drop-of-length-le a ha, drop-of-length-le b hb)
+
+-- one record of the first n
+module _ (c : List ℕ) (n p : ℕ) (k : List ℕ) (room : n * 27 ≤ length c) where
+  pub found-head : p < n → foundFrom p (drop p (heldIn c n)) k ≡ cond (sameLevels (getD (recordsOf c) p blank .levels) k) (At p) (foundFrom (p + 1) (drop (p + 1) (heldIn c n)) k)
+  unfolding foundFrom heldIn
+  found-head h =
+      let hl : length (take n (recordsOf c)) ≡ n = length-take-le n (recordsOf c) (rw (length-recordsOf c) (omega arith)) in
+      rw (drop-cons (take n (recordsOf c)) p blank (omega arith), getD-take n (recordsOf c) p blank h, add-one p)
+
+  pub found-end : n ≤ p → foundFrom p (drop p (heldIn c n)) k ≡ Nothing
+  unfolding foundFrom heldIn
+  found-end h =
+      let hl : length (take n (recordsOf c)) ≡ n = length-take-le n (recordsOf c) (rw (length-recordsOf c) (omega arith)) in
+      let q : length (take n (recordsOf c)) ≤ p = omega arith in
+      rw (drop-of-length-le (take n (recordsOf c)) q)

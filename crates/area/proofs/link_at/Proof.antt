@@ -1,0 +1,29 @@
+-- `area::link_at` meets its contract: the field stands in its cell. Assumes nothing.
+use denote.Ref.{now}
+use Rattle.area.proofs.Records.{link-in}
+use borrow.Author.Needs.{needs}
+use Rattle.area.proofs.link_at.Statement.{statement}
+use Rattle.area.proofs.link_at.Tie as tie
+
+mul-result : tie.Need-mul-result
+mul-result c = search needs
+
+add-result : tie.Need-add-result
+add-result c = search needs
+
+add-result-2 : tie.Need-add-result-2
+add-result-2 c = search needs
+
+mul-result-2 : tie.Need-mul-result-2
+mul-result-2 c = search needs
+
+shared-slice-read-result : tie.Need-shared-slice-read-result
+shared-slice-read-result c = search needs
+
+returns : tie.Need-returns
+returns c = link-in (now (c .before .args .cells)) (c .before .args .place) (c .before .pre .0) (c .before .args .which) (c .before .pre .1)
+
+pub link-at-spec : {M : Type 1} → statement M
+link-at-spec =
+    tie.close
+    (tie.spec mul-result add-result add-result-2 mul-result-2 shared-slice-read-result returns)

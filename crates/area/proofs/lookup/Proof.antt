@@ -1,0 +1,82 @@
+-- `area::lookup` meets its contract: the places left to search answer as all of them did. Assumes nothing.
+use mathlib.Core.Path.{_≡_, refl, sym, ap, _∙_}
+use mathlib.Core.Bool.{Bool, true, false, cond}
+use mathlib.Core.List.{List}
+use Prim.Native.Nat.{ℕ, _≤_, _<_, _*_, _-_, _+_}
+use native.Mathlib.Omega.{arith}
+use denote.Ref.{now}
+use lib.ListN.{length, getD, drop}
+use Rattle.grid.specs.Coefficient.{sameLevels}
+use Rattle.area.specs.declared.Found.{Found}
+use Rattle.area.specs.declared.Found.the-variants.{At, Nothing}
+use Rattle.area.specs.Records.{recordsOf, blank, heldIn}
+use Rattle.area.specs.Lookup.{foundFrom, foundIn}
+use Rattle.area.proofs.Lookups.{found-head, found-end}
+use Rattle.area.proofs.lookup.Statement.{statement}
+use Rattle.area.proofs.lookup.Tie as tie
+use Rattle.area.proofs.lookup.Reads as reads
+use Rattle.area.proofs.lookup.Lts as lts
+
+abbrev Inv-loop : tie.InvT-loop
+Inv-loop cells held levels place₀ place =
+    (place ≤ held) × (foundFrom 0 (heldIn cells held) levels ≡ foundFrom place (drop place (heldIn cells held)) levels)
+
+abbrev μ-loop : tie.MeasureT-loop
+μ-loop cells held levels place₀ place = held - place
+
+loop-holds : tie.Need-loop-holds Inv-loop μ-loop
+loop-holds c = (omega arith, refl)
+
+levels-are-requires : tie.Need-levels-are-requires Inv-loop μ-loop
+levels-are-requires c κs = omega arith
+
+-- the answer of a search whose first place left was asked
+asked : (cells : List ℕ) (held place : ℕ) (levels : List ℕ) (t : Bool) (f : Found) → held * 27 ≤ length cells → place < held
+    → f ≡ foundFrom place (drop place (heldIn cells held)) levels → t ≡ sameLevels (getD (recordsOf cells) place blank .levels) levels
+    → f ≡ cond t (At place) (foundFrom (place + 1) (drop (place + 1) (heldIn cells held)) levels)
+asked cells held place levels t f room h i e =
+    i ∙ found-head cells held place levels room h ∙ ap (λ x. cond x (At place) (foundFrom (place + 1) (drop (place + 1) (heldIn cells held)) levels)) (sym e)
+
+returns : tie.Need-returns Inv-loop μ-loop
+unfolding foundIn
+returns c =
+    let s = c .before .before .before .before .before in
+    let l = c .before .before .before .loop in
+    sym (asked (now (s .args .cells)) (s .args .held) (l .place) (s .args .levels) true (foundFrom 0 (heldIn (now (s .args .cells)) (s .args .held)) (s .args .levels))
+    (omega arith) (omega arith) (l .inv .1) (sym (c .if1 .taken) ∙ c .before .levels-are .ensures))
+
+add-place : tie.Need-add-place Inv-loop μ-loop
+add-place c = omega arith
+
+loop-less : tie.Need-loop-less Inv-loop μ-loop
+loop-less c = omega arith
+
+loop-again : tie.Need-loop-again Inv-loop μ-loop
+loop-again c =
+    let s = c .before .before .before .before .before in
+    let l = c .before .before .before .loop in (
+      omega arith,
+      asked (now (s .args .cells)) (s .args .held) (l .place) (s .args .levels) false (foundFrom 0 (heldIn (now (s .args .cells)) (s .args .held)) (s .args .levels))
+          (omega arith) (omega arith) (l .inv .1) (sym (c .if1 .left) ∙ c .before .levels-are .ensures),
+    )
+
+returns-2 : tie.Need-returns-2 Inv-loop μ-loop
+unfolding foundIn
+returns-2 c =
+    let s = c .before .before .before in
+    let l = c .before .loop in
+    sym (l .inv .1 ∙ found-end (now (s .args .cells)) (s .args .held) (l .place) (s .args .levels) (omega arith) (omega arith))
+
+pub lookup-spec : {M : Type 1} → statement M
+lookup-spec =
+    tie.close
+    (tie.spec
+    Inv-loop
+    μ-loop
+    loop-holds
+    levels-are-requires
+    returns
+    add-place
+    loop-less
+    loop-again
+    returns-2)

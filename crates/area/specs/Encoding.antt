@@ -1,0 +1,90 @@
+-- How an area encodes a list of entries. The *area* is the job record, the index records and the reading store.
+use mathlib.Core.Path.{_≡_}
+use mathlib.Core.Bool.{Bool, true, false, cond}
+use mathlib.Core.List.{List, [], _∷_, _++_, map}
+use Prim.Native.Nat.{ℕ, zero, suc, _+_}
+use lib.Dec.{leb}
+use lib.IntN.{ℤ}
+use lib.ListN.{length, take, drop}
+use Rattle.sums.specs.Lists.{tab}
+use Rattle.grid.specs.Index.{forward, backward}
+use Rattle.grid.specs.Block.{blockSize}
+use Rattle.grid.specs.Coefficient.{sameLevels}
+use Rattle.area.specs.declared.IndexRecord.{IndexRecord}
+use Rattle.area.specs.declared.JobRecord.{JobRecord}
+use Rattle.area.specs.Records.{Run, runOf}
+use Rattle.area.specs.Entry.{Entry, indicesOf, reservedBy, pendingOf}
+
+pub record Area : Type 0 where
+  pub job : JobRecord
+  pub run : Run
+  pub store : List ℤ
+
+abbrev pub areaOf : JobRecord → List ℕ → List ℤ → Area
+areaOf j c s = record { job = j; run = runOf c; store = s }
+
+-- The records of the held places.
+abbrev pub heldOf : Area → List IndexRecord
+heldOf a = take (a .job .held) (a .run .records)
+
+-- ---- reading an area
+
+-- What a record says, with its readings, which lie in the store from its first reading on once its block is delivered.
+unfoldable pub entryOf : List ℤ → IndexRecord → Entry
+entryOf s r =
+    record {
+      levels = r .levels;
+      state = r .state;
+      indicator = r .indicator;
+      readings = cond (leb 1 (r .state)) (take (blockSize (r .levels)) (drop (r .first) s)) [];
+    }
+
+unfoldable pub entriesOf : Area → List Entry
+entriesOf a = map (entryOf (a .store)) (heldOf a)
+
+-- ---- writing entries into an area
+
+-- The link to a neighbour that is not held.
+unfoldable pub none : ℕ
+none = 4294967295
+
+-- The place of an index among the held, `none` where it is not held.
+unfoldable pub placeFrom : ℕ → List (List ℕ) → List ℕ → ℕ
+placeFrom p [] k = none
+placeFrom p (l ∷ ls) k = cond (sameLevels l k) p (placeFrom (p + 1) ls k)
+
+unfoldable pub placeOf : List (List ℕ) → List ℕ → ℕ
+placeOf ls k = placeFrom 0 ls k
+
+-- Sixteen links: the places of the forward neighbours along axes 1 to 8, then of the backward neighbours.
+unfoldable pub linksOf : List (List ℕ) → List ℕ → List ℕ
+linksOf ls k = tab 8 (λ a. placeOf ls (forward k a)) ++ tab 8 (λ a. placeOf ls (backward k a))
+
+-- The record of an entry whose readings lie from f on.
+unfoldable pub encoded : List (List ℕ) → ℕ → Entry → IndexRecord
+encoded ls f e = record { levels = e .levels; state = e .state; indicator = e .indicator; first = f; links = linksOf ls (e .levels) }
+
+-- First readings are the running sum of block sizes.
+unfoldable pub encodedFrom : List (List ℕ) → ℕ → List Entry → List IndexRecord
+encodedFrom ls f [] = []
+encodedFrom ls f (e ∷ es) = encoded ls f e ∷ encodedFrom ls (f + blockSize (e .levels)) es
+
+unfoldable pub recordsFor : List Entry → List IndexRecord
+recordsFor es = encodedFrom (indicesOf es) 0 es
+
+-- The readings of all entries, one block after the other.
+unfoldable pub storeFor : List Entry → List ℤ
+storeFor [] = []
+storeFor (e ∷ es) = e .readings ++ storeFor es
+
+-- The records and readings of the entries from the start on; what lies past them stays as it was.
+unfoldable pub runWith : Run → List Entry → Run
+runWith u es = record { records = recordsFor es ++ drop (length es) (u .records); rest = u .rest }
+
+unfoldable pub storeWith : List ℤ → List Entry → List ℤ
+storeWith s es = storeFor es ++ drop (length (storeFor es)) s
+
+-- The job record of a list of entries.
+unfoldable pub jobWith : (axes threshold budget : ℕ) → List Entry → ℤ → JobRecord
+jobWith d t b es m =
+    record { axes = d; threshold = t; budget = b; held = length es; reserved = reservedBy es; pending = pendingOf es; mean = m }

@@ -1,0 +1,44 @@
+-- The entries of the scope document's log: each held index with its state, indicator and readings.
+use mathlib.Core.Bool.{Bool, true, false, cond}
+use mathlib.Core.List.{List, [], _∷_, _++_, map}
+use Prim.Native.Nat.{ℕ, zero, suc, _+_}
+use lib.Dec.{leb, eqb}
+use lib.IntN.{ℤ, pos}
+use lib.ListN.{length, getD}
+use Rattle.grid.specs.Block.{blockSize}
+use Rattle.grid.specs.Difference.{Readings}
+use Rattle.grid.specs.Coefficient.{sameLevels}
+
+-- A held index is *wanted* (0), *active* (1) or *old* (2); *delivered* means active or old.
+pub record Entry : Type 0 where
+  pub levels : List ℕ
+  pub state : ℕ
+  pub indicator : ℕ
+  pub readings : List ℤ
+
+-- The indices of the entries, in order of place; those of the delivered.
+unfoldable pub indicesOf : List Entry → List (List ℕ)
+indicesOf es = map (λ (e : Entry). e .levels) es
+
+unfoldable pub deliveredOf : List Entry → List (List ℕ)
+deliveredOf [] = []
+deliveredOf (e ∷ es) = cond (leb 1 (e .state)) (e .levels ∷ deliveredOf es) (deliveredOf es)
+
+-- The readings of an index: those of the first entry that has it.
+unfoldable pub readingsOf : List Entry → List ℕ → List ℤ
+readingsOf [] k = []
+readingsOf (e ∷ es) k = cond (sameLevels (e .levels) k) (e .readings) (readingsOf es k)
+
+-- The readings as a function of the index and of the point's number in its block.
+unfoldable pub readingIn : List Entry → Readings
+readingIn es k n = getD (readingsOf es k) n (pos 0)
+
+-- *Reserved* is the sum of the held blocks' sizes, wanted ones included.
+unfoldable pub reservedBy : List Entry → ℕ
+reservedBy [] = 0
+reservedBy (e ∷ es) = blockSize (e .levels) + reservedBy es
+
+-- The *pending error* is the sum of the active indices' indicators.
+unfoldable pub pendingOf : List Entry → ℕ
+pendingOf [] = 0
+pendingOf (e ∷ es) = cond (eqb (e .state) 1) (e .indicator) 0 + pendingOf es

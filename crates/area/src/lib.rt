@@ -1,0 +1,203 @@
+// Storage: the job record by value, and index records in one lent slice of cells, 27 words to a record. Only the functions of
+// this file touch a cell; their contracts speak of the records that the cells hold.
+ghost use mathlib.Core.Path.{_≡_};
+ghost use Prim.Native.Nat.{_+_, _*_, _<_, _≤_};
+ghost use lib.ListN.{length, getD, take, drop};
+ghost use lib.Seq.{sets};
+ghost use Rattle.grid.specs.Index.{level};
+ghost use Rattle.grid.specs.Coefficient.{sameLevels};
+ghost use Rattle.area.specs.Records.{recordsOf, runOf, stored, blank, heldIn};
+ghost use Rattle.area.specs.Lookup.{foundIn};
+
+// The place of a neighbour that is not held.
+pub const NONE: u32 = 4294967295;
+
+pub const WANTED: u32 = 0;
+
+pub const ACTIVE: u32 = 1;
+
+pub const OLD: u32 = 2;
+
+pub struct JobRecord {
+    pub axes: u32,
+    pub threshold: u64,
+    pub budget: u32,
+    pub held: u32,
+    pub reserved: u32,
+    pub pending: u64,
+    pub mean: i64,
+}
+
+// The links are the places of the forward neighbours along axes 1 to 8, then those of the backward neighbours.
+pub struct IndexRecord {
+    pub levels: [u32; 8],
+    pub state: u32,
+    pub indicator: u32,
+    pub first: u32,
+    pub links: [u32; 16],
+}
+
+// Where a level list is held.
+pub enum Found {
+    At(usize),
+    Nothing,
+}
+
+// Eight cells in a row.
+fn eight_at(cells: &[u32], at: usize) -> [u32; 8]
+    requires { ⌜ at + 8 ≤ length (now cells) ⌝ }
+    ensures { λ r. ⌜ r ≡ take 8 (drop at (now (cells .entry))) ⌝ }
+{
+    let mut list = [0u32; 8];
+    let mut i = 0;
+    while i < 8 {
+        list[i] = cells[at + i];
+        i += 1;
+    }
+    list
+}
+
+// Sixteen cells in a row.
+fn sixteen_at(cells: &[u32], at: usize) -> [u32; 16]
+    requires { ⌜ at + 16 ≤ length (now cells) ⌝ }
+    ensures { λ r. ⌜ r ≡ take 16 (drop at (now (cells .entry))) ⌝ }
+{
+    let mut list = [0u32; 16];
+    let mut i = 0;
+    while i < 16 {
+        list[i] = cells[at + i];
+        i += 1;
+    }
+    list
+}
+
+// The record at a place.
+pub fn load(cells: &[u32], place: usize) -> IndexRecord
+    requires { ⌜ place * 27 + 27 ≤ length (now cells) ⌝ }
+    ensures { λ r. ⌜ r ≡ getD (recordsOf (now (cells .entry))) place blank ⌝ }
+{
+    let at = place * 27;
+    let levels = eight_at(cells, at);
+    let links = sixteen_at(cells, at + 11);
+    IndexRecord {
+        levels,
+        state: cells[at + 8],
+        indicator: cells[at + 9],
+        first: cells[at + 10],
+        links,
+    }
+}
+
+// The levels of the record at a place.
+pub fn levels_at(cells: &[u32], place: usize) -> [u32; 8]
+    requires { ⌜ place * 27 + 27 ≤ length (now cells) ⌝ }
+    ensures { λ r. ⌜ r ≡ getD (recordsOf (now (cells .entry))) place blank .levels ⌝ }
+{
+    eight_at(cells, place * 27)
+}
+
+// One level of the record at a place.
+pub fn level_at(cells: &[u32], place: usize, axis: usize) -> u32
+    requires { ⌜ (place * 27 + 27 ≤ length (now cells)) × (axis < 8) ⌝ }
+    ensures { λ r. ⌜ r ≡ level (getD (recordsOf (now (cells .entry))) place blank .levels) axis ⌝ }
+{
+    cells[place * 27 + axis]
+}
+
+pub fn state_at(cells: &[u32], place: usize) -> u32
+    requires { ⌜ place * 27 + 27 ≤ length (now cells) ⌝ }
+    ensures { λ r. ⌜ r ≡ getD (recordsOf (now (cells .entry))) place blank .state ⌝ }
+{
+    cells[place * 27 + 8]
+}
+
+pub fn indicator_at(cells: &[u32], place: usize) -> u32
+    requires { ⌜ place * 27 + 27 ≤ length (now cells) ⌝ }
+    ensures { λ r. ⌜ r ≡ getD (recordsOf (now (cells .entry))) place blank .indicator ⌝ }
+{
+    cells[place * 27 + 9]
+}
+
+// The first reading of the record at a place.
+pub fn first_at(cells: &[u32], place: usize) -> u32
+    requires { ⌜ place * 27 + 27 ≤ length (now cells) ⌝ }
+    ensures { λ r. ⌜ r ≡ getD (recordsOf (now (cells .entry))) place blank .first ⌝ }
+{
+    cells[place * 27 + 10]
+}
+
+// One link of the record at a place.
+pub fn link_at(cells: &[u32], place: usize, which: usize) -> u32
+    requires { ⌜ (place * 27 + 27 ≤ length (now cells)) × (which < 16) ⌝ }
+    ensures { λ r. ⌜ r ≡ getD (getD (recordsOf (now (cells .entry))) place blank .links) which 0 ⌝ }
+{
+    cells[place * 27 + 11 + which]
+}
+
+// Whether the record at a place has these levels.
+pub fn levels_are(cells: &[u32], place: usize, levels: [u32; 8]) -> bool
+    requires { ⌜ place * 27 + 27 ≤ length (now cells) ⌝ }
+    ensures { λ r. ⌜ r ≡ sameLevels (getD (recordsOf (now (cells .entry))) place blank .levels) levels ⌝ }
+{
+    let at = place * 27;
+    let mut i = 0;
+    while i < 8 {
+        if cells[at + i] != levels[i] {
+            return false;
+        }
+        i += 1;
+    }
+    true
+}
+
+// The first held place that has these levels.
+pub fn lookup(cells: &[u32], held: usize, levels: [u32; 8]) -> Found
+    requires { ⌜ held * 27 ≤ length (now cells) ⌝ }
+    ensures { λ r. ⌜ r ≡ foundIn (heldIn (now (cells .entry)) held) levels ⌝ }
+{
+    let mut place = 0;
+    while place < held {
+        if levels_are(cells, place, levels) {
+            return Found::At(place);
+        }
+        place += 1;
+    }
+    Found::Nothing
+}
+
+fn put_eight(cells: &mut [u32], at: usize, list: [u32; 8])
+    requires { ⌜ at + 8 ≤ length (now cells) ⌝ }
+    ensures { λ r. ⌜ now (cells .exit) ≡ sets (now (cells .entry)) at list ⌝ }
+{
+    let mut i = 0;
+    while i < 8 {
+        cells[at + i] = list[i];
+        i += 1;
+    }
+}
+
+fn put_sixteen(cells: &mut [u32], at: usize, list: [u32; 16])
+    requires { ⌜ at + 16 ≤ length (now cells) ⌝ }
+    ensures { λ r. ⌜ now (cells .exit) ≡ sets (now (cells .entry)) at list ⌝ }
+{
+    let mut i = 0;
+    while i < 16 {
+        cells[at + i] = list[i];
+        i += 1;
+    }
+}
+
+// Writes the record at a place.
+pub fn store(cells: &mut [u32], place: usize, index: IndexRecord)
+    requires { ⌜ place * 27 + 27 ≤ length (now cells) ⌝ }
+    ensures { λ r. ⌜ runOf (now (cells .exit)) ≡ stored (runOf (now (cells .entry))) place index ⌝ }
+{
+    let at = place * 27;
+    let levels = index.levels;
+    let links = index.links;
+    put_eight(cells, at, levels);
+    cells[at + 8] = index.state;
+    cells[at + 9] = index.indicator;
+    cells[at + 10] = index.first;
+    put_sixteen(cells, at + 11, links);
+}
