@@ -1,0 +1,393 @@
+//! Alters an area in one to three places by seed: single numbers, and changes
+//! of several numbers that belong together, so that the altered area is still
+//! sound or breaks one clause alone.
+
+use crate::area::{Area, IndexRecord, ACTIVE, NONE, OLD, WANTED, WORDS};
+use crate::grid::{self, Levels, MOST_AXES, READING_LIMIT, ROOT};
+use crate::rng::Rng;
+use crate::sums::DIFFERENCE_LIMIT;
+
+type Change = fn(&mut Area, &mut Rng) -> Option<String>;
+
+/// Every kind of change; each says what it did, or nothing if the area gives
+/// it no occasion.
+const CHANGES: [Change; 24] = [
+    job_field,
+    record_word,
+    record_word,
+    store_element,
+    swap_records,
+    active_indicator_with_pending,
+    old_indicator,
+    mean_within_or_at_bound,
+    old_becomes_active,
+    active_becomes_old,
+    wanted_becomes_active,
+    active_becomes_wanted,
+    state_of_no_kind,
+    drop_last_wanted,
+    append_copy,
+    append_past_ceiling,
+    append_beyond_axes,
+    link_beyond_axes,
+    exchange_places,
+    promote_past_limits,
+    budget_moved,
+    axes_moved,
+    reading_in_block,
+    wanted_indicator,
+];
+
+/// Alters the area in one to three places and says how.
+pub fn alter(area: &mut Area, rng: &mut Rng) -> Vec<String> {
+    let places = rng.pick(&[1, 1, 1, 1, 2, 2, 3]);
+    let mut done = Vec::new();
+    while done.len() < places {
+        let change = rng.pick(&CHANGES);
+        done.extend(change(area, rng));
+    }
+    done
+}
+
+/// The place of a held record with this state, any of them.
+fn any_in_state(area: &Area, rng: &mut Rng, state: u32) -> Option<usize> {
+    let all: Vec<usize> =
+        (0..area.held().len()).filter(|&place| area.records[place].state == state).collect();
+    if all.is_empty() {
+        None
+    } else {
+        Some(rng.pick(&all))
+    }
+}
+
+fn axes(area: &Area) -> usize {
+    MOST_AXES.min(area.job.axes as usize)
+}
+
+/// A number of 32 bits that is likely to matter in place of this one.
+fn telling(area: &Area, rng: &mut Rng, was: u32) -> u32 {
+    match rng.below(10) {
+        0 | 1 => was.wrapping_add(1),
+        2 | 3 => was.wrapping_sub(1),
+        4 => NONE,
+        5 => rng.below(4) as u32,
+        6 => rng.pick(&[8, 9, 511, 512, 513, 8_192, 8_193, 1 << 31]),
+        7 => rng.below(u64::from(area.job.held) + 2) as u32,
+        8 => area.job.reserved,
+        _ => rng.number() as u32,
+    }
+}
+
+fn telling_wide(area: &Area, rng: &mut Rng, was: u64) -> u64 {
+    match rng.below(5) {
+        0 => was.wrapping_add(1),
+        1 => was.wrapping_sub(1),
+        2 => 0,
+        3 => u64::from(telling(area, rng, was as u32)),
+        _ => rng.number(),
+    }
+}
+
+fn job_field(area: &mut Area, rng: &mut Rng) -> Option<String> {
+    let was = area.job;
+    let field = rng.below(7);
+    match field {
+        0 => area.job.axes = telling(area, rng, was.axes),
+        1 => area.job.threshold = telling_wide(area, rng, was.threshold),
+        2 => area.job.budget = telling(area, rng, was.budget),
+        3 => area.job.held = telling(area, rng, was.held),
+        4 => area.job.reserved = telling(area, rng, was.reserved),
+        5 => area.job.pending = telling_wide(area, rng, was.pending),
+        _ => area.job.mean = telling_wide(area, rng, was.mean as u64) as i64,
+    }
+    Some(format!("job field {field}: {was:?} became {:?}", area.job))
+}
+
+/// Any word of a record, mostly a held one, at times one past the last held.
+fn record_word(area: &mut Area, rng: &mut Rng) -> Option<String> {
+    let count = if rng.percent(90) { area.held().len() } else { area.records.len() };
+    if count == 0 {
+        return None;
+    }
+    let (place, other) = (rng.place(count), rng.place(count));
+    let word = rng.place(WORDS);
+    let mut words = area.records[place].to_words();
+    let was = words[word];
+    words[word] = match rng.percent(20) {
+        true => area.records[other].to_words()[word],
+        false => telling(area, rng, was),
+    };
+    area.records[place] = IndexRecord::from_words(&words);
+    Some(format!("word {word} of record {place}: {was} became {}", words[word]))
+}
+
+fn store_element(area: &mut Area, rng: &mut Rng) -> Option<String> {
+    let count = match rng.percent(70) {
+        true => area.store.len().min(area.job.reserved as usize),
+        false => area.store.len(),
+    };
+    if count == 0 {
+        return None;
+    }
+    let place = rng.place(count);
+    area.store[place] = telling(area, rng, area.store[place] as u32) as i32;
+    Some(format!("store element {place} became {}", area.store[place]))
+}
+
+fn swap_records(area: &mut Area, rng: &mut Rng) -> Option<String> {
+    let count = area.held().len();
+    if count < 2 {
+        return None;
+    }
+    let (one, other) = (rng.place(count), rng.place(count));
+    area.records.swap(one, other);
+    Some(format!("records {one} and {other} swapped with all their words"))
+}
+
+/// Sets an active record's indicator and carries the pending error along.
+fn set_active_indicator(area: &mut Area, place: usize, indicator: u32) {
+    let record = &mut area.records[place];
+    let rest = area.job.pending.wrapping_sub(u64::from(record.indicator));
+    area.job.pending = rest.wrapping_add(u64::from(indicator));
+    record.indicator = indicator;
+}
+
+fn active_indicator_with_pending(area: &mut Area, rng: &mut Rng) -> Option<String> {
+    let place = any_in_state(area, rng, ACTIVE)?;
+    let indicator = telling(area, rng, area.records[place].indicator);
+    set_active_indicator(area, place, indicator);
+    Some(format!("indicator of active {place} became {indicator}, pending with it"))
+}
+
+fn old_indicator(area: &mut Area, rng: &mut Rng) -> Option<String> {
+    let place = any_in_state(area, rng, OLD)?;
+    area.records[place].indicator = telling(area, rng, area.records[place].indicator);
+    Some(format!("indicator of old {place} became {}", area.records[place].indicator))
+}
+
+fn wanted_indicator(area: &mut Area, rng: &mut Rng) -> Option<String> {
+    let place = any_in_state(area, rng, WANTED)?;
+    area.records[place].indicator = rng.pick(&[1, u32::MAX]);
+    Some(format!("indicator of wanted {place} became {}", area.records[place].indicator))
+}
+
+fn mean_within_or_at_bound(area: &mut Area, rng: &mut Rng) -> Option<String> {
+    let delivered = area.held().iter().filter(|record| record.is_delivered()).count();
+    let bound = delivered as i64 * DIFFERENCE_LIMIT as i64;
+    let within = match bound {
+        0 => 0,
+        _ => rng.between(-bound, bound),
+    };
+    area.job.mean = rng.pick(&[bound, -bound, bound + 1, -bound - 1, within, i64::MIN, i64::MAX]);
+    Some(format!("mean became {} where the bound is {bound}", area.job.mean))
+}
+
+fn old_becomes_active(area: &mut Area, rng: &mut Rng) -> Option<String> {
+    let place = any_in_state(area, rng, OLD)?;
+    area.records[place].state = ACTIVE;
+    area.job.pending = area.job.pending.wrapping_add(u64::from(area.records[place].indicator));
+    Some(format!("old {place} became active, pending with it"))
+}
+
+fn active_becomes_old(area: &mut Area, rng: &mut Rng) -> Option<String> {
+    let place = any_in_state(area, rng, ACTIVE)?;
+    area.records[place].state = OLD;
+    area.job.pending = area.job.pending.wrapping_sub(u64::from(area.records[place].indicator));
+    Some(format!("active {place} became old, pending with it"))
+}
+
+/// The first wanted record becomes active with whatever the store holds.
+fn wanted_becomes_active(area: &mut Area, rng: &mut Rng) -> Option<String> {
+    let place = area.held().iter().position(|record| record.state == WANTED)?;
+    area.records[place].state = ACTIVE;
+    set_active_indicator(area, place, rng.below(1_000) as u32);
+    Some(format!("wanted {place} became active, pending with it"))
+}
+
+fn active_becomes_wanted(area: &mut Area, rng: &mut Rng) -> Option<String> {
+    let place = any_in_state(area, rng, ACTIVE)?;
+    set_active_indicator(area, place, 0);
+    area.records[place].state = WANTED;
+    Some(format!("active {place} became wanted, pending with it"))
+}
+
+fn state_of_no_kind(area: &mut Area, rng: &mut Rng) -> Option<String> {
+    let place = area.held().len().checked_sub(1)?;
+    if area.records[place].state == ACTIVE {
+        set_active_indicator(area, place, 0);
+    }
+    area.records[place].state = rng.pick(&[3, 4, 256, u32::MAX]);
+    Some(format!("state of the last record became {}", area.records[place].state))
+}
+
+fn drop_last_wanted(area: &mut Area, _: &mut Rng) -> Option<String> {
+    let place = area.held().len().checked_sub(1)?;
+    let record = area.records[place];
+    if place == 0 || record.state != WANTED {
+        return None;
+    }
+    for other in &mut area.records[..place] {
+        for link in other.forward.iter_mut().chain(&mut other.backward) {
+            if *link as usize == place {
+                *link = NONE;
+            }
+        }
+    }
+    area.job.held -= 1;
+    let size = grid::block_size_of_any(&record.levels).unwrap_or(0) as u32;
+    area.job.reserved = area.job.reserved.wrapping_sub(size);
+    Some(format!("wanted {place} dropped with the links to it"))
+}
+
+/// Appends a wanted record of these levels with links both ways.
+fn append(area: &mut Area, levels: Levels) -> Option<usize> {
+    let place = area.held().len();
+    if place >= area.records.len() || place != area.job.held as usize {
+        return None;
+    }
+    let size = u32::try_from(grid::block_size_of_any(&levels)?).ok()?;
+    let mut record = IndexRecord::wanted(levels, area.job.reserved);
+    for axis in 0..axes(area) {
+        let Some(backward) = grid::backward_neighbour(&levels, axis) else {
+            continue;
+        };
+        if let Some(at) = area.held().iter().position(|held| held.levels == backward) {
+            record.backward[axis] = at as u32;
+            area.records[at].forward[axis] = place as u32;
+        }
+    }
+    area.records[place] = record;
+    area.job.held += 1;
+    area.job.reserved = area.job.reserved.wrapping_add(size);
+    Some(place)
+}
+
+fn append_copy(area: &mut Area, rng: &mut Rng) -> Option<String> {
+    let wanted = any_in_state(area, rng, WANTED)?;
+    let place = append(area, area.records[wanted].levels)?;
+    Some(format!("a second record of wanted {wanted} appended at {place}"))
+}
+
+/// A next index past a ceiling, whose backward neighbours are old if any such
+/// index can be found.
+fn append_past_ceiling(area: &mut Area, rng: &mut Rng) -> Option<String> {
+    let held = area.held();
+    let is_old = |levels: Levels| held.iter().any(|r| r.levels == levels && r.state == OLD);
+    let mut choices: Vec<Levels> = Vec::new();
+    for record in held.iter().filter(|record| record.state == OLD) {
+        for axis in 0..axes(area) {
+            let forward = grid::forward_neighbour(&record.levels, axis)?;
+            let backward = (0..axes(area)).filter_map(|a| grid::backward_neighbour(&forward, a));
+            if !grid::within_ceilings(&forward) && backward.into_iter().all(is_old) {
+                choices.push(forward);
+            }
+        }
+    }
+    if choices.is_empty() {
+        return None;
+    }
+    let levels = rng.pick(&choices);
+    let place = append(area, levels)?;
+    Some(format!("{levels:?} past a ceiling appended at {place}"))
+}
+
+fn append_beyond_axes(area: &mut Area, _: &mut Rng) -> Option<String> {
+    let mut levels = ROOT;
+    *levels.get_mut(area.job.axes as usize)? = 2;
+    let place = append(area, levels)?;
+    Some(format!("{levels:?} with a level beyond d appended at {place}"))
+}
+
+fn link_beyond_axes(area: &mut Area, rng: &mut Rng) -> Option<String> {
+    let beyond = MOST_AXES - axes(area);
+    if beyond == 0 || area.held().is_empty() {
+        return None;
+    }
+    let axis = axes(area) + rng.place(beyond);
+    let place = rng.place(area.held().len());
+    let link = rng.pick(&[0, NONE - 1]);
+    match rng.percent(50) {
+        true => area.records[place].forward[axis] = link,
+        false => area.records[place].backward[axis] = link,
+    }
+    Some(format!("a link of record {place} beyond d became {link}"))
+}
+
+/// Two held records change places, and everything that goes by places with
+/// them: links, first readings and the readings in the store.
+fn exchange_places(area: &mut Area, rng: &mut Rng) -> Option<String> {
+    let count = area.held().len();
+    if count < 2 {
+        return None;
+    }
+    let (one, other) = (rng.place(count), rng.place(count));
+    let mut blocks: Vec<Vec<i32>> = Vec::new();
+    for record in area.held() {
+        let first = record.first_reading as usize;
+        let size = usize::try_from(grid::block_size_of_any(&record.levels)?).ok()?;
+        blocks.push(area.store.get(first..first.checked_add(size)?)?.to_vec());
+    }
+    if blocks.iter().map(Vec::len).sum::<usize>() > area.store.len() {
+        return None;
+    }
+    blocks.swap(one, other);
+    area.records.swap(one, other);
+    let mut first = 0;
+    for (record, block) in area.records.iter_mut().zip(&blocks) {
+        record.first_reading = first as u32;
+        area.store[first..first + block.len()].copy_from_slice(block);
+        first += block.len();
+        for link in record.forward.iter_mut().chain(&mut record.backward) {
+            if *link as usize == one {
+                *link = other as u32;
+            } else if *link as usize == other {
+                *link = one as u32;
+            }
+        }
+    }
+    Some(format!("records {one} and {other} exchanged with all that goes by places"))
+}
+
+/// A promotion that minds neither the 512 held nor the budget.
+fn promote_past_limits(area: &mut Area, rng: &mut Rng) -> Option<String> {
+    let selected = any_in_state(area, rng, ACTIVE)?;
+    let levels = area.records[selected].levels;
+    area.records[selected].state = OLD;
+    area.job.pending = area.job.pending.wrapping_sub(u64::from(area.records[selected].indicator));
+    for axis in 0..axes(area) {
+        let Some(forward) = grid::forward_neighbour(&levels, axis) else {
+            continue;
+        };
+        let old = (0..axes(area))
+            .filter_map(|a| grid::backward_neighbour(&forward, a))
+            .all(|backward| area.held().iter().any(|r| r.levels == backward && r.state == OLD));
+        if grid::within_ceilings(&forward) && old {
+            append(area, forward);
+        }
+    }
+    Some(format!("active {selected} promoted without regard to the limits"))
+}
+
+fn budget_moved(area: &mut Area, rng: &mut Rng) -> Option<String> {
+    let reserved = area.job.reserved;
+    area.job.budget =
+        rng.pick(&[0, reserved, reserved.wrapping_sub(1), 8_192, 8_193, 8_240, u32::MAX]);
+    Some(format!("budget became {}", area.job.budget))
+}
+
+fn axes_moved(area: &mut Area, rng: &mut Rng) -> Option<String> {
+    area.job.axes = rng.pick(&[0, 9, area.job.axes.wrapping_add(1), u32::MAX]);
+    Some(format!("axes became {}", area.job.axes))
+}
+
+/// One of the delivered readings, to a number in range or just outside.
+fn reading_in_block(area: &mut Area, rng: &mut Rng) -> Option<String> {
+    let state = rng.pick(&[ACTIVE, OLD]);
+    let record = area.records[any_in_state(area, rng, state)?];
+    let size = u64::try_from(grid::block_size_of_any(&record.levels)?).ok()?;
+    let place = record.first_reading as usize + rng.below(size.max(1)) as usize;
+    let edge = rng.pick(&[READING_LIMIT, READING_LIMIT + 1, 5, i32::MAX]);
+    let reading = if rng.percent(50) { edge } else { -edge };
+    *area.store.get_mut(place)? = reading;
+    Some(format!("delivered reading {place} became {reading}"))
+}

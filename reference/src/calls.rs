@@ -1,0 +1,272 @@
+//! The seven calls on a lent area. The storage lent is as long as the area's
+//! lists of records and readings.
+//!
+//! Causes are tested in the order of the scope document's table, each in its
+//! own case and no other; a refused call changes nothing; every call is total
+//! on any content.
+
+use crate::area::{Area, IndexRecord, JobRecord, ACTIVE, OLD, WANTED};
+use crate::grid::{self, Levels, BUDGET_LIMIT, HELD_LIMIT, MOST_AXES, ROOT};
+use crate::soundness;
+use crate::sums::{self, Readings};
+
+/// The causes of a refusal; their numbers are those of the table.
+#[derive(Clone, Copy, Debug, PartialEq, Eq, Hash, PartialOrd, Ord)]
+pub enum Cause {
+    AxesOutOfRange = 1,
+    BudgetOutOfRange = 2,
+    StorageShort = 3,
+    AreaNotSound = 4,
+    NoBlockWanted = 5,
+    BlockWanted = 6,
+    ReadingCountWrong = 7,
+    ReadingOutOfRange = 8,
+    PointNumberTooLarge = 9,
+    JobFileMalformed = 10,
+}
+
+impl Cause {
+    pub fn number(self) -> u32 {
+        self as u32
+    }
+}
+
+#[derive(Clone, Copy, Debug, PartialEq, Eq, Hash, PartialOrd, Ord)]
+pub enum Promotion {
+    Met,
+    Spent,
+    Promoted,
+}
+
+/// What result gives.
+#[derive(Clone, Copy, Debug, PartialEq, Eq)]
+pub struct Totals {
+    pub old: u32,
+    pub active: u32,
+    pub wanted: u32,
+    pub reserved: u32,
+    pub pending: u64,
+    pub mean: i64,
+    pub ceiling: u32,
+}
+
+/// Cause 3 but for the point buffer. Start brings its own budget; every other
+/// call goes by the recorded one, whatever that is.
+fn storage_short(area: &Area, budget: u32) -> bool {
+    area.records.len() < HELD_LIMIT || (area.store.len() as u64) < u64::from(budget)
+}
+
+/// Causes 3 and 4 for the calls that ask nothing else of the storage.
+fn refuse_storage_or_area(area: &Area) -> Result<(), Cause> {
+    if storage_short(area, area.job.budget) {
+        return Err(Cause::StorageShort);
+    }
+    if !soundness::sound(area) {
+        return Err(Cause::AreaNotSound);
+    }
+    Ok(())
+}
+
+/// The first wanted record's place. In a sound area.
+pub fn first_wanted(area: &Area) -> Option<usize> {
+    area.held().iter().position(|record| record.state == WANTED)
+}
+
+/// The delivered readings, found by index. In a sound area.
+pub fn delivered_readings(area: &Area) -> Readings<'_> {
+    Readings::new(area.held().iter().filter(|record| record.is_delivered()).map(|record| {
+        let first = record.first_reading as usize;
+        (record.levels, &area.store[first..first + grid::block_size(&record.levels)])
+    }))
+}
+
+/// Start: "the root is then held at place 0, wanted". It doesn't read the old
+/// area, and writes the job record and record 0 whole.
+pub fn start(area: &mut Area, axes: u32, threshold: u64, budget: u32) -> Result<(), Cause> {
+    if !(1..=MOST_AXES as u32).contains(&axes) {
+        return Err(Cause::AxesOutOfRange);
+    }
+    if !(1..=BUDGET_LIMIT).contains(&budget) {
+        return Err(Cause::BudgetOutOfRange);
+    }
+    if storage_short(area, budget) {
+        return Err(Cause::StorageShort);
+    }
+    let reserved = grid::block_size(&ROOT) as u32;
+    area.job = JobRecord { axes, threshold, budget, held: 1, reserved, pending: 0, mean: 0 };
+    area.records[0] = IndexRecord::wanted(ROOT, 0);
+    Ok(())
+}
+
+/// Point: writes the d positions of the n-th point of the first wanted block
+/// into the buffer, later bytes untouched.
+pub fn point(area: &Area, n: u64, buffer: &mut [u8]) -> Result<(), Cause> {
+    if storage_short(area, area.job.budget) || (buffer.len() as u64) < u64::from(area.job.axes) {
+        return Err(Cause::StorageShort);
+    }
+    refuse_storage_or_area(area)?;
+    let place = first_wanted(area).ok_or(Cause::NoBlockWanted)?;
+    let axes = area.job.axes as usize;
+    let block = grid::block(axes, &area.records[place].levels);
+    if n >= block.len() as u64 {
+        return Err(Cause::PointNumberTooLarge);
+    }
+    buffer[..axes].copy_from_slice(&block[n as usize][..axes]);
+    Ok(())
+}
+
+/// Deliver: the first wanted index becomes active, its readings are stored,
+/// the indicator joins the pending error, and its scaled difference is added
+/// to the recorded mean.
+pub fn deliver(area: &mut Area, readings: &[i32], indicator: u32) -> Result<(), Cause> {
+    refuse_storage_or_area(area)?;
+    let place = first_wanted(area).ok_or(Cause::NoBlockWanted)?;
+    let levels = area.records[place].levels;
+    if readings.len() != grid::block_size(&levels) {
+        return Err(Cause::ReadingCountWrong);
+    }
+    if !readings.iter().all(|&reading| grid::reading_in_range(reading)) {
+        return Err(Cause::ReadingOutOfRange);
+    }
+    let first = area.records[place].first_reading as usize;
+    area.store[first..first + readings.len()].copy_from_slice(readings);
+    area.records[place].state = ACTIVE;
+    area.records[place].indicator = indicator;
+    area.job.pending += u64::from(indicator);
+    let known = delivered_readings(area);
+    let reading = |index: &Levels, number: usize| known.at(index, number);
+    let difference = sums::difference(area.job.axes as usize, &levels, &reading);
+    // At most 512 differences of at most 2^40: far inside 64 bits.
+    area.job.mean += i64::try_from(difference).expect("a difference is at most 2^40 in size");
+    Ok(())
+}
+
+/// "It selects the active index of largest indicator, the lowest place among
+/// equals."
+fn select(area: &Area) -> Option<usize> {
+    let mut best: Option<usize> = None;
+    for (place, record) in area.held().iter().enumerate() {
+        let larger = best.is_none_or(|b| record.indicator > area.records[b].indicator);
+        if record.state == ACTIVE && larger {
+            best = Some(place);
+        }
+    }
+    best
+}
+
+/// "It then goes through axes 1 to d: a forward neighbour within the ceilings
+/// is admitted if all its own backward neighbours are old, the selected one
+/// now included; the scan leaves it for the next axis at the first that is
+/// not."
+fn admit(area: &Area, selected: usize) -> Vec<Levels> {
+    let axes = area.job.axes as usize;
+    let held = area.held();
+    let mut admitted = Vec::new();
+    'axes: for axis in 0..axes {
+        let Some(neighbour) = grid::forward_neighbour(&held[selected].levels, axis) else {
+            continue;
+        };
+        if !grid::within_ceilings(&neighbour) {
+            continue;
+        }
+        for other in 0..axes {
+            let Some(backward) = grid::backward_neighbour(&neighbour, other) else {
+                continue;
+            };
+            let old = held.iter().enumerate().any(|(place, record)| {
+                record.levels == backward && (record.state == OLD || place == selected)
+            });
+            if !old {
+                continue 'axes;
+            }
+        }
+        admitted.push(neighbour);
+    }
+    admitted
+}
+
+/// Appends an admitted index, wanted, and links it with its neighbours.
+fn append(area: &mut Area, levels: Levels) {
+    let place = area.job.held as usize;
+    let mut record = IndexRecord::wanted(levels, area.job.reserved);
+    for axis in 0..area.job.axes as usize {
+        // Only backward neighbours can be held: a held forward neighbour would
+        // ask for this index to be old.
+        let Some(backward) = grid::backward_neighbour(&levels, axis) else {
+            continue;
+        };
+        let neighbour = area.held().iter().position(|held| held.levels == backward);
+        let neighbour = neighbour.expect("an admitted index has its backward neighbours held");
+        record.backward[axis] = neighbour as u32;
+        area.records[neighbour].forward[axis] = place as u32;
+    }
+    area.records[place] = record;
+    area.job.held += 1;
+    area.job.reserved += grid::block_size(&levels) as u32;
+}
+
+/// Promote: met, spent or promoted.
+pub fn promote(area: &mut Area) -> Result<Promotion, Cause> {
+    refuse_storage_or_area(area)?;
+    if first_wanted(area).is_some() {
+        return Err(Cause::BlockWanted);
+    }
+    if area.job.pending <= area.job.threshold {
+        return Ok(Promotion::Met);
+    }
+    let selected = select(area).expect("a pending error above 0 comes from an active index");
+    let admitted = admit(area, selected);
+    let held = area.job.held as usize + admitted.len();
+    let reserved = u64::from(area.job.reserved)
+        + admitted.iter().map(|levels| grid::block_size(levels) as u64).sum::<u64>();
+    if held > HELD_LIMIT || reserved > u64::from(area.job.budget) {
+        return Ok(Promotion::Spent);
+    }
+    area.records[selected].state = OLD;
+    area.job.pending -= u64::from(area.records[selected].indicator);
+    for levels in admitted {
+        append(area, levels);
+    }
+    Ok(Promotion::Promoted)
+}
+
+/// Result: the counts, the recorded pending error and mean, and the ceiling
+/// count, "the number of pairs of an old index and an axis whose forward
+/// neighbour passes a ceiling".
+pub fn result(area: &Area) -> Result<Totals, Cause> {
+    refuse_storage_or_area(area)?;
+    let count = |state: u32| area.held().iter().filter(|r| r.state == state).count() as u32;
+    let mut ceiling = 0;
+    for record in area.held().iter().filter(|record| record.state == OLD) {
+        for axis in 0..area.job.axes as usize {
+            let neighbour = grid::forward_neighbour(&record.levels, axis);
+            if !neighbour.is_some_and(|levels| grid::within_ceilings(&levels)) {
+                ceiling += 1;
+            }
+        }
+    }
+    Ok(Totals {
+        old: count(OLD),
+        active: count(ACTIVE),
+        wanted: count(WANTED),
+        reserved: area.job.reserved,
+        pending: area.job.pending,
+        mean: area.job.mean,
+        ceiling,
+    })
+}
+
+/// Cross total: the scaled mean worked out from combination coefficients and
+/// full tensor rules, from the readings and not from the recorded mean.
+pub fn cross_total(area: &Area) -> Result<i64, Cause> {
+    refuse_storage_or_area(area)?;
+    let total = sums::cross_total(area.job.axes as usize, &delivered_readings(area));
+    let delivered = area.held().iter().filter(|record| record.is_delivered()).count();
+    assert!(total.abs() <= delivered as i128 * sums::DIFFERENCE_LIMIT);
+    Ok(i64::try_from(total).expect("at most 512 times 2^40"))
+}
+
+/// Check: yes exactly if the area is sound; "no to short storage".
+pub fn check(area: &Area) -> bool {
+    !storage_short(area, area.job.budget) && soundness::sound(area)
+}

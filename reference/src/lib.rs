@@ -1,0 +1,43 @@
+//! An independent reference for the sparse-grid integrator.
+//!
+//! Everything here is written from the scope document alone and follows its
+//! sentences as literally as possible. It is a test and not a delivery: where
+//! a choice lay between clear and fast, it is clear.
+//!
+//! From the inside out:
+//! - [`rule`] and [`trapezoid`]: the rule along one axis, twice;
+//! - [`grid`] and [`sums`]: indices, blocks, differences, tensor rules;
+//! - [`area`] and [`soundness`]: the lent storage and what makes it sound;
+//! - [`calls`]: the seven calls;
+//! - [`call`] and [`log`]: a list of calls and the log that foretells answers;
+//! - [`jobfile`], [`jobtext`], [`program`], [`replay`]: job files and reports;
+//! - [`rng`], [`style`], [`generate`], [`damage`], [`survey`]: job files by seed;
+//! - [`drive`] and [`demand`]: lists of calls by seed and the third demand;
+//! - [`sample`], [`alter`], [`figures`]: areas by seed, altered, with figures;
+//! - [`pump`] and [`examples`]: the example jobs.
+
+pub mod alter;
+pub mod area;
+pub mod call;
+pub mod calls;
+pub mod damage;
+pub mod demand;
+pub mod drive;
+pub mod examples;
+pub mod figures;
+pub mod generate;
+pub mod grid;
+pub mod jobfile;
+pub mod jobtext;
+pub mod log;
+pub mod program;
+pub mod pump;
+pub mod replay;
+pub mod rng;
+pub mod rule;
+pub mod sample;
+pub mod soundness;
+pub mod style;
+pub mod sums;
+pub mod survey;
+pub mod trapezoid;

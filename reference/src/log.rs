@@ -1,0 +1,290 @@
+//! The log of the third demand: what the calls' arguments say is held, worked
+//! from arguments and lengths alone and never from an area. It foretells the
+//! answer of every call, refusals included.
+//!
+//! The rules of selection and admission are written out here once more on the
+//! log's entries; only indices and sums are shared with the calls.
+
+use crate::call::{Answer, Call, Lengths};
+use crate::calls::{Cause, Promotion, Totals};
+use crate::grid::{self, Levels, ROOT};
+use crate::rule;
+use crate::sums::{self, Readings};
+use std::cell::OnceCell;
+
+#[derive(Clone, Copy, Debug, PartialEq, Eq)]
+pub enum State {
+    Wanted,
+    Active,
+    Old,
+}
+
+#[derive(Clone, Debug, PartialEq, Eq)]
+pub struct Entry {
+    pub levels: Levels,
+    pub state: State,
+    /// As it came with the block; 0 while wanted.
+    pub indicator: u32,
+    /// Empty while wanted.
+    pub readings: Vec<i32>,
+}
+
+#[derive(Clone, Debug)]
+pub struct Job {
+    pub axes: usize,
+    pub threshold: u64,
+    pub budget: u32,
+    pub entries: Vec<Entry>,
+    /// The two sums below, once worked out; forgotten when a block comes.
+    sums: OnceCell<(i64, i64)>,
+}
+
+/// What promote has to do by the log.
+#[derive(Clone, Debug, PartialEq, Eq)]
+pub enum Plan {
+    Met,
+    /// Which of the two limits the admitted would pass; both may be.
+    Spent {
+        past_held: bool,
+        past_budget: bool,
+    },
+    Promoted {
+        selected: usize,
+        admitted: Vec<Levels>,
+    },
+}
+
+/// The log; without a job until a start is accepted.
+#[derive(Clone, Debug, Default)]
+pub struct Log {
+    pub job: Option<Job>,
+}
+
+impl Entry {
+    fn wanted(levels: Levels) -> Entry {
+        Entry { levels, state: State::Wanted, indicator: 0, readings: Vec::new() }
+    }
+
+    pub fn is_delivered(&self) -> bool {
+        self.state != State::Wanted
+    }
+}
+
+impl Job {
+    pub fn first_wanted(&self) -> Option<usize> {
+        self.entries.iter().position(|entry| entry.state == State::Wanted)
+    }
+
+    fn count(&self, state: State) -> u32 {
+        self.entries.iter().filter(|entry| entry.state == state).count() as u32
+    }
+
+    pub fn reserved(&self) -> u64 {
+        self.entries.iter().map(|entry| grid::block_size(&entry.levels) as u64).sum()
+    }
+
+    pub fn pending(&self) -> u64 {
+        let active = self.entries.iter().filter(|entry| entry.state == State::Active);
+        active.map(|entry| u64::from(entry.indicator)).sum()
+    }
+
+    pub fn readings(&self) -> Readings<'_> {
+        let delivered = self.entries.iter().filter(|entry| entry.is_delivered());
+        Readings::new(delivered.map(|entry| (entry.levels, entry.readings.as_slice())))
+    }
+
+    fn sums(&self) -> (i64, i64) {
+        *self.sums.get_or_init(|| {
+            let readings = self.readings();
+            let narrow = |sum: i128| i64::try_from(sum).expect("at most 512 times 2^40");
+            let differences = narrow(sums::sum_of_differences(self.axes, &readings));
+            (differences, narrow(sums::cross_total(self.axes, &readings)))
+        })
+    }
+
+    /// The scaled mean: the sum of the delivered indices' differences.
+    pub fn mean(&self) -> i64 {
+        self.sums().0
+    }
+
+    /// The same from coefficients and full tensor rules.
+    pub fn tensor_sum(&self) -> i64 {
+        self.sums().1
+    }
+
+    pub fn ceiling(&self) -> u32 {
+        let mut pairs = 0;
+        for entry in self.entries.iter().filter(|entry| entry.state == State::Old) {
+            let excess: u32 = entry.levels.iter().map(|level| level - 1).sum();
+            for level in &entry.levels[..self.axes] {
+                if *level == 8 || excess == 12 {
+                    pairs += 1;
+                }
+            }
+        }
+        pairs
+    }
+
+    /// The n-th point of a block, axis 1 slowest, by dividing n down from the
+    /// fastest axis.
+    fn point(&self, levels: &Levels, n: u64) -> Vec<u8> {
+        let mut rest = n as usize;
+        let mut positions = vec![0; self.axes];
+        for axis in (0..self.axes).rev() {
+            let new_points = rule::new_points(levels[axis]);
+            positions[axis] = new_points[rest % new_points.len()] as u8;
+            rest /= new_points.len();
+        }
+        positions
+    }
+
+    /// Promote's rule worked on the log, when no block is wanted.
+    pub fn plan(&self) -> Plan {
+        if self.pending() <= self.threshold {
+            return Plan::Met;
+        }
+        // From the last to the first, so that the lowest place wins a tie.
+        let mut selected = usize::MAX;
+        let mut largest = 0;
+        for (place, entry) in self.entries.iter().enumerate().rev() {
+            if entry.state == State::Active && entry.indicator >= largest {
+                selected = place;
+                largest = entry.indicator;
+            }
+        }
+        let admitted: Vec<Levels> =
+            (0..self.axes).filter_map(|axis| self.admitted(selected, axis)).collect();
+        let sizes: u64 = admitted.iter().map(|levels| grid::block_size(levels) as u64).sum();
+        let past_held = self.entries.len() + admitted.len() > 512;
+        let past_budget = self.reserved() + sizes > u64::from(self.budget);
+        if past_held || past_budget {
+            return Plan::Spent { past_held, past_budget };
+        }
+        Plan::Promoted { selected, admitted }
+    }
+
+    /// The selected index raised on one axis, if it is admitted: within the
+    /// ceilings and every index just below it is old or the selected one.
+    fn admitted(&self, selected: usize, axis: usize) -> Option<Levels> {
+        let mut raised = self.entries[selected].levels;
+        raised[axis] += 1;
+        if raised[axis] > 8 || raised.iter().sum::<u32>() - 8 > 12 {
+            return None;
+        }
+        let all_old = (0..self.axes).filter(|&other| raised[other] > 1).all(|other| {
+            let mut lowered = raised;
+            lowered[other] -= 1;
+            self.entries.iter().enumerate().any(|(place, entry)| {
+                entry.levels == lowered && (entry.state == State::Old || place == selected)
+            })
+        });
+        all_old.then_some(raised)
+    }
+
+    pub fn promoted(&mut self, selected: usize, admitted: &[Levels]) {
+        self.entries[selected].state = State::Old;
+        self.entries.extend(admitted.iter().map(|levels| Entry::wanted(*levels)));
+    }
+
+    fn totals(&self) -> Totals {
+        Totals {
+            old: self.count(State::Old),
+            active: self.count(State::Active),
+            wanted: self.count(State::Wanted),
+            reserved: self.reserved() as u32,
+            pending: self.pending(),
+            mean: self.mean(),
+            ceiling: self.ceiling(),
+        }
+    }
+}
+
+impl Log {
+    /// The answer that a call on storage of these lengths must give; makes the
+    /// log's entries follow an accepted call. Before the first accepted start
+    /// only start has a foretold answer.
+    pub fn expect(&mut self, call: &Call, lengths: Lengths) -> Answer {
+        match self.judge(call, lengths) {
+            Ok(answer) => answer,
+            Err(cause) => Answer::Refused(cause),
+        }
+    }
+
+    fn judge(&mut self, call: &Call, lengths: Lengths) -> Result<Answer, Cause> {
+        if let Call::Start { axes, threshold, budget } = *call {
+            return self.judge_start(axes, threshold, budget, lengths);
+        }
+        let job = self.job.as_mut().expect("a start was accepted before");
+        let short = lengths.records < 512 || (lengths.store as u64) < u64::from(job.budget);
+        let buffer_short = matches!(call, Call::Point { buffer, .. } if *buffer < job.axes);
+        if *call == Call::Check {
+            return Ok(Answer::Sound(!short));
+        }
+        if short || buffer_short {
+            return Err(Cause::StorageShort);
+        }
+        match call {
+            Call::Start { .. } | Call::Check => unreachable!("judged above"),
+            Call::Point { n, .. } => {
+                let wanted = job.first_wanted().ok_or(Cause::NoBlockWanted)?;
+                let levels = job.entries[wanted].levels;
+                if *n >= grid::block_size(&levels) as u64 {
+                    return Err(Cause::PointNumberTooLarge);
+                }
+                Ok(Answer::Point(job.point(&levels, *n)))
+            }
+            Call::Deliver { readings, indicator } => {
+                let wanted = job.first_wanted().ok_or(Cause::NoBlockWanted)?;
+                let entry = &mut job.entries[wanted];
+                if readings.len() != grid::block_size(&entry.levels) {
+                    return Err(Cause::ReadingCountWrong);
+                }
+                if readings.iter().any(|reading| reading.unsigned_abs() > 1 << 20) {
+                    return Err(Cause::ReadingOutOfRange);
+                }
+                entry.state = State::Active;
+                entry.indicator = *indicator;
+                entry.readings = readings.clone();
+                job.sums = OnceCell::new();
+                Ok(Answer::Delivered)
+            }
+            Call::Promote => {
+                if job.first_wanted().is_some() {
+                    return Err(Cause::BlockWanted);
+                }
+                Ok(Answer::Promotion(match job.plan() {
+                    Plan::Met => Promotion::Met,
+                    Plan::Spent { .. } => Promotion::Spent,
+                    Plan::Promoted { selected, admitted } => {
+                        job.promoted(selected, &admitted);
+                        Promotion::Promoted
+                    }
+                }))
+            }
+            Call::Result => Ok(Answer::Totals(job.totals())),
+            Call::CrossTotal => Ok(Answer::CrossTotal(job.tensor_sum())),
+        }
+    }
+
+    fn judge_start(
+        &mut self,
+        axes: u32,
+        threshold: u64,
+        budget: u32,
+        lengths: Lengths,
+    ) -> Result<Answer, Cause> {
+        if !(1..=8).contains(&axes) {
+            return Err(Cause::AxesOutOfRange);
+        }
+        if !(1..=8192).contains(&budget) {
+            return Err(Cause::BudgetOutOfRange);
+        }
+        if lengths.records < 512 || lengths.store < budget as usize {
+            return Err(Cause::StorageShort);
+        }
+        let entries = vec![Entry::wanted(ROOT)];
+        let sums = OnceCell::new();
+        self.job = Some(Job { axes: axes as usize, threshold, budget, entries, sums });
+        Ok(Answer::Started)
+    }
+}

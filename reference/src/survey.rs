@@ -1,0 +1,102 @@
+//! Runs generated job files through the program, holds each report against the
+//! one foretold from the log, and counts what was seen.
+
+use crate::damage::DAMAGES;
+use crate::generate::{self, Generated, Kind};
+use crate::program::{self, Ending, Outcome};
+use crate::replay::{self, Foretold};
+use std::collections::BTreeMap;
+
+pub type Counts = BTreeMap<String, u64>;
+
+/// The name of a kind for counting.
+pub fn kind_name(kind: Kind) -> String {
+    match kind {
+        Kind::Damaged(damage) => format!("damage {damage:?}"),
+        other => format!("kind {other:?}"),
+    }
+}
+
+/// Runs the files of the seeds from `first` on; panics at a disagreement.
+pub fn survey(first: u64, files: u64) -> Counts {
+    let mut counts = Counts::new();
+    for seed in first..first + files {
+        let generated = generate::generate(seed);
+        let outcome = program::outcome(&generated.bytes);
+        let foretold = replay::foretell(&generated.bytes);
+        assert_eq!(outcome, foretold.outcome, "the report of seed {seed}");
+        assert_fault(seed, &generated, &foretold);
+        let mut count = |what: String| *counts.entry(what).or_insert(0) += 1;
+        count(kind_name(generated.kind));
+        note(&foretold, &mut count);
+    }
+    counts
+}
+
+/// Where the damage alone tells the byte, the report names it.
+fn assert_fault(seed: u64, generated: &Generated, foretold: &Foretold) {
+    if let Some(byte) = generated.fault_byte {
+        let text = program::text(&foretold.outcome);
+        assert_eq!(text, format!("refused 10 at {byte}\n"), "the fault of seed {seed}");
+    }
+}
+
+fn note(foretold: &Foretold, count: &mut impl FnMut(String)) {
+    match foretold.outcome {
+        Outcome::Refused { cause, .. } => {
+            count(format!("refused {}", cause.number()));
+            if let Some(part) = foretold.part {
+                count(format!("fault in {part:?}"));
+            }
+        }
+        Outcome::Ended { axes, totals, unused, ending } => {
+            count(format!("ended with axes {axes}"));
+            count(spent_by(ending, foretold));
+            if unused > 0 {
+                count("ended with unused entries".to_string());
+            }
+            if totals.ceiling > 0 {
+                count("ended with a ceiling reached".to_string());
+            }
+            if totals.reserved >= 8_000 {
+                count("ended with 8,000 or more reserved".to_string());
+            }
+            if totals.old + totals.active + totals.wanted == 512 {
+                count("ended with 512 held".to_string());
+            }
+        }
+    }
+}
+
+fn spent_by(ending: Ending, foretold: &Foretold) -> String {
+    match (ending, foretold.past_held, foretold.past_budget) {
+        (Ending::Spent, true, true) => "end spent by both limits".to_string(),
+        (Ending::Spent, true, false) => "end spent by the limit of 512".to_string(),
+        (Ending::Spent, false, _) => "end spent by the budget".to_string(),
+        _ => format!("end {}", ending.name()),
+    }
+}
+
+const DUE: [&str; 11] = [
+    "end met",
+    "end short",
+    "end spent by the limit of 512",
+    "end spent by the budget",
+    "ended with unused entries",
+    "ended with 512 held",
+    "ended with a ceiling reached",
+    "ended with 8,000 or more reserved",
+    "fault in Header",
+    "fault in EntryTable",
+    "fault in Readings",
+];
+
+/// What a survey has to see and didn't.
+pub fn missing(counts: &Counts) -> Vec<String> {
+    let mut due: Vec<String> = DUE.iter().map(|what| what.to_string()).collect();
+    due.extend([1, 2, 7, 8, 10].map(|number| format!("refused {number}")));
+    due.extend((1..=8).map(|axes| format!("ended with axes {axes}")));
+    due.extend(DAMAGES.map(|damage| kind_name(Kind::Damaged(damage))));
+    due.retain(|what| !counts.contains_key(what));
+    due
+}

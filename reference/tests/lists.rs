@@ -1,0 +1,38 @@
+//! Lists of calls against the log, and generated files against the log's own
+//! report; short runs of fixed seeds.
+
+use reference::drive::drive;
+use reference::generate::{generate, Kind};
+use reference::survey;
+
+#[test]
+fn random_lists_of_calls() {
+    let mut seen = std::collections::BTreeMap::new();
+    for seed in [1, 2, 4] {
+        for (what, count) in drive(seed, 8_000) {
+            *seen.entry(what).or_insert(0) += count;
+        }
+    }
+    for number in [1, 2, 3, 5, 6, 7, 8, 9] {
+        assert!(seen[&format!("refusal {number}")] > 100, "refusal {number}: {seen:?}");
+    }
+    assert!(!seen.contains_key("refusal 4"), "cause 4 never comes from the area");
+    for answer in ["met", "promoted", "promoted with nothing admitted", "spent by the budget"] {
+        assert!(seen.contains_key(&format!("promote {answer}")), "{answer}: {seen:?}");
+    }
+}
+
+#[test]
+fn a_survey_sees_all_there_is_to_see() {
+    let counts = survey::survey(1, 400);
+    assert_eq!(survey::missing(&counts), [] as [String; 0], "{counts:?}");
+}
+
+#[test]
+fn generated_files_are_the_same_again() {
+    for seed in 0..40 {
+        let (one, other) = (generate(seed), generate(seed));
+        assert_eq!(one.bytes, other.bytes);
+        assert!(!matches!(one.kind, Kind::Longest) || one.bytes.len() == 38_936);
+    }
+}
