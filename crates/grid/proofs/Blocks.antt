@@ -2,22 +2,25 @@
 -- The idea: a point's number is written in two digits, the number of its first position and the number of the rest.
 -- Assumes nothing.
 use mathlib.Core.Path.{_≡_, refl, sym, ap, ap₂, _∙_, subst}
+use mathlib.Core.Logic.{_⊎_, inl, inr, ⊎-elim}
 use mathlib.Core.Bool.{Bool, true, false, _&&_}
 use mathlib.Core.List.{List, [], _∷_, _++_, map, List·Memᴰ, List·Memᴰ·head, List·Memᴰ·tail}
 use Prim.Native.Nat.{ℕ, zero, suc, _+_, _*_, _/_, _%_, _<_, _≤_}
 use native.Mathlib.Nat as NatL
-use native.Mathlib.Nat.{mod-lt, div-lt-iff-lt-mul, div-add-mod'}
+use native.Mathlib.Decide.{ℕ-discrete, decLt}
+use native.Mathlib.Nat.{mod-lt, div-lt-iff-lt-mul, div-add-mod', mul-le-mul-right}
 use native.Mathlib.Omega.{arith}
-use borrow.Author.Tests.{eq-eqb, eqb-true, le-leb, leb-true}
+use borrow.Author.Tests.{eq-eqb, eqb-true}
 use lib.Arith.{digits-lt, digits-div, digits-mod}
-use lib.Dec.{leb, eqb}
+use lib.Dec.{eqb}
 use lib.ListN.{length, getD, length-append, length-map, List·getD-map, List·getD-append}
 use lib.Seq.{getD-append-add}
 use Rattle.rule.specs.Points.{newPoints, newCount, newPoint, newAt, levelOf, rankOf}
 use Rattle.rule.proofs.Points as Points
-use Rattle.rule.proofs.Tables.{in-range, level-is, rank-is, rank-below, point-is, new-at}
+use Rattle.rule.proofs.Tables.{in-range, level-is, rank-is, rank-below, point-is, new-at, new-range, rising}
 use Rattle.grid.specs.Index.{levelsWithin}
 use Rattle.grid.specs.Block.{times, block, blockSize, pointOf, rankIn, newOnEach}
+use Rattle.grid.specs.Terms.{Before}
 use Rattle.grid.proofs.Levels.{Levels, levels-sure, and-left, and-right, and-both}
 
 -- ---- the block as a list
@@ -87,25 +90,19 @@ pub points-new : (k : List ℕ) (n : ℕ) → Levels 8 k → n < blockSize k →
 unfolding newOnEach pointOf blockSize
 points-new [] n w h = refl
 points-new (k ∷ ks) n w h =
-    and-both (leb p 128 && newAt k p) (newOnEach ks (pointOf ks (n % blockSize ks)))
-    (and-both (leb p 128) (newAt k p) (le-leb p 128 range) (new-at k p (w .0) (w .1) range ∙ eq-eqb (levelOf p) k (level-is k (n / blockSize ks) (w .0) (w .1) digit)))
+    and-both (newAt k p) (newOnEach ks (pointOf ks (n % blockSize ks)))
+    (new-at k p (w .0) (w .1) ∙ eq-eqb (levelOf p) k (level-is k (n / blockSize ks) (w .0) (w .1) (high-digit n (newCount k) (blockSize ks) h)))
     (points-new ks (n % blockSize ks) (w .2) (low-digit n (newCount k) (blockSize ks) h))
   where
     p : ℕ
     p = newPoint k (n / blockSize ks)
-
-    digit : n / blockSize ks < newCount k
-    digit = high-digit n (newCount k) (blockSize ks) h
-
-    range : p ≤ 128
-    range = in-range k (n / blockSize ks) (w .0) (w .1) digit
 
 -- what the test says of the first position
 pub record Newest (k p : ℕ) : Type 0 where
   pub number : rankOf p < newCount k
   pub point : newPoint k (rankOf p) ≡ p
 
-newest : (k p : ℕ) → 1 ≤ k → k ≤ 8 → (leb p 128 && newAt k p) ≡ true → Newest k p
+newest : (k p : ℕ) → 1 ≤ k → k ≤ 8 → newAt k p ≡ true → Newest k p
 newest k p a b e =
     record {
       number = subst (λ l. rankOf p < newCount l) same (rank-below p range);
@@ -113,10 +110,10 @@ newest k p a b e =
     }
   where
     range : p ≤ 128
-    range = leb-true p 128 (and-left (leb p 128) (newAt k p) e)
+    range = new-range k p a b e
 
     same : levelOf p ≡ k
-    same = eqb-true (levelOf p) k (sym (new-at k p a b range) ∙ and-right (leb p 128) (newAt k p) e)
+    same = eqb-true (levelOf p) k (sym (new-at k p a b) ∙ e)
 
 clash : {A : Type 0} → false ≡ true → A
 clash e = absurd (let z : _≡_ {A = ℕ} 0 1 = cc in omega arith)
@@ -127,8 +124,8 @@ ranks-below [] [] w e = omega arith
 ranks-below [] (p ∷ ps) w e = clash e
 ranks-below (k ∷ ks) [] w e = clash e
 ranks-below (k ∷ ks) (p ∷ ps) w e =
-    digits-lt (newest k p (w .0) (w .1) (and-left (leb p 128 && newAt k p) (newOnEach ks ps) e) .number)
-    (ranks-below ks ps (w .2) (and-right (leb p 128 && newAt k p) (newOnEach ks ps) e))
+    digits-lt (newest k p (w .0) (w .1) (and-left (newAt k p) (newOnEach ks ps) e) .number)
+    (ranks-below ks ps (w .2) (and-right (newAt k p) (newOnEach ks ps) e))
 
 pub points-of-ranks : (k p : List ℕ) → Levels 8 k → newOnEach k p ≡ true → pointOf k (rankIn k p) ≡ p
 unfolding newOnEach rankIn pointOf
@@ -137,11 +134,11 @@ points-of-ranks [] (p ∷ ps) w e = clash e
 points-of-ranks (k ∷ ks) [] w e = clash e
 points-of-ranks (k ∷ ks) (p ∷ ps) w e =
     ap₂ (λ (x : ℕ) (xs : List ℕ). x ∷ xs)
-    (ap (newPoint k) (digits-div (rankOf p) below) ∙ newest k p (w .0) (w .1) (and-left (leb p 128 && newAt k p) (newOnEach ks ps) e) .point)
+    (ap (newPoint k) (digits-div (rankOf p) below) ∙ newest k p (w .0) (w .1) (and-left (newAt k p) (newOnEach ks ps) e) .point)
     (ap (pointOf ks) (digits-mod (rankOf p) below) ∙ points-of-ranks ks ps (w .2) rest)
   where
     rest : newOnEach ks ps ≡ true
-    rest = and-right (leb p 128 && newAt k p) (newOnEach ks ps) e
+    rest = and-right (newAt k p) (newOnEach ks ps) e
 
     below : rankIn ks ps < blockSize ks
     below = ranks-below ks ps (w .2) rest
@@ -153,6 +150,38 @@ ranks-of-points (k ∷ ks) n w h =
     ap₂ (λ q r. q * blockSize ks + r) (rank-is k (n / blockSize ks) (w .0) (w .1) (high-digit n (newCount k) (blockSize ks) h))
     (ranks-of-points ks (n % blockSize ks) (w .2) (low-digit n (newCount k) (blockSize ks) h))
     ∙ div-add-mod' n (blockSize ks)
+
+-- ---- axis 1 slowest, positions rising
+
+-- of two numbers the lower has a lower first digit, or the same and a lower rest
+first-or-rest : (n m s : ℕ) → 0 < s → n < m → (n / s < m / s) ⊎ ((n / s ≡ m / s) × (n % s < m % s))
+first-or-rest n m s z h = step (decLt (n / s) (m / s)) (ℕ-discrete (n / s) (m / s))
+  where
+    same-rest : n / s ≡ m / s → n % s < m % s
+    same-rest e = omega (arith, div-add-mod' n s, div-add-mod' m s, ap (λ x. x * s) e)
+
+    higher : (n / s < m / s → ⊥) → (n / s ≡ m / s → ⊥) → ⊥
+    higher f g =
+        omega (arith, div-add-mod' n s, div-add-mod' m s, mul-le-mul-right s (below (n / s) (m / s) f g), NatL.suc-mul (m / s) s, mod-le-self)
+      where
+        below : (a b : ℕ) → (a < b → ⊥) → (a ≡ b → ⊥) → suc b ≤ a
+        below a b f g = omega arith
+
+        mod-le-self : m % s ≤ s
+        mod-le-self = NatL.le-of-lt (mod-lt m z)
+
+    step : Dec (n / s < m / s) → Dec (n / s ≡ m / s) → (n / s < m / s) ⊎ ((n / s ≡ m / s) × (n % s < m % s))
+    step (yes q) e = inl q
+    step (no q) (yes e) = inr (e, same-rest e)
+    step (no q) (no e) = absurd (higher q e)
+
+pub points-ordered : (k : List ℕ) (n m : ℕ) → Levels 8 k → n < m → m < blockSize k → Before (pointOf k n) (pointOf k m)
+unfolding pointOf blockSize
+points-ordered [] n m w l h = absurd (omega arith)
+points-ordered (k ∷ ks) n m w l h =
+    ⊎-elim (λ q. inl (rising k (n / blockSize ks) (m / blockSize ks) (w .0) (w .1) q (high-digit m (newCount k) (blockSize ks) h)))
+    (λ q. inr (ap (newPoint k) (q .0), points-ordered ks (n % blockSize ks) (m % blockSize ks) (w .2) (q .1) (low-digit m (newCount k) (blockSize ks) h)))
+    (first-or-rest n m (blockSize ks) (product-pos m (newCount k) (blockSize ks) h) l)
 
 -- ---- as the statement has them
 
@@ -176,6 +205,9 @@ module _ (k : List ℕ) (v : levelsWithin k ≡ true) where
 
   pub different : (n m : ℕ) → n < blockSize k → m < blockSize k → pointOf k n ≡ pointOf k m → n ≡ m
   different n m a b e = sym (rank-of-point n a) ∙ ap (rankIn k) e ∙ rank-of-point m b
+
+  pub ordered : (n m : ℕ) → n < m → m < blockSize k → Before (pointOf k n) (pointOf k m)
+  ordered n m l h = points-ordered k n m (levels-sure k v) l h
 
   pub every : (p : List ℕ) → newOnEach k p ≡ true → List·Memᴰ p (block k)
   every p e =

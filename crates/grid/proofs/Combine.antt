@@ -16,10 +16,11 @@ use Rattle.sums.proofs.Ring.{one-*ℤ, mul-one, *ℤ-left, mul-cancel}
 use Rattle.sums.proofs.Sums.{sumOf-cong-in, sumOf-zero, sumOf-mul}
 use Rattle.rule.specs.Weights.{wholeWeight}
 use Rattle.grid.specs.Index.{level, Within, root, backward}
-use Rattle.grid.specs.Difference.{Readings, units, difference, scaledMean}
+use Rattle.grid.specs.Difference.{Readings, units, scaledDifference, scaledMean}
 use Rattle.grid.specs.Tensor.{tensorRule}
-use Rattle.grid.specs.Coefficient.{coefficient, crossTotal}
-use Rattle.grid.specs.Facts.{NoDup, DownSet, blockSum}
+use Rattle.grid.specs.Coefficient.{coefficient}
+use Rattle.grid.specs.Cross.{crossTotal}
+use Rattle.grid.specs.Terms.{NoDup, DownSet, blockSum}
 use Rattle.grid.proofs.Levels.{Levels, at-most, within-levels, units-small}
 use Rattle.grid.proofs.Rules.{rule}
 use Rattle.grid.proofs.Parts.{boxSum-only, nabla, nabla-zero, delta, by-parts}
@@ -168,9 +169,9 @@ module _ (J : List (List ℕ)) (set-is : DownSet J) where
   pub identity : (R : Readings) → scaledMean J R ≡ crossTotal J R
   unfolding scaledMean crossTotal Good
   identity R =
-      mul-cancel (big 7) (sumOf J (λ k. difference k R)) (sumOf J (λ k. coefficient J k *ℤ tensorRule k R)) (big-pos 7)
-      (sym (sumOf-mul J (pos (big 7)) (λ k. difference k R))
-      ∙ sumOf-cong-in J (λ k. pos (big 7) *ℤ difference k R) (λ k. nabla k (λ m. rule (scaled wholeWeight) m (blockSum R)))
+      mul-cancel (big 7) (sumOf J (λ k. scaledDifference k R)) (sumOf J (λ k. coefficient J k *ℤ tensorRule k R)) (big-pos 7)
+      (sym (sumOf-mul J (pos (big 7)) (λ k. scaledDifference k R))
+      ∙ sumOf-cong-in J (λ k. pos (big 7) *ℤ scaledDifference k R) (λ k. nabla k (λ m. rule (scaled wholeWeight) m (blockSum R)))
       (λ k m. sym (nabla-rule 8 (omega arith) k (blockSum R) (indices k m .1) ∙ rule-difference R 8 7 (omega arith) k (at-most 8 k (indices k m .1)) (indices k m .0) (small k m)))
       ∙ combination 8 8 J (λ m. rule (scaled wholeWeight) m (blockSum R)) indices (set-is .once) closed (λ p l. rule-low (scaled wholeWeight) p l (blockSum R))
       ∙ sumOf-cong-in J (λ k. coefficient J k *ℤ rule (scaled wholeWeight) k (blockSum R)) (λ k. pos (big 7) *ℤ (coefficient J k *ℤ tensorRule k R))

@@ -15,13 +15,14 @@ use Rattle.sums.specs.Sums.{sumTo, sumOf}
 use Rattle.sums.proofs.Ring.{ring, products, distl, one-*ℤ, *ℤ-assoc, *ℤ-left, negℤ-*ℤ, mul-cancel}
 use Rattle.sums.proofs.Sums.{sumTo-cong<, sumTo-add, sumTo-mul, sumOf-cong, sumOf-append, sumOf-map, sumOf-neg, sumOf-mul}
 use Rattle.sums.proofs.Sizes.{abs-mul}
-use Rattle.rule.specs.Weights.{unit, wholeWeight, differenceWeight}
+use Rattle.rule.specs.Rules.{unit}
+use Rattle.rule.specs.Weights.{wholeWeight, differenceWeight}
 use Rattle.grid.specs.Index.{Within, NowhereHigher}
 use Rattle.grid.specs.Block.{blockSize}
-use Rattle.grid.specs.Difference.{Readings, units, differenceSum, difference}
+use Rattle.grid.specs.Difference.{Readings, units, differenceSum, scaledDifference}
 use Rattle.grid.specs.Tensor.{tensorSum, tensorRule}
 use Rattle.grid.specs.Coefficient.{subsets, sign}
-use Rattle.grid.specs.Facts.{blockSum, loweredOn, InRange}
+use Rattle.grid.specs.Terms.{blockSum, loweredOn, InRange, Agree}
 use Rattle.grid.proofs.Levels.{Levels, AtMost, at-most, within-levels, unit-mono, units-small}
 use Rattle.grid.proofs.Rules.{rule, rule-cong, rule-add, rule-mul, rule-only, tensor-is, difference-is, whole-bound, difference-bound}
 use Rattle.grid.proofs.Parts.{nabla}
@@ -29,26 +30,21 @@ use Rattle.grid.proofs.Scales.{scaled, nabla-rule, big, big-pos, filled
 
 -- ---- only the readings of the blocks nowhere higher count
 
-Agree : List ℕ → Readings → Readings → Type 0
-Agree k R S = (l : List ℕ) (n : ℕ) → NowhereHigher l k → n < blockSize l → R l n ≡ S l n
-
 blocks-only : (w : ℕ → ℕ → ℤ) (k : List ℕ) (R S : Readings) → Agree k R S → rule w k (blockSum R) ≡ rule w k (blockSum S)
-unfolding Agree blockSum
+unfolding blockSum
 blocks-only w k R S h = rule-only w k (blockSum R) (blockSum S) (λ l q. sumTo-cong< (blockSize l) (R l) (S l) (λ n b. h l n q b))
 
-pub difference-sum-only : (k : List ℕ) (R S : Readings) → ((l : List ℕ) (n : ℕ) → NowhereHigher l k → n < blockSize l → R l n ≡ S l n) → differenceSum k R ≡ differenceSum k S
-unfolding Agree
+pub difference-sum-only : (k : List ℕ) (R S : Readings) → Agree k R S → differenceSum k R ≡ differenceSum k S
 difference-sum-only k R S h = difference-is k R ∙ blocks-only differenceWeight k R S h ∙ sym (difference-is k S)
 
-pub tensor-sum-only : (k : List ℕ) (R S : Readings) → ((l : List ℕ) (n : ℕ) → NowhereHigher l k → n < blockSize l → R l n ≡ S l n) → tensorSum k R ≡ tensorSum k S
-unfolding Agree
+pub tensor-sum-only : (k : List ℕ) (R S : Readings) → Agree k R S → tensorSum k R ≡ tensorSum k S
 tensor-sum-only k R S h = tensor-is k R ∙ blocks-only wholeWeight k R S h ∙ sym (tensor-is k S)
 
-pub difference-only : (k : List ℕ) (R S : Readings) → ((l : List ℕ) (n : ℕ) → NowhereHigher l k → n < blockSize l → R l n ≡ S l n) → difference k R ≡ difference k S
-unfolding difference
+pub difference-only : (k : List ℕ) (R S : Readings) → Agree k R S → scaledDifference k R ≡ scaledDifference k S
+unfolding scaledDifference
 difference-only k R S h = ap (λ x. pos (2 ^ (20 - units k)) *ℤ x) (difference-sum-only k R S h)
 
-pub tensor-only : (k : List ℕ) (R S : Readings) → ((l : List ℕ) (n : ℕ) → NowhereHigher l k → n < blockSize l → R l n ≡ S l n) → tensorRule k R ≡ tensorRule k S
+pub tensor-only : (k : List ℕ) (R S : Readings) → Agree k R S → tensorRule k R ≡ tensorRule k S
 unfolding tensorRule
 tensor-only k R S h = ap (λ x. pos (2 ^ (20 - units k)) *ℤ x) (tensor-sum-only k R S h)
 
@@ -59,8 +55,8 @@ whole-scale k x e w =
     sym (*ℤ-assoc (pos (2 ^ units k)) (pos (2 ^ (20 - units k))) x)
     ∙ ap (λ y. pos y *ℤ x) (NatL.mul-comm (2 ^ units k) (2 ^ (20 - units k)) ∙ filled (units k) (units-small k e w))
 
-pub difference-whole : (k : List ℕ) (R : Readings) → length k ≡ 8 → Within k → pos (2 ^ units k) *ℤ difference k R ≡ pos (2 ^ 20) *ℤ differenceSum k R
-unfolding difference
+pub difference-whole : (k : List ℕ) (R : Readings) → length k ≡ 8 → Within k → pos (2 ^ units k) *ℤ scaledDifference k R ≡ pos (2 ^ 20) *ℤ differenceSum k R
+unfolding scaledDifference
 difference-whole k R e w = whole-scale k (differenceSum k R) e w
 
 pub tensor-whole : (k : List ℕ) (R : Readings) → length k ≡ 8 → Within k → pos (2 ^ units k) *ℤ tensorRule k R ≡ pos (2 ^ 20) *ℤ tensorSum k R
@@ -75,8 +71,8 @@ scaled-size k x e w h =
     (le-trans (mul-le-mul (le-refl (2 ^ (20 - units k))) h)
     (le-of-eq (sym (NatL.mul-assoc (2 ^ (20 - units k)) (2 ^ units k) 1048576) ∙ ap (λ y. y * 1048576) (filled (units k) (units-small k e w)))))
 
-pub difference-size : (k : List ℕ) (R : Readings) → length k ≡ 8 → Within k → InRange k R → natAbs (difference k R) ≤ 2 ^ 40
-unfolding difference
+pub difference-size : (k : List ℕ) (R : Readings) → length k ≡ 8 → Within k → InRange k R → natAbs (scaledDifference k R) ≤ 2 ^ 40
+unfolding scaledDifference
 difference-size k R e w h =
     scaled-size k (differenceSum k R) e w (rw (difference-is k R) (difference-bound 8 k R 1048576 (within-levels k w) h))
 
@@ -103,8 +99,8 @@ rule-linear w k a b R S =
 shared-factor : (p a b x y : ℤ) → p *ℤ (a *ℤ x +ℤ b *ℤ y) ≡ a *ℤ (p *ℤ x) +ℤ b *ℤ (p *ℤ y)
 shared-factor p a b x y = simp ring
 
-pub difference-linear : (k : List ℕ) (a b : ℤ) (R S : Readings) → difference k (λ l n. a *ℤ R l n +ℤ b *ℤ S l n) ≡ a *ℤ difference k R +ℤ b *ℤ difference k S
-unfolding difference
+pub difference-linear : (k : List ℕ) (a b : ℤ) (R S : Readings) → scaledDifference k (λ l n. a *ℤ R l n +ℤ b *ℤ S l n) ≡ a *ℤ scaledDifference k R +ℤ b *ℤ scaledDifference k S
+unfolding scaledDifference
 difference-linear k a b R S =
     ap (λ x. pos (2 ^ (20 - units k)) *ℤ x)
     (difference-is k (λ l n. a *ℤ R l n +ℤ b *ℤ S l n) ∙ rule-linear differenceWeight k a b R S
@@ -167,9 +163,9 @@ lowered-units (k ∷ ks) [] = omega arith
 lowered-units (k ∷ ks) (false ∷ S) = omega (arith, lowered-units ks S)
 lowered-units (k ∷ ks) (true ∷ S) = omega (arith, lowered-units ks S, unit-less k)
 
-pub alternating : (k : List ℕ) (R : Readings) → length k ≡ 8 → Within k → difference k R ≡ sumOf (subsets 8) (λ S. sign S *ℤ tensorRule (loweredOn k S) R)
+pub alternating : (k : List ℕ) (R : Readings) → length k ≡ 8 → Within k → scaledDifference k R ≡ sumOf (subsets 8) (λ S. sign S *ℤ tensorRule (loweredOn k S) R)
 alternating k R e w =
-    mul-cancel (big 7) (difference k R) (sumOf (subsets 8) (λ S. sign S *ℤ tensorRule (loweredOn k S) R)) (big-pos 7)
+    mul-cancel (big 7) (scaledDifference k R) (sumOf (subsets 8) (λ S. sign S *ℤ tensorRule (loweredOn k S) R)) (big-pos 7)
     (sym (rule-difference R 8 7 (omega arith) k (at-most 8 k v) e (units-small k e w))
     ∙ sym (nabla-rule 8 (omega arith) k (blockSum R) v)
     ∙ nabla-subsets 8 k (λ m. rule (scaled wholeWeight) m (blockSum R)) v

@@ -2,7 +2,9 @@
 -- Assumes nothing.
 use Rattle.grid.specs.Facts.{IndexFacts, BlockFacts, DifferenceFacts, LevelOneFacts, Combination}
 use Rattle.grid.proofs.Levels as Levels
+use Rattle.grid.proofs.Neighbours as Neighbours
 use Rattle.grid.proofs.Lower as Lower
+use Rattle.grid.proofs.Members as Members
 use Rattle.grid.proofs.Blocks as Blocks
 use Rattle.grid.proofs.Rules as Rules
 use Rattle.grid.proofs.Differences as Differences
@@ -16,9 +18,20 @@ index-facts =
     record {
       within-sure = Levels.within-sure;
       within-back = Levels.within-back;
+      root-excess = Neighbours.root-excess;
+      root-first = Neighbours.root-first;
+      root-index = Neighbours.root-index;
+      forward-level = Neighbours.forward-level;
+      forward-other = Neighbours.forward-other;
+      forward-length = Neighbours.forward-length;
+      forward-excess = Neighbours.forward-excess;
+      backward-forward = Neighbours.backward-forward;
+      forward-backward = Neighbours.forward-backward;
       lower-sure = Lower.lower-sure;
       lower-back = Lower.lower-back;
       lower-once = Lower.lower-once;
+      in-sure = Members.in-sure;
+      in-back = Members.in-back;
       units-small = Levels.units-small;
     }
 
@@ -29,6 +42,7 @@ block-facts =
       nth = Blocks.nth;
       new = λ k n v h. Blocks.new k v n h;
       every = λ k p v e. Blocks.every k v p e;
+      ordered = λ k n m v l h. Blocks.ordered k v n m l h;
       different = λ k n m v a b e. Blocks.different k v n m a b e;
       rank-of-point = λ k n v h. Blocks.rank-of-point k v n h;
       rank-below = λ k p v e. Blocks.rank-is-below k v p e;
@@ -38,6 +52,7 @@ block-facts =
 pub difference-facts : DifferenceFacts
 difference-facts =
     record {
+      difference-walk = Rules.difference-walk;
       difference-only = Differences.difference-only;
       tensor-only = Differences.tensor-only;
       difference-whole = Differences.difference-whole;
@@ -56,6 +71,7 @@ difference-facts =
 pub level-one-facts : LevelOneFacts
 level-one-facts =
     record {
+      within-same = LevelOne.within-same;
       excess-same = LevelOne.excess-same;
       units-same = LevelOne.units-same;
       size-same = LevelOne.size-same;
@@ -63,6 +79,8 @@ level-one-facts =
       difference-same = LevelOne.difference-same;
       tensor-same = LevelOne.tensor-same;
       coefficient-same = LevelOne.coefficient-same;
+      mean-same = LevelOne.mean-same;
+      cross-same = LevelOne.cross-same;
     }
 
 pub combination : Combination

@@ -8,20 +8,22 @@ use Prim.Native.Nat.{ℕ, zero, suc, _+_, _*_, _-_, _/_, _%_, _^_, _<_, _≤_}
 use native.Mathlib.Nat as NatL
 use native.Mathlib.Omega.{arith}
 use borrow.Author.Tests.{ne-eqb}
-use lib.Dec.{eqb}
+use lib.Dec.{leb, eqb}
 use lib.ListN.{length, replicate, length-append, length-replicate}
 use lib.IntN.{ℤ, pos, _+ℤ_, _-ℤ_, _*ℤ_, +ℤ-idl, +ℤ-idr}
 use Rattle.sums.specs.Sums.{sumTo}
 use Rattle.sums.proofs.Ring.{one-*ℤ}
-use Rattle.sums.proofs.Sums.{sumTo-cong}
+use Rattle.sums.proofs.Sums.{sumTo-cong, sumOf-cong, sumOf-map}
 use Rattle.rule.specs.Points.{newCount, newPoint}
-use Rattle.rule.specs.Weights.{unit, wholeWeight, differenceWeight}
-use Rattle.grid.specs.Index.{excess}
+use Rattle.rule.specs.Rules.{unit}
+use Rattle.rule.specs.Weights.{wholeWeight, differenceWeight}
+use Rattle.grid.specs.Index.{excess, levelsWithin, within}
 use Rattle.grid.specs.Block.{blockSize, pointOf}
-use Rattle.grid.specs.Difference.{Readings, units, differenceSum, difference}
+use Rattle.grid.specs.Difference.{Readings, units, differenceSum, scaledDifference, scaledMean}
 use Rattle.grid.specs.Tensor.{tensorSum, tensorRule}
 use Rattle.grid.specs.Coefficient.{sameLevels, isIn, coefficient}
-use Rattle.grid.specs.Facts.{blockSum, padded}
+use Rattle.grid.specs.Terms.{blockSum, padded, pad}
+use Rattle.grid.specs.Cross.{crossTotal}
 use Rattle.grid.proofs.Rules.{rule, rule-cong, tensor-is, difference-is}
 use Rattle.grid.proofs.Parts.{delta, delta-only, delta-zero}
 use Rattle.grid.proofs.Members.{standing, coefficient-delta}
@@ -33,8 +35,8 @@ unfolding excess
 ones-excess zero = refl
 ones-excess (suc m) = rw (ones-excess m)
 
-pub excess-same : (k : List ℕ) (m : ℕ) → excess (k ++ replicate m 1) ≡ excess k
-unfolding excess
+pub excess-same : (k : List ℕ) (m : ℕ) → excess (pad m k) ≡ excess k
+unfolding excess pad
 excess-same [] m = ones-excess m
 excess-same (k ∷ ks) m = ap (λ x. (k - 1) + x) (excess-same ks m)
 
@@ -43,8 +45,8 @@ unfolding units unit
 ones-units zero = refl
 ones-units (suc m) = rw (ones-units m)
 
-pub units-same : (k : List ℕ) (m : ℕ) → units (k ++ replicate m 1) ≡ units k
-unfolding units
+pub units-same : (k : List ℕ) (m : ℕ) → units (pad m k) ≡ units k
+unfolding units pad
 units-same [] m = ones-units m
 units-same (k ∷ ks) m = ap (λ x. unit k + x) (units-same ks m)
 
@@ -53,8 +55,8 @@ unfolding blockSize newCount
 ones-size zero = refl
 ones-size (suc m) = rw (ones-size m)
 
-pub size-same : (k : List ℕ) (m : ℕ) → blockSize (k ++ replicate m 1) ≡ blockSize k
-unfolding blockSize
+pub size-same : (k : List ℕ) (m : ℕ) → blockSize (pad m k) ≡ blockSize k
+unfolding blockSize pad
 size-same [] m = ones-size m
 size-same (k ∷ ks) m = ap (λ x. newCount k * x) (size-same ks m)
 
@@ -65,8 +67,8 @@ unfolding pointOf newPoint
 ones-point zero n = refl
 ones-point (suc m) n = ap (λ (l : List ℕ). 64 ∷ l) (ones-point m (n % blockSize (replicate m 1)))
 
-pub point-same : (k : List ℕ) (m n : ℕ) → pointOf (k ++ replicate m 1) n ≡ pointOf k n ++ replicate m 64
-unfolding pointOf
+pub point-same : (k : List ℕ) (m n : ℕ) → pointOf (pad m k) n ≡ pointOf k n ++ replicate m 64
+unfolding pointOf pad
 point-same [] m n = ones-point m n
 point-same (k ∷ ks) m n = rw (size-same ks m) (ap (λ (l : List ℕ). newPoint k (n / blockSize ks) ∷ l) (point-same ks m (n % blockSize ks)))
 
@@ -80,16 +82,16 @@ module _ (w : ℕ → ℕ → ℤ) (one : w 1 1 ≡ pos 1) where
       +ℤ-idl (w 1 1 *ℤ rule w (replicate m 1) (λ l. F (1 ∷ l)))
       ∙ ap₂ _*ℤ_ one (ones-rule m (λ l. F (1 ∷ l))) ∙ one-*ℤ (F (1 ∷ replicate m 1))
 
-  rule-same : (k : List ℕ) (m : ℕ) (F : List ℕ → ℤ) → rule w (k ++ replicate m 1) F ≡ rule w k (λ l. F (l ++ replicate m 1))
-  unfolding rule
+  rule-same : (k : List ℕ) (m : ℕ) (F : List ℕ → ℤ) → rule w (pad m k) F ≡ rule w k (λ l. F (pad m l))
+  unfolding rule pad
   rule-same [] m F = ones-rule m F
   rule-same (k ∷ ks) m F = sumTo-cong k (λ i. ap (λ x. w k (suc i) *ℤ x) (rule-same ks m (λ l. F (suc i ∷ l))))
 
-block-padded : (R : Readings) (m : ℕ) (l : List ℕ) → blockSum R (l ++ replicate m 1) ≡ blockSum (padded m R) l
+block-padded : (R : Readings) (m : ℕ) (l : List ℕ) → blockSum R (pad m l) ≡ blockSum (padded m R) l
 unfolding blockSum padded
-block-padded R m l = ap (λ n. sumTo n (λ i. R (l ++ replicate m 1) i)) (size-same l m)
+block-padded R m l = ap (λ n. sumTo n (λ i. R (pad m l) i)) (size-same l m)
 
-blocks-padded : (w : ℕ → ℕ → ℤ) → w 1 1 ≡ pos 1 → (k : List ℕ) (m : ℕ) (R : Readings) → rule w (k ++ replicate m 1) (blockSum R) ≡ rule w k (blockSum (padded m R))
+blocks-padded : (w : ℕ → ℕ → ℤ) → w 1 1 ≡ pos 1 → (k : List ℕ) (m : ℕ) (R : Readings) → rule w (pad m k) (blockSum R) ≡ rule w k (blockSum (padded m R))
 blocks-padded w one k m R = rule-same w one k m (blockSum R) ∙ rule-cong w k (block-padded R m)
 
 whole-one : wholeWeight 1 1 ≡ pos 1
@@ -100,17 +102,17 @@ difference-one : differenceWeight 1 1 ≡ pos 1
 unfolding differenceWeight
 difference-one = refl
 
-pub difference-same : (k : List ℕ) (m : ℕ) (R : Readings) → difference (k ++ replicate m 1) R ≡ difference k (padded m R)
-unfolding difference
+pub difference-same : (k : List ℕ) (m : ℕ) (R : Readings) → scaledDifference (pad m k) R ≡ scaledDifference k (padded m R)
+unfolding scaledDifference
 difference-same k m R =
     ap₂ (λ u x. pos (2 ^ (20 - u)) *ℤ x) (units-same k m)
-    (difference-is (k ++ replicate m 1) R ∙ blocks-padded differenceWeight difference-one k m R ∙ sym (difference-is k (padded m R)))
+    (difference-is (pad m k) R ∙ blocks-padded differenceWeight difference-one k m R ∙ sym (difference-is k (padded m R)))
 
-pub tensor-same : (k : List ℕ) (m : ℕ) (R : Readings) → tensorRule (k ++ replicate m 1) R ≡ tensorRule k (padded m R)
+pub tensor-same : (k : List ℕ) (m : ℕ) (R : Readings) → tensorRule (pad m k) R ≡ tensorRule k (padded m R)
 unfolding tensorRule
 tensor-same k m R =
     ap₂ (λ u x. pos (2 ^ (20 - u)) *ℤ x) (units-same k m)
-    (tensor-is (k ++ replicate m 1) R ∙ blocks-padded wholeWeight whole-one k m R ∙ sym (tensor-is k (padded m R)))
+    (tensor-is (pad m k) R ∙ blocks-padded wholeWeight whole-one k m R ∙ sym (tensor-is k (padded m R)))
 
 -- ---- coefficients
 
@@ -144,9 +146,6 @@ same-padded (x ∷ j) [] ys m e =
     unlike (x ∷ (j ++ replicate m 1)) ys (λ q. omega (arith, q, length-append j (replicate m 1), length-replicate {A = ℕ} m 1))
 same-padded (x ∷ j) (y ∷ l) ys m e =
     ap (λ t. eqb x y && t) (same-padded j l ys m e) ∙ and-assoc (eqb x y) (sameLevels j l) (sameLevels (replicate m 1) ys)
-
-pad : ℕ → List ℕ → List ℕ
-pad m j = j ++ replicate m 1
 
 in-padded : (J : List (List ℕ)) (l ys : List ℕ) (m : ℕ) → length ys ≡ m → isIn (map (pad m) J) (l ++ ys) ≡ (isIn J l && sameLevels (replicate m 1) ys)
 unfolding isIn pad
@@ -188,10 +187,36 @@ and-true : (b : Bool) → (b && true) ≡ b
 and-true true = refl
 and-true false = refl
 
-pub coefficient-same : (J : List (List ℕ)) (k : List ℕ) (m : ℕ) → coefficient (map (λ (j : List ℕ). j ++ replicate m 1) J) (k ++ replicate m 1) ≡ coefficient J k
+pub coefficient-same : (J : List (List ℕ)) (k : List ℕ) (m : ℕ) → coefficient (map (pad m) J) (pad m k) ≡ coefficient J k
 unfolding pad standing Ended
 coefficient-same J k m =
     coefficient-delta (map (pad m) J) (k ++ replicate m 1)
     ∙ delta-same k m (standing (map (pad m) J)) (λ l ys p e q. ap (λ t. cond t (pos 1) (pos 0)) (in-padded J l ys m e ∙ ap (λ t. isIn J l && t) q ∙ and-false (isIn J l)))
     ∙ ap (delta k) (fun-ext (λ l. ap (λ t. cond t (pos 1) (pos 0)) (in-padded J l (replicate m 1) m (length-replicate m 1) ∙ ap (λ t. isIn J l && t) (same-ones m) ∙ and-true (isIn J l))))
     ∙ sym (coefficient-delta J k)
+
+-- ---- ceilings, means and cross totals
+
+ones-within : (m : ℕ) → levelsWithin (replicate m 1) ≡ true
+unfolding levelsWithin
+ones-within zero = refl
+ones-within (suc m) = ones-within m
+
+levels-same : (k : List ℕ) (m : ℕ) → levelsWithin (pad m k) ≡ levelsWithin k
+unfolding levelsWithin pad
+levels-same [] m = ones-within m
+levels-same (k ∷ ks) m = ap (λ t. leb 1 k && leb k 8 && t) (levels-same ks m)
+
+pub within-same : (k : List ℕ) (m : ℕ) → within (pad m k) ≡ within k
+unfolding within
+within-same k m = ap₂ (λ s e. s && leb e 12) (levels-same k m) (excess-same k m)
+
+pub mean-same : (J : List (List ℕ)) (m : ℕ) (R : Readings) → scaledMean (map (pad m) J) R ≡ scaledMean J (padded m R)
+unfolding scaledMean
+mean-same J m R = sumOf-map (pad m) J (λ k. scaledDifference k R) ∙ sumOf-cong J (λ k. difference-same k m R)
+
+pub cross-same : (J : List (List ℕ)) (m : ℕ) (R : Readings) → crossTotal (map (pad m) J) R ≡ crossTotal J (padded m R)
+unfolding crossTotal
+cross-same J m R =
+    sumOf-map (pad m) J (λ k. coefficient (map (pad m) J) k *ℤ tensorRule k R)
+    ∙ sumOf-cong J (λ k. ap₂ _*ℤ_ (coefficient-same J k m) (tensor-same k m R))

@@ -11,7 +11,7 @@ use borrow.Author.Tests.{leb-true, le-leb}
 use lib.Dec.{leb}
 use lib.ListN.{length, getD}
 use Rattle.rule.specs.Points.{newCount}
-use Rattle.rule.specs.Weights.{unit}
+use Rattle.rule.specs.Rules.{unit}
 use Rattle.grid.specs.Index.{level, excess, Within, levelsWithin, within, NowhereHigher}
 use Rattle.grid.specs.Block.{blockSize}
 use Rattle.grid.specs.Difference.{units}

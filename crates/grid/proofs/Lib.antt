@@ -1,5 +1,6 @@
 -- The laws, lowest first; Facts has what specs/Facts.antt states.
 pub mod Levels
+pub mod Neighbours
 pub mod Lower
 pub mod Rules
 pub mod Parts

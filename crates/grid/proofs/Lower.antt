@@ -12,7 +12,7 @@ use lib.IntN.{ℤ, pos, _+ℤ_}
 use Rattle.sums.specs.Sums.{sumTo, sumOf}
 use Rattle.sums.proofs.Sums.{sumTo-suc, sumTo-cong, sumOf-append, sumOf-map}
 use Rattle.grid.specs.Index.{NowhereHigher, inFront, lower}
-use Rattle.grid.specs.Facts.{NoDup}
+use Rattle.grid.specs.Terms.{NoDup}
 use Rattle.grid.proofs.Levels.{higher-nil, higher-cons, higher-empty, higher-not-empty, higher-head-low, higher-head-high, higher-tail}
 
 -- ---- sums

@@ -17,7 +17,7 @@ use Rattle.sums.specs.Sums.{sumTo, sumOf}
 use Rattle.sums.proofs.Ring.{distr, one-*ℤ, mul-one, *ℤ-assoc, negℤ-*ℤ}
 use Rattle.sums.proofs.Sums.{sumTo-cong, sumTo-cong<, sumTo-zero, sumOf-cong, sumOf-append, sumOf-neg, sumOf-map}
 use Rattle.grid.specs.Coefficient.{sameLevels, isIn, subsets, sign, raisedOn, coefficient}
-use Rattle.grid.specs.Facts.{NoDup}
+use Rattle.grid.specs.Terms.{NoDup}
 use Rattle.grid.proofs.Levels.{Levels, and-left, and-right, and-both}
 use Rattle.grid.proofs.Parts.{boxSum, boxSum-cong, boxSum-zero, boxSum-add, boxSum-mul, delta}
 

@@ -16,13 +16,14 @@ use Rattle.sums.proofs.Ring.{ring, products, distl, one-*ℤ, *ℤ-assoc, *ℤ-
 use Rattle.sums.proofs.Sums.{sumTo-cong, sumTo-cong<, sumTo-zero, sumTo-add, sumTo-mul, sumTo-runs, sumOf-cong, sumOf-cong-in, sumOf-mul}
 use Rattle.sums.proofs.Sizes.{abs-mul, abs-sumTo, natSumTo-mul, natSumTo-const}
 use Rattle.rule.specs.Points.{newCount}
-use Rattle.rule.specs.Weights.{unit, wholeWeight, differenceWeight}
+use Rattle.rule.specs.Rules.{unit}
+use Rattle.rule.specs.Weights.{wholeWeight, differenceWeight}
 use Rattle.rule.proofs.Weights.{whole-size, difference-size}
 use Rattle.grid.specs.Index.{NowhereHigher, lower}
 use Rattle.grid.specs.Block.{blockSize}
-use Rattle.grid.specs.Difference.{Readings, units, differenceProduct, differenceSum}
-use Rattle.grid.specs.Tensor.{behind, tensorSum}
-use Rattle.grid.specs.Facts.{wholeProduct, blockSum}
+use Rattle.grid.specs.Difference.{Readings, units, differenceProduct, differenceSum, behind, differenceWalk}
+use Rattle.grid.specs.Tensor.{tensorSum}
+use Rattle.grid.specs.Terms.{wholeProduct, blockSum}
 use Rattle.grid.proofs.Levels.{Levels, higher-cons, higher-empty}
 use Rattle.grid.proofs.Lower.{lower-sum, lower-sure}
 
@@ -67,19 +68,22 @@ rule-sum w k (suc n) F = rule-add w k (λ l. sumTo n (λ p. F p l)) (F n) ∙ ap
 -- ---- as one sum over the indices nowhere higher
 
 unfoldable pub product : (ℕ → ℕ → ℤ) → List ℕ → List ℕ → ℤ
-product w [] l = pos 1
-product w (k ∷ ks) [] = pos 1
+product w [] [] = pos 1
+product w [] (l ∷ ls) = pos 0
+product w (k ∷ ks) [] = pos 0
 product w (k ∷ ks) (l ∷ ls) = w k l *ℤ product w ks ls
 
 pub difference-product : (k l : List ℕ) → differenceProduct k l ≡ product differenceWeight k l
 unfolding product differenceProduct
-difference-product [] l = refl
+difference-product [] [] = refl
+difference-product [] (l ∷ ls) = refl
 difference-product (k ∷ ks) [] = refl
 difference-product (k ∷ ks) (l ∷ ls) = ap (λ x. differenceWeight k l *ℤ x) (difference-product ks ls)
 
 pub whole-product : (k l : List ℕ) → wholeProduct k l ≡ product wholeWeight k l
 unfolding product wholeProduct
-whole-product [] l = refl
+whole-product [] [] = refl
+whole-product [] (l ∷ ls) = refl
 whole-product (k ∷ ks) [] = refl
 whole-product (k ∷ ks) (l ∷ ls) = ap (λ x. wholeWeight k l *ℤ x) (whole-product ks ls)
 
@@ -123,6 +127,12 @@ walk-is w (k ∷ ks) R =
     ∙ sym (rule-sum w ks (newCount (suc i)) (λ p. blockSum (behind R (suc i) p)))
     ∙ rule-cong w ks (λ l. block-runs R (suc i) l)))
 
+pub difference-walk-is : (k : List ℕ) (R : Readings) → differenceWalk k R ≡ walk differenceWeight k R
+unfolding differenceWalk walk
+difference-walk-is [] R = refl
+difference-walk-is (k ∷ ks) R =
+    sumTo-cong k (λ i. ap (λ x. differenceWeight k (suc i) *ℤ x) (sumTo-cong (newCount (suc i)) (λ p. difference-walk-is ks (behind R (suc i) p))))
+
 pub tensor-walk : (k : List ℕ) (R : Readings) → tensorSum k R ≡ walk wholeWeight k R
 unfolding tensorSum walk
 tensor-walk [] R = refl
@@ -146,6 +156,9 @@ difference-is k R =
     difference-blocks k R
     ∙ sumOf-cong (lower k) (λ l. ap (λ x. x *ℤ blockSum R l) (difference-product k l))
     ∙ sym (rule-lower differenceWeight k (blockSum R))
+
+pub difference-walk : (k : List ℕ) (R : Readings) → differenceSum k R ≡ differenceWalk k R
+difference-walk k R = difference-is k R ∙ sym (walk-is differenceWeight k R) ∙ sym (difference-walk-is k R)
 
 -- ---- sizes
 

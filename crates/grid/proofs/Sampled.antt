@@ -16,9 +16,9 @@ use Rattle.rule.specs.Rules.{wholeRule, differenceRule}
 use Rattle.rule.proofs.Rules as Axis
 use Rattle.grid.specs.Index.{levelsWithin, NowhereHigher}
 use Rattle.grid.specs.Block.{blockSize, pointOf}
-use Rattle.grid.specs.Difference.{Readings, differenceSum}
-use Rattle.grid.specs.Tensor.{behind, tensorSum}
-use Rattle.grid.specs.Facts.{blockSum, tensorProduct, sampled}
+use Rattle.grid.specs.Difference.{Readings, differenceSum, behind}
+use Rattle.grid.specs.Tensor.{tensorSum}
+use Rattle.grid.specs.Terms.{blockSum, tensorProduct, sampled}
 use Rattle.grid.proofs.Levels.{Levels, levels-sure}
 use Rattle.grid.proofs.Rules.{rule, rule-only, walk, walk-is, tensor-walk, difference-is}
 

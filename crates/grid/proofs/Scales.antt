@@ -12,12 +12,13 @@ use lib.IntN.{ℤ, pos, negℤ, _+ℤ_, _-ℤ_, _*ℤ_, +ℤ-idr, *ℤ-zero, zer
 use Rattle.sums.specs.Sums.{sumTo}
 use Rattle.sums.proofs.Ring.{ring, products, one-*ℤ, *ℤ-assoc}
 use Rattle.sums.proofs.Sums.{sumTo-suc, sumTo-cong, sumTo-zero, sumTo-add, sumTo-neg, sumTo-mul}
-use Rattle.rule.specs.Weights.{unit, wholeWeight, differenceWeight}
+use Rattle.rule.specs.Rules.{unit}
+use Rattle.rule.specs.Weights.{wholeWeight, differenceWeight}
 use Rattle.rule.proofs.Cases.{whole-beyond}
 use Rattle.rule.proofs.Weights as Weights
-use Rattle.grid.specs.Difference.{Readings, units, differenceSum, difference}
+use Rattle.grid.specs.Difference.{Readings, units, differenceSum, scaledDifference}
 use Rattle.grid.specs.Tensor.{tensorSum, tensorRule}
-use Rattle.grid.specs.Facts.{blockSum}
+use Rattle.grid.specs.Terms.{blockSum}
 use Rattle.grid.proofs.Levels.{Levels, AtMost, unit-le, unit-mono}
 use Rattle.grid.proofs.Rules.{rule, tensor-is, difference-is}
 use Rattle.grid.proofs.Parts.{nabla, nabla-weighted}
@@ -147,8 +148,8 @@ module _ (R : Readings) (n d : ℕ) (b : n ≤ 20) (k : List ℕ) (w : AtMost n 
       ∙ ap₂ (λ x y. pos x *ℤ y) (scale-is n d b k w e h) (sym (tensor-is k R))
       ∙ *ℤ-assoc (pos (big d)) (pos (2 ^ (20 - units k))) (tensorSum k R)
 
-  pub rule-difference : rule (scaled differenceWeight) k (blockSum R) ≡ pos (big d) *ℤ difference k R
-  unfolding difference
+  pub rule-difference : rule (scaled differenceWeight) k (blockSum R) ≡ pos (big d) *ℤ scaledDifference k R
+  unfolding scaledDifference
   rule-difference =
       rule-scaled differenceWeight k (blockSum R)
       ∙ ap₂ (λ x y. pos x *ℤ y) (scale-is n d b k w e h) (sym (difference-is k R))

@@ -2,7 +2,6 @@
 use mathlib.Core.Bool.{Bool, true, false, _&&_}
 use mathlib.Core.List.{List, [], _∷_, _++_, map}
 use Prim.Native.Nat.{ℕ, zero, suc, _+_, _*_, _/_, _%_}
-use lib.Dec.{leb}
 use Rattle.rule.specs.Points.{newPoints, newCount, newPoint, newAt, rankOf}
 
 -- Each of the points with each of the positions put in front, the positions slowest.
@@ -21,12 +20,13 @@ unfoldable pub blockSize : List ℕ → ℕ
 blockSize [] = 1
 blockSize (k ∷ ks) = newCount k * blockSize ks
 
--- The n-th point of the block, from 0. Of the points numbered n, n / (size of the later axes) have passed on this axis.
+-- The n-th point of the block, from 0. Before the point numbered n the later axes have been gone through
+-- n / (their size) times.
 unfoldable pub pointOf : List ℕ → ℕ → List ℕ
 pointOf [] n = []
 pointOf (k ∷ ks) n = newPoint k (n / blockSize ks) ∷ pointOf ks (n % blockSize ks)
 
--- The *rank* of a point in its block: its number, from the numbers of its positions among the new points of their levels.
+-- The rank of a point in its block: its number, from the numbers of its positions among the new points of their levels.
 unfoldable pub rankIn : List ℕ → List ℕ → ℕ
 rankIn [] ps = 0
 rankIn (k ∷ ks) [] = 0
@@ -37,4 +37,4 @@ unfoldable pub newOnEach : List ℕ → List ℕ → Bool
 newOnEach [] [] = true
 newOnEach [] (p ∷ ps) = false
 newOnEach (k ∷ ks) [] = false
-newOnEach (k ∷ ks) (p ∷ ps) = leb p 128 && newAt k p && newOnEach ks ps
+newOnEach (k ∷ ks) (p ∷ ps) = newAt k p && newOnEach ks ps

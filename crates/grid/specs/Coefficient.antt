@@ -1,13 +1,11 @@
--- The combination coefficient and the cross total ("Blocks and differences").
+-- The combination coefficient ("Blocks and differences").
 use mathlib.Core.Bool.{Bool, true, false, cond, _&&_}
 use mathlib.Core.List.{List, [], _∷_, _++_, map}
 use Prim.Native.Nat.{ℕ, zero, suc, _+_, _*_, _/_, _%_, _^_}
 use lib.Dec.{eqb}
-use lib.IntN.{ℤ, pos, negℤ, _*ℤ_}
+use lib.IntN.{ℤ, pos, negℤ}
 use lib.ListN.{length}
-use Rattle.sums.specs.Sums.{sumTo, sumOf}
-use Rattle.grid.specs.Difference.{Readings}
-use Rattle.grid.specs.Tensor.{tensorRule}
+use Rattle.sums.specs.Sums.{sumOf}
 
 -- Whether two level lists are the same, and whether one stands in a list of them.
 unfoldable pub sameLevels : List ℕ → List ℕ → Bool
@@ -42,10 +40,6 @@ raisedOn (k ∷ ks) (true ∷ S) = suc k ∷ raisedOn ks S
 -- index raised by one on that subset is delivered. J lists the delivered indices.
 unfoldable pub coefficient : List (List ℕ) → List ℕ → ℤ
 coefficient J k = sumOf (subsets (length k)) (λ S. cond (isIn J (raisedOn k S)) (sign S) (pos 0))
-
--- The *cross total*: the sum of full tensor rules over the delivered indices, each times its combination coefficient.
-unfoldable pub crossTotal : List (List ℕ) → Readings → ℤ
-crossTotal J R = sumOf J (λ k. coefficient J k *ℤ tensorRule k R)
 
 -- A subset as a mask: bit a of m marks axis a + 1.
 unfoldable pub marks : ℕ → ℕ → List Bool

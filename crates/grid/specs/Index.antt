@@ -23,11 +23,12 @@ pub record Within (k : List ℕ) : Type 0 where
   pub high : (a : ℕ) → a < length k → level k a ≤ 8
   pub small : excess k ≤ 12
 
--- The same as a test.
+-- Each level is 1 to 8, as a test.
 unfoldable pub levelsWithin : List ℕ → Bool
 levelsWithin [] = true
 levelsWithin (l ∷ ls) = leb 1 l && leb l 8 && levelsWithin ls
 
+-- The ceilings as a test.
 unfoldable pub within : List ℕ → Bool
 within k = levelsWithin k && leb (excess k) 12
 
@@ -41,15 +42,16 @@ pub record Index (d : ℕ) (k : List ℕ) : Type 0 where
 unfoldable pub root : List ℕ
 root = replicate 8 1
 
--- Raising one level gives a *forward neighbour*; lowering one level above 1 by one gives a *backward neighbour*. Either is
--- the level list copied with one level changed.
+-- Raising one level gives a *forward neighbour*: the level list copied with one level changed.
 unfoldable pub forward : List ℕ → ℕ → List ℕ
 forward k a = set k a (level k a + 1)
 
+-- Lowering one level above 1 by one gives a *backward neighbour*. Along an axis at level 1 there is none, so this is asked
+-- only where 1 < level k a.
 unfoldable pub backward : List ℕ → ℕ → List ℕ
 backward k a = set k a (level k a - 1)
 
--- l is *nowhere higher* than k: as many levels, each from 1 to k's.
+-- l is nowhere higher than k: as many levels, each from 1 to k's.
 pub record NowhereHigher (l k : List ℕ) : Type 0 where
   pub axes : length l ≡ length k
   pub low : (a : ℕ) → a < length k → 1 ≤ level l a

@@ -1,8 +1,10 @@
--- The grid: definitions in the scope document's order, then what is proved of them.
+-- The grid: definitions, in the order of the scope document's "Blocks and differences", then what is proved of them.
 pub mod Index
 pub mod Block
 pub mod Difference
-pub mod Tensor
 pub mod Coefficient
+pub mod Tensor
+pub mod Cross
+pub mod Terms
 pub mod Facts
 pub mod Boundary

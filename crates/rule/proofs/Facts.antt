@@ -22,6 +22,7 @@ weight-facts =
 pub point-facts : PointFacts
 point-facts =
     record {
+      is-point = Tables.is-point;
       new-count = Points.new-count;
       new-point = Points.new-point;
       in-range = Tables.in-range;
@@ -34,7 +35,6 @@ point-facts =
       point-is = Tables.point-is;
       new-at = Tables.new-at;
       each-once = Tables.each-once;
-      none-else = Tables.none-else;
       by-levels = Points.by-levels;
     }
 

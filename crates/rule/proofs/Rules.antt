@@ -17,8 +17,8 @@ use Rattle.sums.specs.Lists.{tab}
 use Rattle.sums.proofs.Ring.{sums, ring, small, distl, one-*ℤ, *ℤ-assoc, negℤ-*ℤ}
 use Rattle.sums.proofs.Sums.{sumTo-suc, sumTo-front, sumTo-cong, sumTo-cong<, sumTo-add, sumTo-mul, sumTo-zero, sumOf-tab}
 use Rattle.rule.specs.Points.{points, newCount, newPoint, levelOf}
-use Rattle.rule.specs.Weights.{unit, wholeWeight, differenceWeight}
-use Rattle.rule.specs.Rules.{isPoint, pointWeight, wholeAt, wholeRule, unitStep, differenceRule, trapezoidal}
+use Rattle.rule.specs.Rules.{unit, isPoint, pointWeight, wholeAt, wholeRule, unitStep, differenceRule, trapezoidal}
+use Rattle.rule.specs.Weights.{wholeWeight, differenceWeight}
 use Rattle.rule.proofs.Cases.{whole-beyond}
 use Rattle.rule.proofs.Weights.{difference-is}
 use Rattle.rule.proofs.Tables.{in-range, level-is, whole-at, endsOf, whole-ends}

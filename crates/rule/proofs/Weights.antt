@@ -13,7 +13,8 @@ use Rattle.sums.proofs.Ring.{ring, small, negℤ-*ℤ}
 use Rattle.sums.proofs.Sums.{sumTo-suc, sumTo-cong, sumTo-cong<, sumTo-add, sumTo-mul}
 use Rattle.sums.proofs.Sizes.{natSumTo-suc, natSumTo-cong<}
 use Rattle.rule.specs.Points.{newCount}
-use Rattle.rule.specs.Weights.{unit, endsOne, endsMinusOne, wholeWeight, differenceWeight}
+use Rattle.rule.specs.Rules.{unit}
+use Rattle.rule.specs.Weights.{endsOne, endsMinusOne, wholeWeight, differenceWeight}
 use Rattle.rule.proofs.Cases.{whole-none, whole-beyond, whole-inside, difference-none, difference-beyond}
 use Rattle.rule.proofs.Cases.{difference-new, difference-older}
 

@@ -1,5 +1,5 @@
 -- The rule along one axis: definitions, then what is proved of them.
 pub mod Points
-pub mod Weights
 pub mod Rules
+pub mod Weights
 pub mod Facts

@@ -35,15 +35,17 @@ newPoint (suc zero) n = 64
 newPoint (suc (suc zero)) n = 128 * n
 newPoint (suc (suc (suc k))) n = (2 * n + 1) * 2 ^ (8 - suc (suc (suc k)))
 
--- Whether a position is new at a level: the sentence above, asked of one position.
+-- Whether a position is new at a level, in the same words.
 unfoldable pub newAt : ℕ → ℕ → Bool
 newAt zero p = false
 newAt (suc zero) p = eqb p 64
 newAt (suc (suc zero)) p = cond (eqb p 0) true (eqb p 128)
 newAt (suc (suc (suc k))) p =
-    cond (eqb (p % 2 ^ (8 - suc (suc (suc k)))) 0) (eqb (p / 2 ^ (8 - suc (suc (suc k))) % 2) 1) false
+    cond (leb p 128)
+    (cond (eqb (p % 2 ^ (8 - suc (suc (suc k)))) 0) (eqb (p / 2 ^ (8 - suc (suc (suc k))) % 2) 1) false)
+    false
 
--- The first of n levels from k on at which a position is new.
+-- The first of n levels from k on at which a position is new, else k + n.
 unfoldable pub levelFrom : ℕ → ℕ → ℕ → ℕ
 levelFrom zero k p = k
 levelFrom (suc n) k p = cond (newAt k p) k (levelFrom n (suc k) p)
@@ -54,6 +56,11 @@ unfolding levelFrom
 levelOf p = levelFrom 8 1 p
 
 -- The number of a position among the new points of its level, from 0. From level 3 up the n-th is (2n + 1) · 2^(8−k), so
--- its number is its half-step's.
+-- dividing by 2^(9−k) gives n.
 unfoldable pub rankOf : ℕ → ℕ
 rankOf p = cond (leb (levelOf p) 2) (p / 128) (p / 2 ^ (9 - levelOf p))
+
+-- How often a position stands in a list.
+unfoldable pub timesIn : ℕ → List ℕ → ℕ
+timesIn p [] = 0
+timesIn p (q ∷ qs) = cond (eqb p q) (suc (timesIn p qs)) (timesIn p qs)

@@ -1,5 +1,5 @@
 -- The rules of one axis as the scope document first words them, by position and over a function f of positions, and the
--- source's trapezoidal rule. Every value is in the unit of its level.
+-- source's trapezoidal rule. The value of a rule is in the unit of its level, that of `trapezoidal` in units of 1/128.
 use mathlib.Core.Bool.{Bool, true, false, cond}
 use mathlib.Core.List.{List, [], _∷_}
 use Prim.Native.Nat.{ℕ, zero, suc, _-_, _%_, _^_}
@@ -7,7 +7,12 @@ use lib.Dec.{leb, eqb}
 use lib.IntN.{ℤ, pos, _+ℤ_, _-ℤ_, _*ℤ_}
 use Rattle.sums.specs.Sums.{sumOf}
 use Rattle.rule.specs.Points.{points}
-use Rattle.rule.specs.Weights.{unit}
+
+-- The unit of level k is 2^−(unit k): a whole one at level 1, 2^−k from 2 up.
+unfoldable pub unit : ℕ → ℕ
+unit zero = 0
+unit (suc zero) = 0
+unit (suc (suc k)) = suc (suc k)
 
 -- Whether a position is a point of a level: 64 at level 1, a multiple of 2^(8−k) up to 128 from 2 up.
 unfoldable pub isPoint : ℕ → ℕ → Bool

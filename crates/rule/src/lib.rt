@@ -29,8 +29,8 @@ pub fn new_point(level: u32, n: usize) -> u8
     }
 }
 
-// The weight, in the whole rule of level `rule`, of a point that was new at level `point`, in units of 2^-rule: 0 where the
-// rule has no such point, both ends 1, every other point 2.
+// The weight, in the whole rule of level `rule`, of a point that was new at level `point`: 0 where the rule has no such point. Level 1:
+// a whole one. From 2 up, in units of 2^-rule: both ends 1, every other point 2.
 pub fn whole_weight(rule: u32, point: u32) -> i64
     ensures { λ r. ⌜ r ≡ wholeWeight rule point ⌝ }
 {
@@ -49,8 +49,8 @@ pub fn whole_weight(rule: u32, point: u32) -> i64
     }
 }
 
-// The weight, in the difference rule of level `rule`, of a point that was new at level `point`, in units of 2^-rule: 0 where
-// the rule has no such point. Level 2: ends 1, centre -2. From 3 up: new points 2, ends -1, all others -2.
+// The weight, in the difference rule of level `rule`, of a point that was new at level `point`: 0 where the rule has no such point.
+// Level 1: a whole one. In units of 2^-rule, level 2: ends 1, centre -2; from 3 up: new points 2, ends -1, all others -2.
 pub fn difference_weight(rule: u32, point: u32) -> i64
     ensures { λ r. ⌜ r ≡ differenceWeight rule point ⌝ }
 {
