@@ -108,7 +108,7 @@ size-excess (x ∷ xs) = le-trans (mul-le-mul (count-le x) (size-excess xs)) (le
 pub size-small : (k : List ℕ) → Within k → blockSize k ≤ 4096
 size-small k w = le-trans (size-excess k) (pow-mono {i = excess k} {j = 12} (w .small))
 
-levels-drop : (n : ℕ) (k : List ℕ) (a : ℕ) → Levels n k → Levels n (drop a k)
+pub levels-drop : (n : ℕ) (k : List ℕ) (a : ℕ) → Levels n k → Levels n (drop a k)
 levels-drop n [] zero w = tt
 levels-drop n [] (suc a) w = tt
 levels-drop n (x ∷ xs) zero w = w

@@ -4,3 +4,4 @@ pub mod Sums
 pub mod Sizes
 pub mod Lists
 pub mod Every
+pub mod Words

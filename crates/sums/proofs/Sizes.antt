@@ -61,6 +61,17 @@ unfolding natSumTo
 natSumTo-const zero m = omega arith
 natSumTo-const (suc n) m = omega (arith, natSumTo-const n m)
 
+pub natSumTo-append : (n m : ℕ) (f : ℕ → ℕ) → natSumTo (n + m) f ≡ natSumTo n f + natSumTo m (λ i. f (n + i))
+unfolding natSumTo
+natSumTo-append n zero f = rw NatL.add-zero (omega arith)
+natSumTo-append n (suc m) f = rw NatL.add-suc (omega (arith, natSumTo-append n m f))
+
+-- some of the summands come to no more than all
+pub natSumTo-some : (n a m : ℕ) (f : ℕ → ℕ) → a + n ≤ m → natSumTo n (λ i. f (a + i)) ≤ natSumTo m f
+natSumTo-some n a m f h =
+    let e : a + n + (m - (a + n)) ≡ m = omega arith in
+    omega (arith, natSumTo-append a n f, natSumTo-append (a + n) (m - (a + n)) f, ap (λ x. natSumTo x f) e)
+
 -- a sum of natural numbers is the sum of the same whole numbers
 pub sumTo-pos : (n : ℕ) (f : ℕ → ℕ) → sumTo n (λ i. pos (f i)) ≡ pos (natSumTo n f)
 unfolding sumTo natSumTo

@@ -1,0 +1,6 @@
+-- The laws, lowest first.
+pub mod Places
+pub mod Walks
+pub mod Standing
+pub mod Steps
+pub mod Scaled

@@ -1,0 +1,89 @@
+-- `quadrature::scaled_difference` meets its contract: the walk from the root is the difference, and the shift makes it whole.
+-- Assumes nothing.
+use borrow.Author.Needs.{needs, sfits-of}
+use mathlib.Core.Path.{_≡_, refl, sym, ap, ap₂, _∙_, subst}
+use mathlib.Core.List.{List, []}
+use Prim.Native.Nat.{ℕ, _+_, _*_, _-_, _^_, _≤_, _<_}
+use native.Mathlib.Nat as NatL
+use native.Mathlib.Omega.{arith}
+use denote.Ref.{now}
+use lib.IntN.{ℤ, pos, natAbs, _*ℤ_}
+use lib.ListN.{length, getD, take, drop}
+use lib.Pow.{pow-mono}
+use Rattle.sums.proofs.Ring.{one-*ℤ}
+use Rattle.grid.specs.Index.{level, Within}
+use Rattle.grid.specs.Difference.{units, scaledDifference, differenceSum, differenceWalk}
+use Rattle.grid.proofs.Differences.{difference-size}
+use Rattle.grid.proofs.Levels.{units-small}
+use Rattle.grid.proofs.Rules.{difference-walk}
+use Rattle.area.specs.declared.IndexRecord.{IndexRecord}
+use Rattle.area.specs.Records.{recordsOf}
+use Rattle.quadrature.specs.Readings.{recordAt, fetched}
+use Rattle.quadrature.specs.Ready.{Ready, Stands}
+use Rattle.quadrature.specs.Parts.{left, leftAt, walkLeft}
+use Rattle.quadrature.proofs.Scaled.{shift-fits, scaled-fits, scaled-is, left-all}
+use Rattle.quadrature.proofs.Standing.{stands-start, first-level}
+use Rattle.quadrature.proofs.Walks.{walk-all}
+use Rattle.quadrature.proofs.scaled_difference.Statement.{statement}
+use Rattle.quadrature.proofs.scaled_difference.Tie as tie
+use Rattle.quadrature.proofs.scaled_difference.Reads as reads
+use Rattle.quadrature.proofs.scaled_difference.Lts as lts
+
+module _ {d : ℕ} {rs : List IndexRecord} {s : List ℤ} {k : List ℕ} (ready : Ready d rs s k) where
+  units-in : units k ≤ 20
+  units-in = units-small k (ready .eight) (ready .ceilings)
+
+  room-start : 1 * 2 ^ units k ≤ 2 ^ 20
+  room-start = omega (arith, pow-mono {i = units k} {j = 20} units-in)
+
+  -- the walk from the root gives the difference in the units of k
+  walk-is : (x : ℤ) (u : ℕ) → x ≡ pos 1 *ℤ walkLeft d k 0 1 (leftAt rs s 0 0 0) → u ≡ units k → pos (2 ^ (20 - u)) *ℤ x ≡ scaledDifference k (fetched rs s)
+  unfolding scaledDifference
+  walk-is x u e f =
+      ap₂ (λ v y. pos (2 ^ (20 - v)) *ℤ y) f
+      (e ∙ one-*ℤ (walkLeft d k 0 1 (leftAt rs s 0 0 0)) ∙ walk-all d k 0 (leftAt rs s 0 0 0) (omega (arith, ready .axes, ready .eight))
+      ∙ ap (differenceWalk k) (left-all (fetched rs s)) ∙ sym (difference-walk k (fetched rs s)))
+
+  small : natAbs (scaledDifference k (fetched rs s)) ≤ 2 ^ 40
+  small = difference-size k (fetched rs s) (ready .eight) (ready .ceilings) (ready .range)
+
+level-walk-requires : tie.Need-level-walk-requires
+level-walk-requires c κs =
+    let ready = c .before .pre in
+    ((ready, stands-start ready), ((omega arith, λ h. sym (first-level ready)), room-start ready))
+
+unit-sum-requires : tie.Need-unit-sum-requires
+unit-sum-requires c κs = c .before .before .pre .ceilings
+
+units-are : (c : tie.After-unit-sum) → c .unit-sum .result ≤ 20
+units-are c = omega (arith, c .unit-sum .ensures, units-in (c .before .before .before .pre))
+
+sub-result : tie.Need-sub-result
+sub-result c = units-are c
+
+cast-result : tie.Need-cast-result
+cast-result c = search needs
+
+shl-result : tie.Need-shl-result
+shl-result c = search needs
+
+cast-result-2 : tie.Need-cast-result-2
+cast-result-2 c = shift-fits (c .unit-sum .result) (units-are c)
+
+mul-result : tie.Need-mul-result
+mul-result c =
+    let ready = c .before .before .before .pre in
+    scaled-fits (c .before .level-walk .result) _ (c .unit-sum .result) (sfits-of (c .before .level-walk .ok)) (units-are c)
+    (walk-is ready (c .before .level-walk .result) (c .unit-sum .result) (c .before .level-walk .ensures) (c .unit-sum .ensures)) (small ready)
+
+returns : tie.Need-returns
+returns c =
+    let ready = c .before .before .before .pre in
+    let e = scaled-is (c .before .level-walk .result) _ (c .unit-sum .result) (sfits-of (c .before .level-walk .ok)) (units-are c)
+    (walk-is ready (c .before .level-walk .result) (c .unit-sum .result) (c .before .level-walk .ensures) (c .unit-sum .ensures)) (small ready) in
+    (e, subst (λ x. natAbs x ≤ 2 ^ 40) (sym e) (small ready))
+
+pub scaled-difference-spec : {M : Type 1} → statement M
+scaled-difference-spec =
+    tie.close
+    (tie.spec level-walk-requires unit-sum-requires sub-result cast-result shl-result cast-result-2 mul-result returns)

@@ -1,0 +1,35 @@
+-- The parts of a difference and of a full tensor rule that a walk still has before it.
+use mathlib.Core.Bool.{cond}
+use mathlib.Core.List.{List, _∷_, _++_}
+use Prim.Native.Nat.{ℕ, suc, _+_, _*_, _-_}
+use lib.Dec.{ltb}
+use lib.IntN.{ℤ, _*ℤ_}
+use lib.ListN.{take, drop}
+use Rattle.sums.specs.Sums.{sumTo}
+use Rattle.rule.specs.Points.{newCount}
+use Rattle.rule.specs.Weights.{differenceWeight}
+use Rattle.grid.specs.Index.{level}
+use Rattle.grid.specs.Block.{blockSize}
+use Rattle.grid.specs.Difference.{Readings, behind, differenceWalk}
+use Rattle.area.specs.declared.IndexRecord.{IndexRecord}
+use Rattle.quadrature.specs.Readings.{recordAt, fetched}
+
+-- The readings that are left to the axes from here on, once the axes passed stand at these levels and at a point of this rank.
+unfoldable pub left : Readings → List ℕ → ℕ → Readings
+left R passed rank = λ ls n. R (passed ++ ls) (rank * blockSize ls + n)
+
+abbrev pub leftAt : List IndexRecord → List ℤ → ℕ → ℕ → ℕ → Readings
+leftAt rs s axis place rank = left (fetched rs s) (take axis (recordAt rs place .levels)) rank
+
+-- The new points of a level from `point` on, `n` of them; below each the axes ks.
+unfoldable pub pointsLeft : ℕ → ℕ → ℕ → List ℕ → Readings → ℤ
+pointsLeft n point l ks R = sumTo n (λ i. differenceWalk ks (behind R l (point + i)))
+
+-- The levels of an axis from l on, `n` of them; in each its points.
+unfoldable pub levelsLeft : ℕ → ℕ → ℕ → List ℕ → Readings → ℤ
+levelsLeft n top l ks R = sumTo n (λ i. differenceWeight top (l + i) *ℤ pointsLeft (newCount (l + i)) 0 (l + i) ks R)
+
+-- What a level walk still has before it: the levels from l on of an axis of the job; behind the last axis, the reading itself.
+unfoldable pub walkLeft : ℕ → List ℕ → ℕ → ℕ → Readings → ℤ
+walkLeft axes k axis l R =
+    cond (ltb axis axes) (levelsLeft (suc (level k axis) - l) (level k axis) l (drop (axis + 1) k) R) (differenceWalk (drop axis k) R)
