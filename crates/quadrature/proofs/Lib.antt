@@ -4,3 +4,7 @@ pub mod Walks
 pub mod Standing
 pub mod Steps
 pub mod Scaled
+pub mod Held
+pub mod Raised
+pub mod Delivered
+pub mod Subsets

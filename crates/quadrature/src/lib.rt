@@ -8,9 +8,12 @@ ghost use Rattle.rule.specs.Points.{newCount};
 ghost use Rattle.grid.specs.Index.{level as levelOf, Within};
 ghost use Rattle.grid.specs.Terms.{IsReading};
 ghost use Rattle.grid.specs.Difference.{units, scaledDifference};
-ghost use Rattle.area.specs.Records.{recordsOf};
+ghost use Rattle.grid.specs.Coefficient.{raisedOn, marks, coefficient as coefficientOf};
+ghost use Rattle.area.specs.Records.{recordsOf, heldIn};
+ghost use Rattle.area.specs.Lookup.{foundIn};
 ghost use Rattle.quadrature.specs.Readings.{recordAt, fetched};
 ghost use Rattle.quadrature.specs.Ready.{Ready, Stands};
+ghost use Rattle.quadrature.specs.Linked.{deliveredIn, subsetTerm, Linked};
 ghost use Rattle.quadrature.specs.Parts.{leftAt, pointsLeft, walkLeft};
 
 // The reading with a rank in the block of the record at a place, times a weight.
@@ -153,4 +156,57 @@ pub fn scaled_difference(axes: usize, target: [u32; 8], cells: &[u32], store: &[
     let sum = level_walk(axes, target, 0, 1, 0, 0, 1, cells, store);
     let units = unit_sum(target);
     sum * ((1u64 << (20 - units)) as i64)
+}
+
+// The place of the index raised by one on a subset of the axes, found along forward links.
+fn raised_place(axes: usize, held: usize, place: usize, mask: u8, cells: &[u32]) -> area::Found
+    requires { ⌜ Linked axes (heldIn (now cells) held) × (held * 27 ≤ length (now cells)) × (place < held) × (mask < 2 ^ axes) ⌝ }
+    ensures { λ r. ⌜ r ≡ foundIn (heldIn (now (cells .entry)) held) (raisedOn (recordAt (heldIn (now (cells .entry)) held) place .levels) (marks 8 mask)) ⌝ }
+{
+    let mut at = place;
+    let mut axis: usize = 0;
+    while axis < axes {
+        if (mask >> axis) & 1 == 1 {
+            let next = area::link_at(cells, at, axis) as usize;
+            if held <= next {
+                return area::Found::Nothing;
+            }
+            at = next;
+        }
+        axis += 1;
+    }
+    area::Found::At(at)
+}
+
+// +1 for an even and -1 for an odd subset where the index raised on it is delivered, else 0.
+fn subset_term(axes: usize, held: usize, place: usize, mask: u8, cells: &[u32]) -> i64
+    requires { ⌜ Linked axes (heldIn (now cells) held) × (held * 27 ≤ length (now cells)) × (place < held) × (mask < 2 ^ axes) ⌝ }
+    ensures { λ r. ⌜ r ≡ subsetTerm (heldIn (now (cells .entry)) held) (recordAt (heldIn (now (cells .entry)) held) place .levels) mask ⌝ }
+{
+    match raised_place(axes, held, place, mask, cells) {
+        area::Found::At(at) => {
+            if area::state_at(cells, at) == area::WANTED {
+                0
+            } else {
+                grid::subset_sign(mask)
+            }
+        }
+        area::Found::Nothing => 0,
+    }
+}
+
+// The combination coefficient of the index at a place, over the delivered indices among the held.
+pub fn coefficient(axes: usize, held: usize, place: usize, cells: &[u32]) -> i64
+    requires { ⌜ Linked axes (heldIn (now cells) held) × (held * 27 ≤ length (now cells)) × (place < held) ⌝ }
+    ensures is { λ r. ⌜ r ≡ coefficientOf (deliveredIn (heldIn (now (cells .entry)) held)) (recordAt (heldIn (now (cells .entry)) held) place .levels) ⌝ }
+    ensures small { λ r. ⌜ natAbs r ≤ 256 ⌝ }
+{
+    let subsets = 1usize << axes;
+    let mut sum: i64 = 0;
+    let mut mask: usize = 0;
+    while mask < subsets {
+        sum += subset_term(axes, held, place, mask as u8, cells);
+        mask += 1;
+    }
+    sum
 }
