@@ -4,7 +4,11 @@ pub mod Walks
 pub mod Standing
 pub mod Steps
 pub mod Scaled
+pub mod Tensors
+pub mod Rounds
+pub mod Running
 pub mod Held
 pub mod Raised
 pub mod Delivered
 pub mod Subsets
+pub mod Totals

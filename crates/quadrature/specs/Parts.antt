@@ -1,16 +1,18 @@
--- The parts of a difference and of a full tensor rule that a walk still has before it.
+-- The parts of a difference that a walk still has before it, the part of a full tensor rule that a loop has behind it, and the
+-- part of one record in the sum of differences.
 use mathlib.Core.Bool.{cond}
 use mathlib.Core.List.{List, _∷_, _++_}
 use Prim.Native.Nat.{ℕ, suc, _+_, _*_, _-_}
-use lib.Dec.{ltb}
-use lib.IntN.{ℤ, _*ℤ_}
+use lib.Dec.{ltb, leb}
+use lib.IntN.{ℤ, pos, _+ℤ_, _*ℤ_}
 use lib.ListN.{take, drop}
 use Rattle.sums.specs.Sums.{sumTo}
 use Rattle.rule.specs.Points.{newCount}
-use Rattle.rule.specs.Weights.{differenceWeight}
+use Rattle.rule.specs.Weights.{wholeWeight, differenceWeight}
 use Rattle.grid.specs.Index.{level}
 use Rattle.grid.specs.Block.{blockSize}
-use Rattle.grid.specs.Difference.{Readings, behind, differenceWalk}
+use Rattle.grid.specs.Difference.{Readings, behind, differenceWalk, scaledDifference}
+use Rattle.grid.specs.Tensor.{tensorSum}
 use Rattle.area.specs.declared.IndexRecord.{IndexRecord}
 use Rattle.quadrature.specs.Readings.{recordAt, fetched}
 
@@ -33,3 +35,16 @@ levelsLeft n top l ks R = sumTo n (λ i. differenceWeight top (l + i) *ℤ point
 unfoldable pub walkLeft : ℕ → List ℕ → ℕ → ℕ → Readings → ℤ
 walkLeft axes k axis l R =
     cond (ltb axis axes) (levelsLeft (suc (level k axis) - l) (level k axis) l (drop (axis + 1) k) R) (differenceWalk (drop axis k) R)
+
+-- The first `n` new points of a level; below each the full tensor rule of the axes ks.
+unfoldable pub pointsDone : ℕ → ℕ → List ℕ → Readings → ℤ
+pointsDone n l ks R = sumTo n (λ i. tensorSum ks (behind R l i))
+
+-- The levels below l of an axis with the level `top`, and the first `point` new points of l.
+unfoldable pub tensorDone : ℕ → ℕ → ℕ → List ℕ → Readings → ℤ
+tensorDone top l point ks R =
+    sumTo (l - 1) (λ i. wholeWeight top (suc i) *ℤ pointsDone (newCount (suc i)) (suc i) ks R) +ℤ wholeWeight top l *ℤ pointsDone point l ks R
+
+-- What the record at a place adds to the sum of differences: its difference once it is delivered.
+unfoldable pub deliveredDifference : List IndexRecord → List ℤ → ℕ → ℤ
+deliveredDifference rs s p = cond (leb 1 (recordAt rs p .state)) (scaledDifference (recordAt rs p .levels) (fetched rs s)) (pos 0)

@@ -33,3 +33,9 @@ pub record Stands (rs : List IndexRecord) (k : List ℕ) (axis place rank : ℕ)
   pub lower : NowhereHigher (recordAt rs place .levels) k
   pub ones : (b : ℕ) → axis < b → b < 8 → level (recordAt rs place .levels) b ≡ 1
   pub in-block : rank < blockSize (take axis (recordAt rs place .levels))
+
+-- Every delivered index among the first `held` records, at most 512, is ready.
+pub record AllReady (d held : ℕ) (rs : List IndexRecord) (s : List ℤ) : Type 0 where
+  pub few : held ≤ 512
+  pub room : held ≤ length rs
+  pub ready : (p : ℕ) → p < held → 1 ≤ recordAt rs p .state → Ready d rs s (recordAt rs p .levels)

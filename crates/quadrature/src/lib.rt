@@ -7,14 +7,15 @@ ghost use lib.ListN.{length, getD, drop};
 ghost use Rattle.rule.specs.Points.{newCount};
 ghost use Rattle.grid.specs.Index.{level as levelOf, Within};
 ghost use Rattle.grid.specs.Terms.{IsReading};
-ghost use Rattle.grid.specs.Difference.{units, scaledDifference};
+ghost use Rattle.grid.specs.Difference.{units, scaledDifference, scaledMean};
+ghost use Rattle.grid.specs.Tensor.{tensorSum, tensorRule};
 ghost use Rattle.grid.specs.Coefficient.{raisedOn, marks, coefficient as coefficientOf};
 ghost use Rattle.area.specs.Records.{recordsOf, heldIn};
 ghost use Rattle.area.specs.Lookup.{foundIn};
 ghost use Rattle.quadrature.specs.Readings.{recordAt, fetched};
-ghost use Rattle.quadrature.specs.Ready.{Ready, Stands};
+ghost use Rattle.quadrature.specs.Ready.{Ready, Stands, AllReady};
 ghost use Rattle.quadrature.specs.Linked.{deliveredIn, subsetTerm, Linked};
-ghost use Rattle.quadrature.specs.Parts.{leftAt, pointsLeft, walkLeft};
+ghost use Rattle.quadrature.specs.Parts.{leftAt, pointsLeft, walkLeft, deliveredDifference};
 
 // The reading with a rank in the block of the record at a place, times a weight.
 fn weighed_reading(place: usize, rank: usize, weight: i64, cells: &[u32], store: &[i32]) -> i64
@@ -158,6 +159,64 @@ pub fn scaled_difference(axes: usize, target: [u32; 8], cells: &[u32], store: &[
     sum * ((1u64 << (20 - units)) as i64)
 }
 
+// The full tensor rule on the axes from `axis` on, in the units of their levels. The record at `place` stands at level 1 there.
+fn tensor_sum(
+    axes: usize,
+    target: [u32; 8],
+    axis: usize,
+    place: usize,
+    rank: usize,
+    cells: &[u32],
+    store: &[i32],
+) -> i64
+    requires { ⌜ Ready axes (recordsOf (now cells)) (now store) target × Stands (recordsOf (now cells)) target axis place rank ⌝ }
+    requires { ⌜ (axis ≤ axes) × (axis < axes → levelOf (recordAt (recordsOf (now cells)) place .levels) axis ≡ 1) ⌝ }
+    ensures { λ r. ⌜ r ≡ tensorSum (drop axis target) (leftAt (recordsOf (now (cells .entry))) (now (store .entry)) axis place rank) ⌝ }
+{
+    if axes <= axis {
+        return weighed_reading(place, rank, 1, cells, store);
+    }
+    let top = target[axis];
+    let mut total: i64 = 0;
+    let mut level: u32 = 1;
+    let mut point: usize = 0;
+    let mut at = place;
+    while level <= top {
+        let count = rule::new_count(level);
+        if point < count {
+            let below = tensor_sum(
+                axes,
+                target,
+                axis + 1,
+                at,
+                rank * count + point,
+                cells,
+                store,
+            );
+            total += rule::whole_weight(top, level) * below;
+            point += 1;
+        } else {
+            if level < top {
+                at = area::link_at(cells, at, axis) as usize;
+            }
+            level += 1;
+            point = 0;
+        }
+    }
+    total
+}
+
+// The full tensor rule of an index, times 2^20.
+pub fn tensor_rule(axes: usize, target: [u32; 8], cells: &[u32], store: &[i32]) -> i64
+    requires { ⌜ Ready axes (recordsOf (now cells)) (now store) target ⌝ }
+    ensures is { λ r. ⌜ r ≡ tensorRule target (fetched (recordsOf (now (cells .entry))) (now (store .entry))) ⌝ }
+    ensures small { λ r. ⌜ natAbs r ≤ 2 ^ 40 ⌝ }
+{
+    let sum = tensor_sum(axes, target, 0, 0, 0, cells, store);
+    let units = unit_sum(target);
+    sum * ((1u64 << (20 - units)) as i64)
+}
+
 // The place of the index raised by one on a subset of the axes, found along forward links.
 fn raised_place(axes: usize, held: usize, place: usize, mask: u8, cells: &[u32]) -> area::Found
     requires { ⌜ Linked axes (heldIn (now cells) held) × (held * 27 ≤ length (now cells)) × (place < held) × (mask < 2 ^ axes) ⌝ }
@@ -209,4 +268,32 @@ pub fn coefficient(axes: usize, held: usize, place: usize, cells: &[u32]) -> i64
         mask += 1;
     }
     sum
+}
+
+// The difference of the index at a place, times 2^20; 0 while the index is wanted.
+fn delivered_difference(axes: usize, place: usize, cells: &[u32], store: &[i32]) -> i64
+    requires { ⌜ (place < length (recordsOf (now cells))) × (1 ≤ recordAt (recordsOf (now cells)) place .state → Ready axes (recordsOf (now cells)) (now store) (recordAt (recordsOf (now cells)) place .levels)) ⌝ }
+    ensures is { λ r. ⌜ r ≡ deliveredDifference (recordsOf (now (cells .entry))) (now (store .entry)) place ⌝ }
+    ensures small { λ r. ⌜ natAbs r ≤ 2 ^ 40 ⌝ }
+{
+    if area::state_at(cells, place) == area::WANTED {
+        0
+    } else {
+        scaled_difference(axes, area::levels_at(cells, place), cells, store)
+    }
+}
+
+// The sum of the differences of the delivered indices among the held, times 2^20.
+pub fn difference_total(axes: usize, held: usize, cells: &[u32], store: &[i32]) -> i64
+    requires { ⌜ AllReady axes held (recordsOf (now cells)) (now store) ⌝ }
+    ensures is { λ r. ⌜ r ≡ scaledMean (deliveredIn (heldIn (now (cells .entry)) held)) (fetched (recordsOf (now (cells .entry))) (now (store .entry))) ⌝ }
+    ensures small { λ r. ⌜ natAbs r ≤ held * 2 ^ 40 ⌝ }
+{
+    let mut total: i64 = 0;
+    let mut place: usize = 0;
+    while place < held {
+        total += delivered_difference(axes, place, cells, store);
+        place += 1;
+    }
+    total
 }

@@ -11,16 +11,14 @@ use lib.IntN.{ℤ, pos, natAbs, _+ℤ_}
 use lib.ListN.{length}
 use lib.Pow.{pow-mono}
 use mir.Syntax.{w64}
-use mir.Val.{SFits, toZ, ofZ}
+use mir.Val.{toZ}
 use Rattle.sums.specs.Sums.{sumTo}
-use Rattle.sums.proofs.Sums.{sumTo-suc}
-use Rattle.sums.proofs.Sizes.{abs-add}
-use Rattle.sums.proofs.Words.{back, back-small, small-fits}
 use Rattle.area.specs.declared.IndexRecord.{IndexRecord}
 use Rattle.area.specs.Records.{heldIn}
 use Rattle.quadrature.specs.Readings.{recordAt}
 use Rattle.quadrature.specs.Linked.{subsetTerm, Linked}
 use Rattle.quadrature.proofs.Held.{held-length}
+use Rattle.quadrature.proofs.Running.{running-fits, running-is, running-size}
 use Rattle.quadrature.proofs.Subsets.{term-size, coefficient-masks}
 use Rattle.quadrature.proofs.coefficient.Statement.{statement}
 use Rattle.quadrature.proofs.coefficient.Tie as tie
@@ -33,33 +31,10 @@ term cells held place = subsetTerm (heldIn cells held) (recordAt (heldIn cells h
 
 abbrev Inv-loop : tie.InvT-loop
 Inv-loop axes held place cells subsets sum₀ mask₀ sum mask =
-    (subsets ≡ 2 ^ axes) × (mask ≤ 2 ^ axes) × (natAbs (toZ w64 sum) ≤ mask) × (toZ w64 sum ≡ sumTo mask (term cells held place))
+    (subsets ≡ 2 ^ axes) × (mask ≤ 2 ^ axes) × (natAbs (toZ w64 sum) ≤ mask * 1) × (toZ w64 sum ≡ sumTo mask (term cells held place))
 
 abbrev μ-loop : tie.MeasureT-loop
 μ-loop axes held place cells subsets sum₀ mask₀ sum mask = 2 ^ axes - mask
-
--- a sum of at most 256 in size and the next term
-module _ (a z : ℤ) (f : ℕ → ℤ) (m : ℕ) (few : m < 256) (size : natAbs a ≤ m) (is : a ≡ sumTo m f) (unit : natAbs (f m) ≤ 1) (fits : SFits w64 z) (next : z ≡ f m) where
-  both : a +ℤ toZ w64 (ofZ w64 z) ≡ a +ℤ f m
-  both = ap (λ x. a +ℤ x) (back z fits ∙ next)
-
-  grown : natAbs (a +ℤ f m) ≤ m + 1
-  grown = omega (arith, abs-add a (f m))
-
-  sum-small : natAbs (a +ℤ toZ w64 (ofZ w64 z)) ≤ 2 ^ 62
-  sum-small = omega (arith, ap natAbs both, grown)
-
-  sum-back : toZ w64 (ofZ w64 (a +ℤ toZ w64 (ofZ w64 z))) ≡ a +ℤ f m
-  sum-back = back-small (a +ℤ toZ w64 (ofZ w64 z)) sum-small ∙ both
-
-  sum-next : toZ w64 (ofZ w64 (a +ℤ toZ w64 (ofZ w64 z))) ≡ sumTo (m + 1) f
-  sum-next = sum-back ∙ ap (λ x. x +ℤ f m) is ∙ sym (ap (λ n. sumTo n f) one-more ∙ sumTo-suc m f)
-    where
-      one-more : m + 1 ≡ suc m
-      one-more = omega arith
-
-  sum-size : natAbs (toZ w64 (ofZ w64 (a +ℤ toZ w64 (ofZ w64 z)))) ≤ m + 1
-  sum-size = omega (arith, ap natAbs sum-back, grown)
 
 all : (axes : ℕ) → axes ≤ 8 → 2 ^ axes ≤ 256
 all axes h = pow-mono {i = axes} {j = 8} h
@@ -83,9 +58,8 @@ add-sum c =
     let s = c .before .before .before .before in
     let l = c .before .before .loop in
     let rs = heldIn (now (s .args .cells)) (s .args .held) in
-    small-fits _
-    (sum-small (toZ w64 (l .sum)) (c .subset-term .result) (term (now (s .args .cells)) (s .args .held) (s .args .place)) (l .mask)
-    (omega (arith, l .inv .0, all (s .args .axes) (s .pre .0 .axes))) (l .inv .2) (l .inv .3) (term-size rs (recordAt rs (s .args .place) .levels) (l .mask)) (sfits-of (c .subset-term .ok)) (c .subset-term .ensures))
+    running-fits 1 (term (now (s .args .cells)) (s .args .held) (s .args .place)) (l .mask) (toZ w64 (l .sum)) (c .subset-term .result)
+    (omega (arith, l .inv .0, all (s .args .axes) (s .pre .0 .axes))) (l .inv .2) (l .inv .3) (term-size rs (recordAt rs (s .args .place) .levels) (l .mask)) (sfits-of (c .subset-term .ok)) (c .subset-term .ensures)
 
 add-mask : tie.Need-add-mask Inv-loop μ-loop
 add-mask c = omega (arith, c .before .before .loop .inv .1, all (c .before .before .before .before .args .axes) (c .before .before .before .before .pre .0 .axes))
@@ -99,12 +73,12 @@ loop-again c =
     let l = c .before .before .loop in
     let rs = heldIn (now (s .args .cells)) (s .args .held) in
     let f = term (now (s .args .cells)) (s .args .held) (s .args .place) in
-    let few : l .mask < 256 = omega (arith, l .inv .0, all (s .args .axes) (s .pre .0 .axes)) in
+    let few : (l .mask + 1) * 1 ≤ 2 ^ 62 = omega (arith, l .inv .0, all (s .args .axes) (s .pre .0 .axes)) in
     let unit = term-size rs (recordAt rs (s .args .place) .levels) (l .mask) in (
       l .inv .0,
       omega (arith, l .inv .0),
-      sum-size (toZ w64 (l .sum)) (c .subset-term .result) f (l .mask) few (l .inv .2) (l .inv .3) unit (sfits-of (c .subset-term .ok)) (c .subset-term .ensures),
-      sum-next (toZ w64 (l .sum)) (c .subset-term .result) f (l .mask) few (l .inv .2) (l .inv .3) unit (sfits-of (c .subset-term .ok)) (c .subset-term .ensures),
+      running-size 1 f (l .mask) (toZ w64 (l .sum)) (c .subset-term .result) few (l .inv .2) (l .inv .3) unit (sfits-of (c .subset-term .ok)) (c .subset-term .ensures),
+      running-is 1 f (l .mask) (toZ w64 (l .sum)) (c .subset-term .result) few (l .inv .2) (l .inv .3) unit (sfits-of (c .subset-term .ok)) (c .subset-term .ensures),
     )
 
 returns : tie.Need-returns Inv-loop μ-loop
