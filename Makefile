@@ -2,7 +2,9 @@
 CARGO = cargo
 REFERENCE = --release --offline --quiet --manifest-path reference/Cargo.toml
 
-.PHONY: run test tools reference-test reference-runs proofs clean
+COMPARISON = --release --offline --quiet --manifest-path comparison/Cargo.toml
+
+.PHONY: run test tools reference-test reference-runs compared proofs clean
 
 # The main job on an example, with its report.
 run: tools
@@ -12,7 +14,7 @@ tools:
 	@$(CARGO) build $(REFERENCE)
 
 # Every test. The proofs come last: the last line of `rt ci` is the verdict.
-test: reference-test reference-runs proofs
+test: reference-test reference-runs compared proofs
 
 reference-test:
 	@$(CARGO) test $(REFERENCE)
@@ -22,9 +24,14 @@ reference-runs: tools
 	reference/target/release/drive 1 20000
 	reference/target/release/survey 1 1000
 
+# The proved figures of areas against the reference's.
+compared:
+	@rt staticlib figures
+	@$(CARGO) run $(COMPARISON)
+
 proofs:
 	@rt fmt --check
 	@rt ci
 
 clean:
-	rm -rf target reference/target
+	rm -rf target reference/target comparison/target

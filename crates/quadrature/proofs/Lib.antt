@@ -12,3 +12,5 @@ pub mod Raised
 pub mod Delivered
 pub mod Subsets
 pub mod Totals
+pub mod Encoded
+pub mod Facts

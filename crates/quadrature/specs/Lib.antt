@@ -4,3 +4,4 @@ pub mod Readings
 pub mod Ready
 pub mod Parts
 pub mod Linked
+pub mod Facts

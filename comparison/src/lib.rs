@@ -1,0 +1,32 @@
+//! The proved functions as Rust sees them, and areas as they take them.
+
+use reference::area::WORDS;
+
+/// The exported functions. Each asks for a sound area, so nothing here may
+/// hand them another.
+pub mod proved {
+    #[allow(improper_ctypes)]
+    extern "C" {
+        pub fn figures_difference(axes: usize, place: usize, cells: &[u32], store: &[i32]) -> i64;
+        pub fn figures_tensor_rule(axes: usize, place: usize, cells: &[u32], store: &[i32]) -> i64;
+        pub fn figures_coefficient(axes: usize, held: usize, place: usize, cells: &[u32]) -> i64;
+        pub fn figures_difference_total(
+            axes: usize,
+            held: usize,
+            cells: &[u32],
+            store: &[i32],
+        ) -> i64;
+    }
+}
+
+/// The cells and the reading store of an area's bytes.
+pub fn words(bytes: &[u8]) -> (Vec<u32>, Vec<i32>) {
+    let all: Vec<u32> = bytes
+        .chunks_exact(4)
+        .map(|word| u32::from_le_bytes(word.try_into().expect("four bytes")))
+        .collect();
+    let (records, readings) = (all[10] as usize, all[11] as usize);
+    let (cells, store) = all[12..].split_at(records * WORDS);
+    assert_eq!(store.len(), readings);
+    (cells.to_vec(), store.iter().map(|&word| word as i32).collect())
+}

@@ -1,0 +1,90 @@
+//! Compares the proved figures with the reference's, on areas that the
+//! reference writes as bytes: those that the example jobs and the generator's
+//! jobs end with, samples by seed, and full areas. One figure apart fails.
+
+use comparison::{proved, words};
+use reference::area::Area;
+use reference::grid::{Levels, BUDGET_LIMIT, HELD_LIMIT};
+use reference::{calls, examples, generate, jobfile, program, sample, soundness, sums};
+use std::process::ExitCode;
+
+/// What was compared.
+#[derive(Default)]
+struct Tally {
+    areas: usize,
+    unsound: usize,
+    indices: usize,
+    faults: usize,
+}
+
+impl Tally {
+    fn expect(&mut self, what: &str, proved: i64, reference: i128) {
+        if i128::from(proved) != reference {
+            self.faults += 1;
+            eprintln!("{what}: proved {proved}, reference {reference}");
+        }
+    }
+
+    fn compare(&mut self, name: &str, area: &Area) {
+        if !soundness::broken_clauses(area).is_empty() {
+            self.unsound += 1;
+            return;
+        }
+        self.areas += 1;
+        let (cells, store) = words(&area.to_bytes());
+        let (axes, held) = (area.job.axes as usize, area.job.held as usize);
+        let readings = calls::delivered_readings(area);
+        let reading = |index: &Levels, number: usize| readings.at(index, number);
+        let delivered = |index: &Levels| readings.is_delivered(index);
+        for (place, record) in area.held().iter().enumerate() {
+            let what = |figure: &str| format!("{name}, place {place}, {figure}");
+            let coefficient = unsafe { proved::figures_coefficient(axes, held, place, &cells) };
+            let expected = sums::coefficient(axes, &record.levels, &delivered);
+            self.expect(&what("coefficient"), coefficient, expected);
+            if record.is_delivered() {
+                self.indices += 1;
+                let tensor = unsafe { proved::figures_tensor_rule(axes, place, &cells, &store) };
+                let expected = sums::full_tensor_rule(axes, &record.levels, &reading);
+                self.expect(&what("tensor rule"), tensor, expected);
+                let difference = unsafe { proved::figures_difference(axes, place, &cells, &store) };
+                let expected = sums::difference(axes, &record.levels, &reading);
+                self.expect(&what("difference"), difference, expected);
+            }
+        }
+        let total = unsafe { proved::figures_difference_total(axes, held, &cells, &store) };
+        let expected = sums::sum_of_differences(axes, &readings);
+        self.expect(&format!("{name}, sum of differences"), total, expected);
+    }
+
+    fn compare_job(&mut self, name: &str, bytes: &[u8]) {
+        if let Ok(job) = jobfile::parse(bytes) {
+            let mut area = Area::empty(HELD_LIMIT, BUDGET_LIMIT as usize);
+            program::run(&job, &mut area);
+            self.compare(name, &area);
+        }
+    }
+}
+
+fn main() -> ExitCode {
+    let mut tally = Tally::default();
+    for example in examples::examples() {
+        tally.compare_job(example.name, &example.job);
+    }
+    for seed in 0..300 {
+        tally.compare_job(&format!("generated job {seed}"), &generate::generate(seed).bytes);
+    }
+    for seed in 0..1000 {
+        tally.compare(&format!("sample {seed}"), &sample::area(seed));
+    }
+    for seed in 0..8 {
+        let axes = 1 + seed as usize;
+        tally.compare(&format!("full area {seed}"), &sample::full_area(seed, axes));
+    }
+    let Tally { areas, unsound, indices, faults } = tally;
+    println!("comparison: {areas} areas, {indices} delivered indices, {faults} figures apart");
+    println!("comparison: {unsound} areas left out, whose jobs were refused and are not sound");
+    match faults == 0 && areas > 1000 {
+        true => ExitCode::SUCCESS,
+        false => ExitCode::FAILURE,
+    }
+}

@@ -1,0 +1,32 @@
+-- `figures::figures_difference` meets its contract: the levels that were read are those of the record. Assumes nothing.
+use borrow.Author.Needs.{needs, sfits-of}
+use mathlib.Core.Path.{_≡_, sym, ap, _∙_, subst}
+use denote.Ref.{now}
+use Rattle.sums.proofs.Words.{back}
+use Rattle.grid.specs.Difference.{scaledDifference}
+use Rattle.area.specs.Records.{recordsOf}
+use Rattle.area.proofs.levels_at.Reads as levels-at-reads
+use Rattle.quadrature.specs.Readings.{fetched}
+use Rattle.quadrature.specs.Ready.{Ready}
+use Rattle.quadrature.proofs.scaled_difference.Reads as scaled-difference-reads
+use Rattle.figures.proofs.figures_difference.Statement.{statement}
+use Rattle.figures.proofs.figures_difference.Tie as tie
+use Rattle.figures.proofs.figures_difference.Reads as reads
+use Rattle.figures.proofs.figures_difference.Lts as lts
+
+levels-at-requires : tie.Need-levels-at-requires
+levels-at-requires c κs = search needs
+
+scaled-difference-requires : tie.Need-scaled-difference-requires
+scaled-difference-requires c κs =
+    let s = c .before .before in
+    subst (λ k. Ready (s .args .axes) (recordsOf (now (s .args .cells))) (now (s .args .store)) k) (sym (c .levels-at .ensures)) (s .pre .1)
+
+returns : tie.Need-returns
+returns c =
+    let s = c .before .before .before in
+    back (c .scaled-difference .result) (sfits-of (c .scaled-difference .ok)) ∙ c .scaled-difference .ensures .0
+    ∙ ap (λ k. scaledDifference k (fetched (recordsOf (now (s .args .cells))) (now (s .args .store)))) (c .before .levels-at .ensures)
+
+pub figures-difference-spec : {M : Type 1} → statement M
+figures-difference-spec = tie.close (tie.spec levels-at-requires scaled-difference-requires returns)

@@ -1,0 +1,58 @@
+// The figures of an area, exported so that a program in another language can compare them: only the comparison links them.
+// Nothing asks a caller outside for what is required here, so the comparison hands over sound areas alone.
+ghost use mathlib.Core.Path.{_≡_};
+ghost use Prim.Native.Nat.{_+_, _*_, _<_, _≤_};
+ghost use lib.ListN.{length};
+ghost use Rattle.grid.specs.Difference.{scaledDifference, scaledMean};
+ghost use Rattle.grid.specs.Tensor.{tensorRule};
+ghost use Rattle.grid.specs.Coefficient.{coefficient as coefficientOf};
+ghost use Rattle.area.specs.Records.{recordsOf, heldIn};
+ghost use Rattle.quadrature.specs.Readings.{recordAt, fetched};
+ghost use Rattle.quadrature.specs.Ready.{Ready, AllReady};
+ghost use Rattle.quadrature.specs.Linked.{deliveredIn, Linked};
+
+// The difference of the index at a place, times 2^20.
+#[no_mangle]
+pub extern "C" fn figures_difference(axes: usize, place: usize, cells: &[u32], store: &[i32]) -> i64
+    requires { ⌜ (place * 27 + 27 ≤ length (now cells)) × Ready axes (recordsOf (now cells)) (now store) (recordAt (recordsOf (now cells)) place .levels) ⌝ }
+    ensures { λ r. ⌜ r ≡ scaledDifference (recordAt (recordsOf (now (cells .entry))) place .levels) (fetched (recordsOf (now (cells .entry))) (now (store .entry))) ⌝ }
+{
+    quadrature::scaled_difference(axes, area::levels_at(cells, place), cells, store)
+}
+
+// The full tensor rule of the index at a place, times 2^20.
+#[no_mangle]
+pub extern "C" fn figures_tensor_rule(
+    axes: usize,
+    place: usize,
+    cells: &[u32],
+    store: &[i32],
+) -> i64
+    requires { ⌜ (place * 27 + 27 ≤ length (now cells)) × Ready axes (recordsOf (now cells)) (now store) (recordAt (recordsOf (now cells)) place .levels) ⌝ }
+    ensures { λ r. ⌜ r ≡ tensorRule (recordAt (recordsOf (now (cells .entry))) place .levels) (fetched (recordsOf (now (cells .entry))) (now (store .entry))) ⌝ }
+{
+    quadrature::tensor_rule(axes, area::levels_at(cells, place), cells, store)
+}
+
+// The combination coefficient of the index at a place.
+#[no_mangle]
+pub extern "C" fn figures_coefficient(axes: usize, held: usize, place: usize, cells: &[u32]) -> i64
+    requires { ⌜ Linked axes (heldIn (now cells) held) × (held * 27 ≤ length (now cells)) × (place < held) ⌝ }
+    ensures { λ r. ⌜ r ≡ coefficientOf (deliveredIn (heldIn (now (cells .entry)) held)) (recordAt (heldIn (now (cells .entry)) held) place .levels) ⌝ }
+{
+    quadrature::coefficient(axes, held, place, cells)
+}
+
+// The sum of the differences of the delivered indices, times 2^20.
+#[no_mangle]
+pub extern "C" fn figures_difference_total(
+    axes: usize,
+    held: usize,
+    cells: &[u32],
+    store: &[i32],
+) -> i64
+    requires { ⌜ AllReady axes held (recordsOf (now cells)) (now store) ⌝ }
+    ensures { λ r. ⌜ r ≡ scaledMean (deliveredIn (heldIn (now (cells .entry)) held)) (fetched (recordsOf (now (cells .entry))) (now (store .entry))) ⌝ }
+{
+    quadrature::difference_total(axes, held, cells, store)
+}

@@ -1,0 +1,32 @@
+-- What the functions' contracts say of an area's cells is said of the entries that the area encodes.
+use mathlib.Core.Path.{_≡_}
+use mathlib.Core.List.{List, List·Memᴰ}
+use Prim.Native.Nat.{ℕ}
+use lib.IntN.{ℤ}
+use Rattle.grid.specs.Difference.{scaledDifference, scaledMean}
+use Rattle.grid.specs.Tensor.{tensorRule}
+use Rattle.grid.specs.Coefficient.{coefficient}
+use Rattle.area.specs.declared.JobRecord.{JobRecord}
+use Rattle.area.specs.Records.{recordsOf, heldIn}
+use Rattle.area.specs.Entry.{deliveredOf, readingIn}
+use Rattle.area.specs.Encoding.{areaOf, entriesOf}
+use Rattle.quadrature.specs.Readings.{fetched}
+use Rattle.quadrature.specs.Ready.{Ready}
+use Rattle.quadrature.specs.Linked.{deliveredIn}
+
+-- j is the job record, c the cells, s the reading store
+pub record EncodedFacts (j : JobRecord) (c : List ℕ) (s : List ℤ) : Type 0 where
+  -- an index that is ready among the held records is ready among all records of the cells, as the functions require it
+  pub ready : (d : ℕ) (k : List ℕ) → Ready d (heldIn c (j .held)) s k → Ready d (recordsOf c) s k
+  -- the delivered indices are those of the entries, and so are their coefficients
+  pub delivered : deliveredIn (heldIn c (j .held)) ≡ deliveredOf (entriesOf (areaOf j c s))
+  pub coefficients : (k : List ℕ) → coefficient (deliveredIn (heldIn c (j .held))) k ≡ coefficient (deliveredOf (entriesOf (areaOf j c s))) k
+  -- the difference and the full tensor rule of an index are those of the entries' readings
+  pub difference : (d : ℕ) (k : List ℕ) → Ready d (heldIn c (j .held)) s k
+      → scaledDifference k (fetched (recordsOf c) s) ≡ scaledDifference k (readingIn (entriesOf (areaOf j c s)))
+  pub tensor : (d : ℕ) (k : List ℕ) → Ready d (heldIn c (j .held)) s k
+      → tensorRule k (fetched (recordsOf c) s) ≡ tensorRule k (readingIn (entriesOf (areaOf j c s)))
+  -- and the sum of differences is the scaled mean of the entries
+  pub mean : (d : ℕ) → ((k : List ℕ) → List·Memᴰ k (deliveredIn (heldIn c (j .held))) → Ready d (heldIn c (j .held)) s k)
+      → scaledMean (deliveredIn (heldIn c (j .held))) (fetched (recordsOf c) s)
+      ≡ scaledMean (deliveredOf (entriesOf (areaOf j c s))) (readingIn (entriesOf (areaOf j c s)))
