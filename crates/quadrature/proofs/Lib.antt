@@ -13,4 +13,5 @@ pub mod Delivered
 pub mod Subsets
 pub mod Totals
 pub mod Encoded
+pub mod Required
 pub mod Facts

@@ -1,18 +1,20 @@
--- What the functions' contracts say of an area's cells is said of the entries that the area encodes.
+-- What the functions' contracts say of an area's cells is said of the entries that the area encodes; and what they require can be
+-- met.
 use mathlib.Core.Path.{_≡_}
-use mathlib.Core.List.{List, List·Memᴰ}
+use mathlib.Core.List.{List, [], _∷_, List·Memᴰ}
 use Prim.Native.Nat.{ℕ}
 use lib.IntN.{ℤ}
+use Rattle.grid.specs.Index.{root}
 use Rattle.grid.specs.Difference.{scaledDifference, scaledMean}
 use Rattle.grid.specs.Tensor.{tensorRule}
 use Rattle.grid.specs.Coefficient.{coefficient}
 use Rattle.area.specs.declared.JobRecord.{JobRecord}
 use Rattle.area.specs.Records.{recordsOf, heldIn}
-use Rattle.area.specs.Entry.{deliveredOf, readingIn}
-use Rattle.area.specs.Encoding.{areaOf, entriesOf}
+use Rattle.area.specs.Entry.{Entry, deliveredOf, readingIn}
+use Rattle.area.specs.Encoding.{areaOf, entriesOf, recordsFor, storeFor}
 use Rattle.quadrature.specs.Readings.{fetched}
-use Rattle.quadrature.specs.Ready.{Ready}
-use Rattle.quadrature.specs.Linked.{deliveredIn}
+use Rattle.quadrature.specs.Ready.{Ready, AllReady}
+use Rattle.quadrature.specs.Linked.{deliveredIn, Linked}
 
 -- j is the job record, c the cells, s the reading store
 pub record EncodedFacts (j : JobRecord) (c : List ℕ) (s : List ℤ) : Type 0 where
@@ -30,3 +32,13 @@ pub record EncodedFacts (j : JobRecord) (c : List ℕ) (s : List ℤ) : Type 0 w
   pub mean : (d : ℕ) → ((k : List ℕ) → List·Memᴰ k (deliveredIn (heldIn c (j .held))) → Ready d (heldIn c (j .held)) s k)
       → scaledMean (deliveredIn (heldIn c (j .held))) (fetched (recordsOf c) s)
       ≡ scaledMean (deliveredOf (entriesOf (areaOf j c s))) (readingIn (entriesOf (areaOf j c s)))
+
+-- The entries of a job whose root is delivered, and nothing else is held.
+unfoldable pub rootAlone : ℤ → List Entry
+rootAlone reading = record { levels = root; state = 1; indicator = 0; readings = reading ∷ [] } ∷ []
+
+-- What is required is met by these entries as the area encodes them, for every number of axes and every reading in range.
+pub record RequiredFacts (d : ℕ) (reading : ℤ) : Type 0 where
+  pub ready : Ready d (recordsFor (rootAlone reading)) (storeFor (rootAlone reading)) root
+  pub all-ready : AllReady d 1 (recordsFor (rootAlone reading)) (storeFor (rootAlone reading))
+  pub linked : Linked d (recordsFor (rootAlone reading))
