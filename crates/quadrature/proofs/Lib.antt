@@ -3,7 +3,7 @@ pub mod Places
 pub mod Walks
 pub mod Standing
 pub mod Steps
-pub mod Scaled
+pub mod Shifts
 pub mod Tensors
 pub mod Rounds
 pub mod Running

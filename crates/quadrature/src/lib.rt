@@ -148,6 +148,15 @@ fn unit_sum(target: [u32; 8]) -> u32
     units
 }
 
+// A sum in the units of an index, brought to the scale 2^20.
+fn scaled(target: [u32; 8], sum: i64) -> i64
+    requires { ⌜ Within target × (units target ≤ 20) × (natAbs (pos (2 ^ (20 - units target)) *ℤ sum) ≤ 2 ^ 40) ⌝ }
+    ensures { λ r. ⌜ r ≡ pos (2 ^ (20 - units target)) *ℤ sum ⌝ }
+{
+    let units = unit_sum(target);
+    sum * ((1u64 << (20 - units)) as i64)
+}
+
 // The difference of an index, times 2^20.
 pub fn scaled_difference(axes: usize, target: [u32; 8], cells: &[u32], store: &[i32]) -> i64
     requires { ⌜ Ready axes (recordsOf (now cells)) (now store) target ⌝ }
@@ -155,8 +164,7 @@ pub fn scaled_difference(axes: usize, target: [u32; 8], cells: &[u32], store: &[
     ensures small { λ r. ⌜ natAbs r ≤ 2 ^ 40 ⌝ }
 {
     let sum = level_walk(axes, target, 0, 1, 0, 0, 1, cells, store);
-    let units = unit_sum(target);
-    sum * ((1u64 << (20 - units)) as i64)
+    scaled(target, sum)
 }
 
 // The full tensor rule on the axes from `axis` on, in the units of their levels. The record at `place` stands at level 1 there.
@@ -213,8 +221,7 @@ pub fn tensor_rule(axes: usize, target: [u32; 8], cells: &[u32], store: &[i32]) 
     ensures small { λ r. ⌜ natAbs r ≤ 2 ^ 40 ⌝ }
 {
     let sum = tensor_sum(axes, target, 0, 0, 0, cells, store);
-    let units = unit_sum(target);
-    sum * ((1u64 << (20 - units)) as i64)
+    scaled(target, sum)
 }
 
 // The place of the index raised by one on a subset of the axes, found along forward links.

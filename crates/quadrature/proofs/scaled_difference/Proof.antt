@@ -1,7 +1,7 @@
 -- `quadrature::scaled_difference` meets its contract: the walk from the root is the difference, and the shift makes it whole.
 -- Assumes nothing.
 use borrow.Author.Needs.{needs, sfits-of}
-use mathlib.Core.Path.{_≡_, refl, sym, ap, ap₂, _∙_, subst}
+use mathlib.Core.Path.{_≡_, sym, ap, _∙_, subst}
 use mathlib.Core.List.{List, []}
 use Prim.Native.Nat.{ℕ, _+_, _*_, _-_, _^_, _≤_, _<_}
 use native.Mathlib.Nat as NatL
@@ -11,6 +11,7 @@ use lib.IntN.{ℤ, pos, natAbs, _*ℤ_}
 use lib.ListN.{length, getD, take, drop}
 use lib.Pow.{pow-mono}
 use Rattle.sums.proofs.Ring.{one-*ℤ}
+use Rattle.sums.proofs.Words.{back}
 use Rattle.grid.specs.Index.{level, Within}
 use Rattle.grid.specs.Difference.{units, scaledDifference, differenceSum, differenceWalk}
 use Rattle.grid.proofs.Differences.{difference-size}
@@ -21,7 +22,7 @@ use Rattle.area.specs.Records.{recordsOf}
 use Rattle.quadrature.specs.Readings.{recordAt, fetched}
 use Rattle.quadrature.specs.Ready.{Ready, Stands}
 use Rattle.quadrature.specs.Parts.{left, leftAt, walkLeft}
-use Rattle.quadrature.proofs.Scaled.{shift-fits, scaled-fits, scaled-is, left-all}
+use Rattle.quadrature.proofs.Shifts.{left-all}
 use Rattle.quadrature.proofs.Standing.{stands-start, first-level}
 use Rattle.quadrature.proofs.Walks.{walk-all}
 use Rattle.quadrature.proofs.scaled_difference.Statement.{statement}
@@ -37,10 +38,10 @@ module _ {d : ℕ} {rs : List IndexRecord} {s : List ℤ} {k : List ℕ} (ready 
   room-start = omega (arith, pow-mono {i = units k} {j = 20} units-in)
 
   -- the walk from the root gives the difference in the units of k
-  walk-is : (x : ℤ) (u : ℕ) → x ≡ pos 1 *ℤ walkLeft d k 0 1 (leftAt rs s 0 0 0) → u ≡ units k → pos (2 ^ (20 - u)) *ℤ x ≡ scaledDifference k (fetched rs s)
+  walk-is : (x : ℤ) → x ≡ pos 1 *ℤ walkLeft d k 0 1 (leftAt rs s 0 0 0) → pos (2 ^ (20 - units k)) *ℤ x ≡ scaledDifference k (fetched rs s)
   unfolding scaledDifference
-  walk-is x u e f =
-      ap₂ (λ v y. pos (2 ^ (20 - v)) *ℤ y) f
+  walk-is x e =
+      ap (λ y. pos (2 ^ (20 - units k)) *ℤ y)
       (e ∙ one-*ℤ (walkLeft d k 0 1 (leftAt rs s 0 0 0)) ∙ walk-all d k 0 (leftAt rs s 0 0 0) (omega (arith, ready .axes, ready .eight))
       ∙ ap (differenceWalk k) (left-all (fetched rs s)) ∙ sym (difference-walk k (fetched rs s)))
 
@@ -52,38 +53,16 @@ level-walk-requires c κs =
     let ready = c .before .pre in
     ((ready, stands-start ready), ((omega arith, λ h. sym (first-level ready)), room-start ready))
 
-unit-sum-requires : tie.Need-unit-sum-requires
-unit-sum-requires c κs = c .before .before .pre .ceilings
-
-units-are : (c : tie.After-unit-sum) → c .unit-sum .result ≤ 20
-units-are c = omega (arith, c .unit-sum .ensures, units-in (c .before .before .before .pre))
-
-sub-result : tie.Need-sub-result
-sub-result c = units-are c
-
-cast-result : tie.Need-cast-result
-cast-result c = search needs
-
-shl-result : tie.Need-shl-result
-shl-result c = search needs
-
-cast-result-2 : tie.Need-cast-result-2
-cast-result-2 c = shift-fits (c .unit-sum .result) (units-are c)
-
-mul-result : tie.Need-mul-result
-mul-result c =
-    let ready = c .before .before .before .pre in
-    scaled-fits (c .before .level-walk .result) _ (c .unit-sum .result) (sfits-of (c .before .level-walk .ok)) (units-are c)
-    (walk-is ready (c .before .level-walk .result) (c .unit-sum .result) (c .before .level-walk .ensures) (c .unit-sum .ensures)) (small ready)
+scaled-requires : tie.Need-scaled-requires
+scaled-requires c κs =
+    let ready = c .before .before .pre in
+    (ready .ceilings, units-in ready, subst (λ x. natAbs x ≤ 2 ^ 40) (sym (walk-is ready _ (back (c .level-walk .result) (sfits-of (c .level-walk .ok)) ∙ c .level-walk .ensures))) (small ready))
 
 returns : tie.Need-returns
 returns c =
     let ready = c .before .before .before .pre in
-    let e = scaled-is (c .before .level-walk .result) _ (c .unit-sum .result) (sfits-of (c .before .level-walk .ok)) (units-are c)
-    (walk-is ready (c .before .level-walk .result) (c .unit-sum .result) (c .before .level-walk .ensures) (c .unit-sum .ensures)) (small ready) in
+    let e = back (c .scaled .result) (sfits-of (c .scaled .ok)) ∙ c .scaled .ensures ∙ walk-is ready _ (back (c .before .level-walk .result) (sfits-of (c .before .level-walk .ok)) ∙ c .before .level-walk .ensures) in
     (e, subst (λ x. natAbs x ≤ 2 ^ 40) (sym e) (small ready))
 
 pub scaled-difference-spec : {M : Type 1} → statement M
-scaled-difference-spec =
-    tie.close
-    (tie.spec level-walk-requires unit-sum-requires sub-result cast-result shl-result cast-result-2 mul-result returns)
+scaled-difference-spec = tie.close (tie.spec level-walk-requires scaled-requires returns)
