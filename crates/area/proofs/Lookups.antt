@@ -1,22 +1,19 @@
 -- Levels compared cell by cell, and the search for a level list.
 -- The idea: what is still to be compared, or searched, answers as the whole did.
 -- Assumes nothing.
-use mathlib.Core.Path.{_≡_, refl, ap, sym, _∙_}
-use mathlib.Core.Bool.{Bool, true, false, cond}
-use mathlib.Core.List.{List, [], _∷_, _++_}
-use Prim.Native.Nat.{ℕ, zero, suc, _+_, _≤_, _<_, _-_, _*_, _/_}
+use mathlib.Core.Path.{_≡_}
+use mathlib.Core.Bool.{true, false, cond}
+use mathlib.Core.List.{List}
+use Prim.Native.Nat.{ℕ, _+_, _≤_, _<_, _-_, _*_}
 use native.Mathlib.Numerals.{add-one}
 use native.Mathlib.Omega.{arith}
-use lib.Dec.{eqb}
 use lib.ListN.{length, getD, take, drop, drop-of-length-le}
 use lib.Seq.{drop-cons, getD-take, length-take-le}
 use borrow.Author.Tests.{eq-eqb, ne-eqb}
 use Rattle.grid.specs.Coefficient.{sameLevels}
-use Rattle.area.specs.declared.IndexRecord.{IndexRecord}
-use Rattle.area.specs.declared.Found.{Found}
 use Rattle.area.specs.declared.Found.the-variants.{At, Nothing}
 use Rattle.area.specs.Records.{recordsOf, blank, heldIn}
-use Rattle.area.specs.Lookup.{foundFrom, foundIn}
+use Rattle.area.specs.Lookup.{foundFrom}
 use Rattle.area.proofs.Records.{length-recordsOf}
 
 -- one level of each list

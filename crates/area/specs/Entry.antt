@@ -1,10 +1,10 @@
 -- The entries of the scope document's log: each held index with its state, indicator and readings.
-use mathlib.Core.Bool.{Bool, true, false, cond}
-use mathlib.Core.List.{List, [], _∷_, _++_, map}
-use Prim.Native.Nat.{ℕ, zero, suc, _+_}
+use mathlib.Core.Bool.{cond}
+use mathlib.Core.List.{List, [], _∷_, map}
+use Prim.Native.Nat.{ℕ, _+_}
 use lib.Dec.{leb, eqb}
 use lib.IntN.{ℤ, pos}
-use lib.ListN.{length, getD}
+use lib.ListN.{getD}
 use Rattle.grid.specs.Block.{blockSize}
 use Rattle.grid.specs.Difference.{Readings}
 use Rattle.grid.specs.Coefficient.{sameLevels}

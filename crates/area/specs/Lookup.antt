@@ -1,7 +1,7 @@
 -- Where a level list is held: the first place, or nowhere.
-use mathlib.Core.Bool.{Bool, true, false, cond}
+use mathlib.Core.Bool.{cond}
 use mathlib.Core.List.{List, [], _∷_}
-use Prim.Native.Nat.{ℕ, suc, _+_}
+use Prim.Native.Nat.{ℕ, _+_}
 use Rattle.grid.specs.Coefficient.{sameLevels}
 use Rattle.area.specs.declared.IndexRecord.{IndexRecord}
 use Rattle.area.specs.declared.Found.{Found}

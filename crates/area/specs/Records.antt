@@ -1,7 +1,7 @@
 -- The records that a lent slice of cells holds. A record is 27 words: levels of axes 1 to 8; state; indicator; first reading;
 -- forward links of axes 1 to 8; backward links of axes 1 to 8.
-use mathlib.Core.List.{List, [], _∷_, _++_, map}
-use Prim.Native.Nat.{ℕ, zero, suc, _+_, _*_, _/_}
+use mathlib.Core.List.{List, [], _∷_, map}
+use Prim.Native.Nat.{ℕ, zero, suc, _*_, _/_}
 use lib.ListN.{length, getD, set, take, drop}
 use Rattle.area.specs.declared.IndexRecord.{IndexRecord}
 

@@ -3,7 +3,7 @@
 -- Assumes nothing.
 use mathlib.Core.Path.{_≡_, refl, sym, ap, ap₂, _∙_, subst}
 use mathlib.Core.Logic.{_⊎_, inl, inr, ⊎-elim}
-use mathlib.Core.Bool.{Bool, true, false, _&&_}
+use mathlib.Core.Bool.{true, false}
 use mathlib.Core.List.{List, [], _∷_, _++_, map, List·Memᴰ, List·Memᴰ·head, List·Memᴰ·tail}
 use Prim.Native.Nat.{ℕ, zero, suc, _+_, _*_, _/_, _%_, _<_, _≤_}
 use native.Mathlib.Nat as NatL
@@ -12,12 +12,11 @@ use native.Mathlib.Nat.{mod-lt, div-lt-iff-lt-mul, div-add-mod', mul-le-mul-righ
 use native.Mathlib.Omega.{arith}
 use borrow.Author.Tests.{eq-eqb, eqb-true}
 use lib.Arith.{digits-lt, digits-div, digits-mod}
-use lib.Dec.{eqb}
-use lib.ListN.{length, getD, length-append, length-map, List·getD-map, List·getD-append}
+use lib.ListN.{length, getD, length-append, length-map, List·getD-append}
 use lib.Seq.{getD-append-add}
 use Rattle.rule.specs.Points.{newPoints, newCount, newPoint, newAt, levelOf, rankOf}
 use Rattle.rule.proofs.Points as Points
-use Rattle.rule.proofs.Tables.{in-range, level-is, rank-is, rank-below, point-is, new-at, new-range, rising}
+use Rattle.rule.proofs.Tables.{level-is, rank-is, rank-below, point-is, new-at, new-range, rising}
 use Rattle.grid.specs.Index.{levelsWithin}
 use Rattle.grid.specs.Block.{times, block, blockSize, pointOf, rankIn, newOnEach}
 use Rattle.grid.specs.Terms.{Before}

@@ -1,10 +1,10 @@
 -- The boundary cases P1 to P10: the figures by computation, P10 from the weights of a difference rule, which come to zero.
 -- Assumes nothing.
-use mathlib.Core.Path.{_≡_, refl, sym, ap, ap₂, _∙_}
+use mathlib.Core.Path.{_≡_, refl, sym, ap, _∙_}
 use mathlib.Core.Logic.{_≢_, _⊎_, inl, inr, ⊎-elim}
 use mathlib.Core.Bool.{Bool, true, false, not, cond, _&&_}
-use mathlib.Core.List.{List, [], _∷_, _++_, map, List·Memᴰ, List·Memᴰ·not-nil, List·Memᴰ·cases-cons}
-use Prim.Native.Nat.{ℕ, zero, suc, _+_, _*_, _-_, _^_, _<_, _≤_}
+use mathlib.Core.List.{List, [], _∷_, map, List·Memᴰ, List·Memᴰ·not-nil, List·Memᴰ·cases-cons}
+use Prim.Native.Nat.{ℕ, zero, suc, _+_, _*_, _-_, _^_, _<_}
 use native.Mathlib.Numerals.{add-one}
 use native.Mathlib.Omega.{arith}
 use borrow.Author.Tests.{eqb-true, lt-leb, not-true}
@@ -14,7 +14,7 @@ use lib.IntN.{ℤ, pos, negsuc, negℤ, _+ℤ_, _*ℤ_, *ℤ-zero, zero-*ℤ, *�
 use Rattle.sums.specs.Sums.{sumTo, sumOf}
 use Rattle.sums.specs.Lists.{tab}
 use Rattle.sums.proofs.Every.{every, every-at}
-use Rattle.sums.proofs.Ring.{products, *ℤ-left, mul-one}
+use Rattle.sums.proofs.Ring.{products, mul-one}
 use Rattle.sums.proofs.Sums.{sumTo-cong, sumTo-mul}
 use Rattle.rule.specs.Points.{points, newPoints, newCount}
 use Rattle.rule.specs.Rules.{unit, isPoint, pointWeight, wholeAt, unitStep, differenceAt}
@@ -22,7 +22,7 @@ use Rattle.rule.specs.Weights.{wholeWeight, endsOne, differenceWeight, endsMinu
 use Rattle.rule.proofs.Weights.{difference-sum}
 use Rattle.grid.specs.Index.{level, excess, Within, levelsWithin, within, root, inFront, lower, backward}
 use Rattle.grid.specs.Block.{times, block, blockSize}
-use Rattle.grid.specs.Difference.{Readings, units, differenceProduct, differenceSum, scaledDifference, scaledMean, behind}
+use Rattle.grid.specs.Difference.{units, differenceProduct, differenceSum, scaledDifference, scaledMean, behind}
 use Rattle.grid.specs.Tensor.{tensorSum, tensorRule}
 use Rattle.grid.specs.Coefficient.{sameLevels, isIn, subsets, sign, raisedOn, coefficient}
 use Rattle.grid.specs.Cross.{crossTotal}

@@ -8,14 +8,14 @@ use mathlib.Core.Logic.{_≢_, _⊎_, inl, inr}
 use mathlib.Core.List.{List, [], _∷_, _++_, List·Memᴰ, List·Memᴰ·head, List·Memᴰ·tail, List·Memᴰ·not-nil, List·Memᴰ·cases-cons, Memᴰ·cast}
 use Prim.Native.Nat.{ℕ, zero, suc, _+_, _-_, _<_, _≤_}
 use native.Mathlib.Omega.{arith}
-use lib.ListN.{length, getD, set, replicate, length-append}
+use lib.ListN.{length, set, replicate, length-append}
 use lib.Seq.{set-append-seam, getD-append-seam}
-use lib.IntN.{ℤ, pos, _+ℤ_, _-ℤ_, _*ℤ_, +ℤ-idr, +ℤ-invr, *ℤ-zero, zero-*ℤ}
+use lib.IntN.{ℤ, pos, _+ℤ_, _-ℤ_, _*ℤ_, +ℤ-invr, zero-*ℤ}
 use Rattle.sums.specs.Sums.{sumOf}
 use Rattle.sums.proofs.Ring.{one-*ℤ, mul-one, *ℤ-left, mul-cancel}
 use Rattle.sums.proofs.Sums.{sumOf-cong-in, sumOf-zero, sumOf-mul}
 use Rattle.rule.specs.Weights.{wholeWeight}
-use Rattle.grid.specs.Index.{level, Within, root, backward}
+use Rattle.grid.specs.Index.{level, root, backward}
 use Rattle.grid.specs.Difference.{Readings, units, scaledDifference, scaledMean}
 use Rattle.grid.specs.Tensor.{tensorRule}
 use Rattle.grid.specs.Coefficient.{coefficient}

@@ -2,22 +2,22 @@
 -- difference as the alternating sum of full tensor rules.
 -- The idea: both are one rule with two kinds of weights (Rules), so each law is said once over the weights.
 -- Assumes nothing.
-use mathlib.Core.Path.{_≡_, refl, sym, ap, ap₂, _∙_, subst}
+use mathlib.Core.Path.{_≡_, refl, sym, ap, ap₂, _∙_}
 use mathlib.Core.Bool.{Bool, true, false}
-use mathlib.Core.List.{List, [], _∷_, _++_, map}
+use mathlib.Core.List.{List, [], _∷_, map}
 use Prim.Native.Nat.{ℕ, zero, suc, _+_, _*_, _-_, _^_, _<_, _≤_}
 use native.Mathlib.Nat as NatL
 use native.Mathlib.Nat.{le-refl, le-trans, le-of-eq, mul-le-mul}
 use native.Mathlib.Omega.{arith}
 use lib.ListN.{length}
 use lib.IntN.{ℤ, pos, negℤ, natAbs, _+ℤ_, _-ℤ_, _*ℤ_, +ℤ-idr}
-use Rattle.sums.specs.Sums.{sumTo, sumOf}
-use Rattle.sums.proofs.Ring.{ring, products, distl, one-*ℤ, *ℤ-assoc, *ℤ-left, negℤ-*ℤ, mul-cancel}
+use Rattle.sums.specs.Sums.{sumOf}
+use Rattle.sums.proofs.Ring.{ring, one-*ℤ, *ℤ-assoc, *ℤ-left, negℤ-*ℤ, mul-cancel}
 use Rattle.sums.proofs.Sums.{sumTo-cong<, sumTo-add, sumTo-mul, sumOf-cong, sumOf-append, sumOf-map, sumOf-neg, sumOf-mul}
 use Rattle.sums.proofs.Sizes.{abs-mul}
 use Rattle.rule.specs.Rules.{unit}
 use Rattle.rule.specs.Weights.{wholeWeight, differenceWeight}
-use Rattle.grid.specs.Index.{Within, NowhereHigher}
+use Rattle.grid.specs.Index.{Within}
 use Rattle.grid.specs.Block.{blockSize}
 use Rattle.grid.specs.Difference.{Readings, units, differenceSum, scaledDifference}
 use Rattle.grid.specs.Tensor.{tensorSum, tensorRule}

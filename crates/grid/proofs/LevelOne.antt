@@ -1,13 +1,11 @@
 -- Axes at level 1 behind an index change nothing.
 -- The idea: the rule of level 1 is one point of weight 1, and a set that is at level 1 on an axis holds nothing raised there.
 -- Assumes nothing.
-use mathlib.Core.Path.{_≡_, refl, sym, ap, ap₂, _∙_, fun-ext, subst}
+use mathlib.Core.Path.{_≡_, refl, sym, ap, ap₂, _∙_, fun-ext}
 use mathlib.Core.Bool.{Bool, true, false, cond, _&&_}
 use mathlib.Core.List.{List, [], _∷_, _++_, map}
-use Prim.Native.Nat.{ℕ, zero, suc, _+_, _*_, _-_, _/_, _%_, _^_, _<_, _≤_}
-use native.Mathlib.Nat as NatL
+use Prim.Native.Nat.{ℕ, zero, suc, _+_, _*_, _-_, _/_, _%_, _^_}
 use native.Mathlib.Omega.{arith}
-use borrow.Author.Tests.{ne-eqb}
 use lib.Dec.{leb, eqb}
 use lib.ListN.{length, replicate, length-append, length-replicate}
 use lib.IntN.{ℤ, pos, _+ℤ_, _-ℤ_, _*ℤ_, +ℤ-idl, +ℤ-idr}
@@ -19,8 +17,8 @@ use Rattle.rule.specs.Rules.{unit}
 use Rattle.rule.specs.Weights.{wholeWeight, differenceWeight}
 use Rattle.grid.specs.Index.{excess, levelsWithin, within}
 use Rattle.grid.specs.Block.{blockSize, pointOf}
-use Rattle.grid.specs.Difference.{Readings, units, differenceSum, scaledDifference, scaledMean}
-use Rattle.grid.specs.Tensor.{tensorSum, tensorRule}
+use Rattle.grid.specs.Difference.{Readings, units, scaledDifference, scaledMean}
+use Rattle.grid.specs.Tensor.{tensorRule}
 use Rattle.grid.specs.Coefficient.{sameLevels, isIn, coefficient}
 use Rattle.grid.specs.Terms.{blockSum, padded, pad}
 use Rattle.grid.specs.Cross.{crossTotal}

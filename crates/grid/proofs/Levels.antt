@@ -1,19 +1,16 @@
 -- Levels axis by axis: the ceilings as a test and as a list of bounds, nowhere higher by its first axis, units of an index.
 -- The idea: what is said of every axis by number is said of the first axis and of the rest.
 -- Assumes nothing.
-use mathlib.Core.Path.{_≡_, refl, sym, ap, ap₂, _∙_, subst}
+use mathlib.Core.Path.{_≡_, refl, ap}
 use mathlib.Core.Bool.{Bool, true, false, _&&_}
-use mathlib.Core.List.{List, [], _∷_, _++_}
-use Prim.Native.Nat.{ℕ, zero, suc, _+_, _*_, _-_, _^_, _<_, _≤_}
-use native.Mathlib.Nat as NatL
+use mathlib.Core.List.{List, [], _∷_}
+use Prim.Native.Nat.{ℕ, zero, suc, _+_, _-_, _<_, _≤_}
 use native.Mathlib.Omega.{arith}
 use borrow.Author.Tests.{leb-true, le-leb}
 use lib.Dec.{leb}
-use lib.ListN.{length, getD}
-use Rattle.rule.specs.Points.{newCount}
+use lib.ListN.{length}
 use Rattle.rule.specs.Rules.{unit}
 use Rattle.grid.specs.Index.{level, excess, Within, levelsWithin, within, NowhereHigher}
-use Rattle.grid.specs.Block.{blockSize}
 use Rattle.grid.specs.Difference.{units}
 
 -- ---- each level from 1 to n; each level at most n

@@ -5,12 +5,12 @@ use mathlib.Core.Path.{_≡_, refl, sym, ap, ap₂, _∙_, subst}
 use mathlib.Core.Logic.{_⊎_, inl, inr, ⊎-elim}
 use mathlib.Core.List.{List, [], _∷_, _++_, map, head-eq-of-cons-eq, tail-eq-of-cons-eq}
 use mathlib.Core.List.{List·Memᴰ, List·Memᴰ·head, List·Memᴰ·tail, List·Memᴰ·not-nil, List·Memᴰ·cases-cons, List·Memᴰ·append-cases, List·Memᴰ·eq-of-singleton, Memᴰ·append-left, Memᴰ·append-right, Memᴰ·cast}
-use Prim.Native.Nat.{ℕ, zero, suc, _+_, _<_, _≤_}
+use Prim.Native.Nat.{ℕ, zero, suc, _+_, _<_}
 use native.Mathlib.Nat.{eq-or-lt-of-le}
 use native.Mathlib.Omega.{arith}
-use lib.IntN.{ℤ, pos, _+ℤ_}
+use lib.IntN.{ℤ, _+ℤ_}
 use Rattle.sums.specs.Sums.{sumTo, sumOf}
-use Rattle.sums.proofs.Sums.{sumTo-suc, sumTo-cong, sumOf-append, sumOf-map}
+use Rattle.sums.proofs.Sums.{sumTo-suc, sumOf-append, sumOf-map}
 use Rattle.grid.specs.Index.{NowhereHigher, inFront, lower}
 use Rattle.grid.specs.Terms.{NoDup}
 use Rattle.grid.proofs.Levels.{higher-nil, higher-cons, higher-empty, higher-not-empty, higher-head-low, higher-head-high, higher-tail}

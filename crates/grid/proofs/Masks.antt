@@ -3,13 +3,12 @@
 -- Assumes nothing.
 use mathlib.Core.Path.{_≡_, refl, sym, ap, ap₂, _∙_}
 use mathlib.Core.Bool.{Bool, true, false, cond}
-use mathlib.Core.List.{List, [], _∷_, _++_, map}
-use Prim.Native.Nat.{ℕ, zero, suc, _+_, _*_, _/_, _%_, _^_, _<_, _≤_}
+use mathlib.Core.List.{List, [], _∷_, map}
+use Prim.Native.Nat.{ℕ, zero, suc, _+_, _*_, _/_, _%_, _^_}
 use native.Mathlib.Nat as NatL
 use native.Mathlib.Omega.{arith}
-use lib.Dec.{eqb}
 use lib.ListN.{length}
-use lib.IntN.{ℤ, pos, _+ℤ_, _*ℤ_, +ℤ-assoc, +ℤ-idl, +ℤ-idr}
+use lib.IntN.{ℤ, pos, _+ℤ_, +ℤ-assoc, +ℤ-idl, +ℤ-idr}
 use Rattle.sums.specs.Sums.{sumTo, sumOf}
 use Rattle.sums.proofs.Sums.{sumTo-cong, sumTo-add, sumOf-append, sumOf-map}
 use Rattle.grid.specs.Coefficient.{isIn, subsets, sign, raisedOn, coefficient, marks}

@@ -3,17 +3,16 @@
 -- The idea: induction over the axes; the readings of a block are cut into the runs that each point of the first axis leaves.
 -- Assumes nothing.
 use mathlib.Core.Path.{_≡_, refl, sym, ap, ap₂, _∙_, fun-ext}
-use mathlib.Core.List.{List, [], _∷_, _++_}
+use mathlib.Core.List.{List, [], _∷_}
 use Prim.Native.Nat.{ℕ, zero, suc, _+_, _*_, _-_, _^_, _<_, _≤_}
 use native.Mathlib.Nat as NatL
 use native.Mathlib.Nat.{le-refl, le-trans, le-of-eq, mul-le-mul}
 use native.Mathlib.Omega.{arith}
 use lib.IntN.{ℤ, pos, natAbs, _+ℤ_, _*ℤ_, +ℤ-idl, *ℤ-zero}
-use lib.ListN.{length}
 use lib.Pow.{pow-add}
 use Rattle.sums.specs.Sums.{sumTo, sumOf, natSumTo}
-use Rattle.sums.proofs.Ring.{ring, products, distl, one-*ℤ, *ℤ-assoc, *ℤ-left}
-use Rattle.sums.proofs.Sums.{sumTo-cong, sumTo-cong<, sumTo-zero, sumTo-add, sumTo-mul, sumTo-runs, sumOf-cong, sumOf-cong-in, sumOf-mul}
+use Rattle.sums.proofs.Ring.{ring, distl, *ℤ-assoc, *ℤ-left}
+use Rattle.sums.proofs.Sums.{sumTo-cong, sumTo-zero, sumTo-add, sumTo-mul, sumTo-runs, sumOf-cong, sumOf-cong-in, sumOf-mul}
 use Rattle.sums.proofs.Sizes.{abs-mul, abs-sumTo, natSumTo-mul, natSumTo-const}
 use Rattle.rule.specs.Points.{newCount}
 use Rattle.rule.specs.Rules.{unit}

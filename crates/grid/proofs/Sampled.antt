@@ -1,26 +1,25 @@
 -- Readings taken from a function on positions: the rules of an index are the rules of its axes, one inside the other.
 -- The idea: at the p-th new point of the first axis the readings that are left are those of the function with that position fixed.
 -- Assumes nothing.
-use mathlib.Core.Path.{_≡_, refl, sym, ap, ap₂, _∙_, fun-ext}
+use mathlib.Core.Path.{_≡_, refl, sym, ap, ap₂, _∙_}
 use mathlib.Core.Bool.{true}
 use mathlib.Core.List.{List, [], _∷_}
-use Prim.Native.Nat.{ℕ, zero, suc, _+_, _*_, _/_, _%_, _<_, _≤_}
-use native.Mathlib.Omega.{arith}
+use Prim.Native.Nat.{ℕ, suc, _*_, _<_, _≤_}
 use lib.Arith.{digits-div, digits-mod}
-use lib.IntN.{ℤ, pos, _*ℤ_}
+use lib.IntN.{ℤ, _*ℤ_}
 use Rattle.sums.specs.Sums.{sumTo}
 use Rattle.sums.proofs.Sums.{sumTo-cong, sumTo-cong<}
 use Rattle.rule.specs.Points.{newCount, newPoint}
 use Rattle.rule.specs.Weights.{wholeWeight, differenceWeight}
 use Rattle.rule.specs.Rules.{wholeRule, differenceRule}
 use Rattle.rule.proofs.Rules as Axis
-use Rattle.grid.specs.Index.{levelsWithin, NowhereHigher}
+use Rattle.grid.specs.Index.{levelsWithin}
 use Rattle.grid.specs.Block.{blockSize, pointOf}
 use Rattle.grid.specs.Difference.{Readings, differenceSum, behind}
 use Rattle.grid.specs.Tensor.{tensorSum}
 use Rattle.grid.specs.Terms.{blockSum, tensorProduct, sampled}
 use Rattle.grid.proofs.Levels.{Levels, levels-sure}
-use Rattle.grid.proofs.Rules.{rule, rule-only, walk, walk-is, tensor-walk, difference-is}
+use Rattle.grid.proofs.Rules.{rule-only, walk, walk-is, tensor-walk, difference-is}
 
 -- with the first position fixed
 behind-sampled : (f : List ℕ → ℤ) (l p : ℕ) (ls : List ℕ) (n : ℕ) → n < blockSize ls

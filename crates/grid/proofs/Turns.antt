@@ -1,9 +1,9 @@
 -- What one turn of each loop of the code does to the definition that its contract cites.
 -- The idea: a definition over all axes equals what the axes passed have come to, joined with the definition over the axes left.
 -- Assumes nothing.
-use mathlib.Core.Path.{_≡_, refl, sym, ap, ap₂, _∙_, subst}
-use mathlib.Core.Bool.{Bool, true, false, not, cond, _&&_}
-use mathlib.Core.List.{List, [], _∷_, _++_, append-assoc, append-nil}
+use mathlib.Core.Path.{_≡_, refl, sym, ap, _∙_}
+use mathlib.Core.Bool.{Bool, true, false, not, _&&_}
+use mathlib.Core.List.{List, [], _∷_, _++_, append-nil}
 use Prim.Native.Nat.{ℕ, zero, suc, _+_, _*_, _-_, _/_, _%_, _^_, _<_, _≤_}
 use native.Mathlib.Nat as NatL
 use native.Mathlib.Nat.{le-trans, le-of-eq, mul-le-mul, mul-div-cancel-left}
@@ -12,10 +12,10 @@ use native.Mathlib.Omega.{arith}
 use borrow.Author.Tests.{eq-eqb, ne-eqb, le-leb, lt-leb}
 use lib.Bits.{bitAnd, and-mask}
 use lib.Dec.{leb, eqb}
-use lib.IntN.{ℤ, pos, negsuc, negℤ, negℤ-negℤ}
-use lib.ListN.{length, getD, take, drop, set, replicate, length-set, drop-of-length-le}
+use lib.IntN.{ℤ, pos, negℤ, negℤ-negℤ}
+use lib.ListN.{length, take, drop, set, drop-of-length-le}
 use lib.Pow.{pow-add, pow-mono, pow-pos, shr-shr}
-use lib.Seq.{drop-cons, take-suc-set, drop-set-lt, take-suc, drop-length, take-length, append-snoc, take-all}
+use lib.Seq.{drop-cons, take-suc-set, drop-set-lt, take-suc, append-snoc, take-all}
 use Rattle.rule.specs.Points.{newCount, newPoint}
 use Rattle.grid.specs.Index.{level, excess, Within, levelsWithin, within}
 use Rattle.grid.specs.Block.{blockSize, pointOf}

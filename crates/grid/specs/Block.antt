@@ -1,7 +1,7 @@
 -- Blocks and their points ("Blocks and differences").
 use mathlib.Core.Bool.{Bool, true, false, _&&_}
 use mathlib.Core.List.{List, [], _∷_, _++_, map}
-use Prim.Native.Nat.{ℕ, zero, suc, _+_, _*_, _/_, _%_}
+use Prim.Native.Nat.{ℕ, _+_, _*_, _/_, _%_}
 use Rattle.rule.specs.Points.{newPoints, newCount, newPoint, newAt, rankOf}
 
 -- Each of the points with each of the positions put in front, the positions slowest.

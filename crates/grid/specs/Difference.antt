@@ -1,7 +1,7 @@
 -- The difference of an index ("Blocks and differences"), with the weights of the difference rule.
 -- Readings come in as a function of the index and of the point's number in its block.
 use mathlib.Core.List.{List, [], _∷_}
-use Prim.Native.Nat.{ℕ, zero, suc, _+_, _*_, _-_, _^_}
+use Prim.Native.Nat.{ℕ, suc, _+_, _*_, _-_, _^_}
 use lib.IntN.{ℤ, pos, _*ℤ_}
 use Rattle.sums.specs.Sums.{sumTo, sumOf}
 use Rattle.rule.specs.Points.{newCount}

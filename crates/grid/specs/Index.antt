@@ -2,7 +2,7 @@
 -- An *index* is a list of levels, one for each axis; in storage it always has eight, and the axes beyond the job's stand at
 -- level 1, whose rule is one point of weight 1. Axis 1 is at place 0 of the list.
 use mathlib.Core.Path.{_≡_}
-use mathlib.Core.Bool.{Bool, true, false, _&&_}
+use mathlib.Core.Bool.{Bool, true, _&&_}
 use mathlib.Core.List.{List, [], _∷_, _++_, map}
 use Prim.Native.Nat.{ℕ, zero, suc, _+_, _-_, _<_, _≤_}
 use lib.Dec.{leb}

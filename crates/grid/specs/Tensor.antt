@@ -1,6 +1,6 @@
 -- The full tensor rule of an index ("Blocks and differences"), with the weights of the whole rule.
 use mathlib.Core.List.{List, [], _∷_}
-use Prim.Native.Nat.{ℕ, zero, suc, _-_, _^_}
+use Prim.Native.Nat.{ℕ, suc, _-_, _^_}
 use lib.IntN.{ℤ, pos, _*ℤ_}
 use Rattle.sums.specs.Sums.{sumTo}
 use Rattle.rule.specs.Points.{newCount}

@@ -1,10 +1,10 @@
 -- The readings that are found are those that the area encodes: an index is looked up among the held, and what lies in the store from
 -- its first reading on is what its entry has.
 -- Assumes nothing.
-use mathlib.Core.Path.{_≡_, refl, sym, ap, ap₂, _∙_, subst}
+use mathlib.Core.Path.{_≡_, refl, sym, ap, _∙_, subst}
 use mathlib.Core.Bool.{Bool, true, false, cond}
 use mathlib.Core.List.{List, [], _∷_, map}
-use Prim.Native.Nat.{ℕ, zero, suc, _+_, _*_, _<_, _≤_}
+use Prim.Native.Nat.{ℕ, zero, suc, _+_, _<_, _≤_}
 use native.Mathlib.Nat as NatL
 use native.Mathlib.Omega.{arith}
 use borrow.Author.Tests.{le-leb}
@@ -12,10 +12,8 @@ use lib.Dec.{leb}
 use lib.IntN.{ℤ, pos}
 use lib.ListN.{length, getD, take, drop, length-take}
 use lib.Seq.{getD-take, getD-drop}
-use Rattle.grid.specs.Index.{level, root, forward, NowhereHigher}
+use Rattle.grid.specs.Index.{root, forward, NowhereHigher}
 use Rattle.grid.specs.Block.{blockSize}
-use Rattle.grid.specs.Difference.{scaledDifference, scaledMean}
-use Rattle.grid.specs.Tensor.{tensorRule}
 use Rattle.grid.specs.Coefficient.{sameLevels}
 use Rattle.grid.specs.Terms.{Agree, IsReading}
 use Rattle.area.specs.declared.IndexRecord.{IndexRecord}

@@ -1,13 +1,12 @@
 -- What the contracts say is said of the entries: readings that agree give the same figures.
 -- Assumes nothing.
-use mathlib.Core.Path.{_≡_, refl, sym, ap, _∙_}
+use mathlib.Core.Path.{_≡_, ap, _∙_}
 use mathlib.Core.List.{List, List·Memᴰ}
 use Prim.Native.Nat.{ℕ}
 use lib.IntN.{ℤ}
 use lib.ListN.{take}
 use Rattle.sums.proofs.Sums.{sumOf-cong-in}
 use Rattle.grid.specs.Difference.{scaledDifference, scaledMean}
-use Rattle.grid.specs.Tensor.{tensorRule}
 use Rattle.grid.specs.Coefficient.{coefficient}
 use Rattle.grid.specs.Terms.{Agree}
 use Rattle.grid.proofs.Facts.{difference-facts}

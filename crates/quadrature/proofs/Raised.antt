@@ -1,32 +1,28 @@
 -- An index raised on a subset, reached along forward links: each step raises one marked axis, and where a link names no place
 -- nothing above is held.
 -- Assumes nothing.
-use mathlib.Core.Path.{_≡_, refl, sym, ap, ap₂, _∙_, subst}
-use mathlib.Core.Logic.{_≢_, _⊎_, inl, inr, ⊎-elim}
+use mathlib.Core.Path.{_≡_, refl, sym, ap, _∙_, subst}
 use mathlib.Core.Bool.{Bool, true, false, cond}
-use mathlib.Core.List.{List, [], _∷_, _++_, List·Memᴰ, List·Memᴰ·head, List·Memᴰ·tail, List·Memᴰ·not-nil, List·Memᴰ·cases-cons}
-use Prim.Native.Nat.{ℕ, zero, suc, _+_, _*_, _-_, _/_, _%_, _^_, _<_, _≤_}
+use mathlib.Core.List.{List, [], _∷_, _++_}
+use Prim.Native.Nat.{ℕ, zero, suc, _+_, _-_, _/_, _^_, _<_, _≤_}
 use native.Mathlib.Decide.{decLt}
 use native.Mathlib.Nat as NatL
 use native.Mathlib.Omega.{arith}
-use borrow.Author.Tests.{leb-true, le-leb, lt-leb}
-use lib.Dec.{leb, eqb}
-use lib.IntN.{ℤ, pos}
+use borrow.Author.Tests.{le-leb, lt-leb}
+use lib.Dec.{leb}
 use lib.Bits.{bitAnd}
-use lib.ListN.{length, getD, take, drop, set, replicate, take-append-drop}
+use lib.ListN.{length, getD, take, drop, set, take-append-drop}
 use Rattle.grid.specs.Index.{level, forward, NowhereHigher}
-use Rattle.grid.specs.Coefficient.{sameLevels, isIn, sign, raisedOn, marks}
+use Rattle.grid.specs.Coefficient.{sameLevels, raisedOn, marks}
 use Rattle.grid.proofs.Levels.{higher-cons, higher-empty}
-use Rattle.grid.proofs.Turns.{raising, raising-in, raising-out, raising-done}
-use Rattle.grid.proofs.Members.{in-sure, in-back, in-no, same-sure, same-refl}
+use Rattle.grid.proofs.Turns.{raising, raising-in}
 use Rattle.area.specs.declared.IndexRecord.{IndexRecord}
-use Rattle.area.specs.declared.Found.{Found}
 use Rattle.area.specs.declared.Found.the-variants.{At, Nothing}
-use Rattle.area.specs.Records.{blank, levelsOf}
+use Rattle.area.specs.Records.{levelsOf}
 use Rattle.area.specs.Lookup.{foundFrom, foundIn}
 use Rattle.area.specs.Encoding.{none, placeFrom, placeOf}
 use Rattle.quadrature.specs.Readings.{recordAt, placeIn}
-use Rattle.quadrature.specs.Linked.{deliveredIn, Linked}
+use Rattle.quadrature.specs.Linked.{Linked}
 use Rattle.quadrature.proofs.Places.{place-levels, place-inside, below-none, higher-append}
 
 -- ---- levels of at least 1

@@ -3,7 +3,7 @@
 -- Assumes nothing.
 use mathlib.Core.Path.{_≡_, refl, sym, ap, _∙_, subst}
 use mathlib.Core.Logic.{⊎-elim}
-use mathlib.Core.List.{List, [], _∷_, List·Memᴰ, List·Memᴰ·not-nil, List·Memᴰ·cases-cons}
+use mathlib.Core.List.{List, List·Memᴰ·not-nil, List·Memᴰ·cases-cons}
 use Prim.Native.Nat.{ℕ, zero, suc, _+_, _<_, _≤_}
 use native.Mathlib.Omega.{arith}
 use lib.IntN.{ℤ}
@@ -19,7 +19,7 @@ use Rattle.grid.proofs.Neighbours.{root-level, root-within}
 use Rattle.area.specs.declared.IndexRecord.{IndexRecord}
 use Rattle.area.specs.Records.{levelsOf}
 use Rattle.area.specs.Entry.{indicesOf}
-use Rattle.area.specs.Encoding.{none, placeFrom, placeOf, linksOf, encoded, encodedFrom, recordsFor, storeFor}
+use Rattle.area.specs.Encoding.{placeFrom, placeOf, linksOf, encoded, encodedFrom, recordsFor, storeFor}
 use Rattle.quadrature.specs.Readings.{recordAt, placeIn, fetched}
 use Rattle.quadrature.specs.Ready.{Ready, AllReady}
 use Rattle.quadrature.specs.Linked.{Linked}

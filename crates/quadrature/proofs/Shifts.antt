@@ -1,14 +1,13 @@
 -- A sum in the units of its index, shifted to the scale 2^20.
 -- Assumes nothing.
-use mathlib.Core.Path.{_≡_, refl, sym, ap, ap₂, _∙_, fun-ext, subst}
-use mathlib.Core.List.{List, [], _∷_, _++_}
-use Prim.Native.Nat.{ℕ, zero, suc, _+_, _*_, _-_, _^_, _%_, _<_, _≤_}
-use native.Mathlib.Nat as NatL
-use native.Mathlib.Nat.{le-trans, one-mul}
+use mathlib.Core.Path.{_≡_, sym, ap, ap₂, _∙_, fun-ext, subst}
+use mathlib.Core.List.{[]}
+use Prim.Native.Nat.{ℕ, _+_, _*_, _-_, _^_, _%_, _<_, _≤_}
+use native.Mathlib.Nat.{one-mul}
 use native.Mathlib.Omega.{arith}
 use lib.Dec.{lit<}
 use lib.IntN.{ℤ, pos, natAbs, _*ℤ_, *ℤ-comm}
-use lib.Pow.{shl-exact, pow-mono, pow-pos}
+use lib.Pow.{shl-exact, pow-mono}
 use mir.Syntax.{w64}
 use mir.Val.{SFits, toZ, ofZ}
 use mir.Facts.{toZ-pos}

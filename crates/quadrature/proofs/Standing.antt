@@ -2,7 +2,6 @@
 -- readings that it then has before it are in range.
 -- Assumes nothing.
 use mathlib.Core.Path.{_≡_, refl, sym, ap, ap₂, _∙_, subst}
-use mathlib.Core.Logic.{_≢_}
 use mathlib.Core.List.{List, [], _∷_, _++_}
 use Prim.Native.Nat.{ℕ, zero, suc, _+_, _*_, _-_, _<_, _≤_}
 use native.Mathlib.Decide.{ℕ-discrete}
@@ -12,18 +11,16 @@ use native.Mathlib.Numerals.{add-one}
 use native.Mathlib.Omega.{arith}
 use lib.Arith.{digits-lt}
 use lib.IntN.{ℤ, pos}
-use lib.ListN.{length, getD, take, drop, set, replicate, take-append-drop, length-take, length-drop, length-replicate, getD-replicate}
-use lib.Seq.{take-suc, take-set-le, ext-getD, getD-drop, append-snoc}
+use lib.ListN.{length, getD, take, drop, replicate, take-append-drop, length-drop, length-replicate, getD-replicate}
+use lib.Seq.{take-suc, take-set-le, ext-getD, getD-drop}
 use Rattle.rule.specs.Points.{newCount}
-use Rattle.grid.specs.Index.{level, Within, root, forward, NowhereHigher}
+use Rattle.grid.specs.Index.{level, root, forward, NowhereHigher}
 use Rattle.grid.specs.Block.{blockSize}
-use Rattle.grid.specs.Difference.{Readings}
 use Rattle.grid.specs.Terms.{IsReading, InRange}
 use Rattle.grid.proofs.Levels.{Levels, levels-from}
 use Rattle.grid.proofs.Turns.{size-pos, levels-drop}
 use Rattle.grid.proofs.Neighbours.{root-level, forward-level, forward-other, forward-length}
 use Rattle.area.specs.declared.IndexRecord.{IndexRecord}
-use Rattle.area.specs.Encoding.{none}
 use Rattle.quadrature.specs.Readings.{recordAt, placeIn, fetched}
 use Rattle.quadrature.specs.Ready.{Ready, Stands}
 use Rattle.quadrature.specs.Parts.{left, leftAt}

@@ -2,15 +2,15 @@
 -- it is of size at most 2^40.
 -- The idea: the weight times the sizes that are still to come never passes 2^20, and a reading is at most 2^20.
 -- Assumes nothing.
-use mathlib.Core.Path.{_≡_, refl, sym, ap, ap₂, _∙_, subst}
-use mathlib.Core.List.{List, [], _∷_, _++_}
+use mathlib.Core.Path.{_≡_, sym, ap, ap₂, _∙_, subst}
+use mathlib.Core.List.{List, _∷_}
 use Prim.Native.Nat.{ℕ, zero, suc, _+_, _*_, _-_, _^_, _<_, _≤_}
 use native.Mathlib.Nat as NatL
 use native.Mathlib.Nat.{le-refl, le-trans, le-of-eq, mul-le-mul}
 use native.Mathlib.Numerals.{add-one}
 use native.Mathlib.Omega.{arith}
 use lib.IntN.{ℤ, pos, natAbs, _+ℤ_, _*ℤ_, *ℤ-zero, +ℤ-idr}
-use lib.ListN.{length, getD, take, drop}
+use lib.ListN.{length, drop}
 use lib.Pow.{pow-add, pow-mono, pow-pos}
 use lib.Seq.{drop-cons}
 use Rattle.sums.specs.Sums.{natSumTo}
@@ -25,7 +25,7 @@ use Rattle.grid.specs.Terms.{InRange}
 use Rattle.grid.proofs.Levels.{Levels}
 use Rattle.grid.proofs.Turns.{count-pos, levels-drop}
 use Rattle.quadrature.specs.Parts.{pointsLeft, levelsLeft, walkLeft}
-use Rattle.quadrature.proofs.Walks.{points-step, points-none, levels-step, levels-none, walk-here, walk-behind, walk-size, some-sizes, points-size, levels-size}
+use Rattle.quadrature.proofs.Walks.{points-step, points-none, levels-step, levels-none, walk-here, some-sizes, points-size, levels-size}
 
 -- up to level 8 a level has at most 64 new points
 pub count-small : (l : ℕ) → l ≤ 8 → newCount l ≤ 64

@@ -1,16 +1,16 @@
 -- The scaled mean of the delivered indices is the sum over the places: a wanted record adds nothing.
 -- Assumes nothing.
-use mathlib.Core.Path.{_≡_, refl, sym, ap, ap₂, _∙_}
+use mathlib.Core.Path.{_≡_, refl, sym, ap, _∙_}
 use mathlib.Core.Bool.{Bool, true, false, cond}
 use mathlib.Core.List.{List, [], _∷_}
-use Prim.Native.Nat.{ℕ, zero, suc, _+_, _<_, _≤_}
+use Prim.Native.Nat.{ℕ, zero, suc, _+_, _≤_}
 use native.Mathlib.Omega.{arith}
 use lib.Dec.{leb}
 use lib.IntN.{ℤ, pos, _+ℤ_, +ℤ-idl}
 use lib.ListN.{length, take}
 use Rattle.sums.specs.Sums.{sumTo, sumOf}
 use Rattle.sums.proofs.Sums.{sumTo-front}
-use Rattle.grid.specs.Difference.{Readings, scaledDifference, scaledMean}
+use Rattle.grid.specs.Difference.{scaledDifference, scaledMean}
 use Rattle.area.specs.declared.IndexRecord.{IndexRecord}
 use Rattle.quadrature.specs.Readings.{recordAt, fetched}
 use Rattle.quadrature.specs.Linked.{deliveredIn}

@@ -1,8 +1,7 @@
 -- The parts of a difference that a walk still has before it: one step at a time, and their sizes.
 -- The idea: what is left of a sum is its first summand and what is left after it; a part of a sum of sizes is no more than the whole.
 -- Assumes nothing.
-use mathlib.Core.Path.{_≡_, refl, sym, ap, ap₂, _∙_, fun-ext, subst}
-use mathlib.Core.Bool.{Bool, true, false, cond}
+use mathlib.Core.Path.{_≡_, refl, sym, ap, ap₂, _∙_, fun-ext}
 use mathlib.Core.List.{List, [], _∷_, _++_, append-assoc}
 use Prim.Native.Nat.{ℕ, zero, suc, _+_, _*_, _-_, _^_, _<_, _≤_, zero-le}
 use native.Mathlib.Decide.{decLt}
@@ -12,25 +11,24 @@ use native.Mathlib.Numerals.{add-one}
 use native.Mathlib.Omega.{arith}
 use borrow.Author.Tests.{lt-ltb, le-ltb}
 use lib.Arith.{digits-lt}
-use lib.Dec.{ltb}
 use lib.IntN.{ℤ, pos, natAbs, _+ℤ_, _*ℤ_, +ℤ-idl}
-use lib.ListN.{length, getD, take, drop, replicate}
+use lib.ListN.{length, drop, replicate}
 use lib.Pow.{pow-add}
 use lib.Seq.{drop-cons}
 use Rattle.sums.specs.Sums.{sumTo, natSumTo}
-use Rattle.sums.proofs.Ring.{one-*ℤ, distl, *ℤ-assoc}
+use Rattle.sums.proofs.Ring.{one-*ℤ}
 use Rattle.sums.proofs.Sums.{sumTo-front, sumTo-cong}
 use Rattle.sums.proofs.Sizes.{abs-mul, abs-sumTo, natSumTo-cong<, natSumTo-const, natSumTo-mul, natSumTo-some}
 use Rattle.rule.specs.Points.{newCount}
 use Rattle.rule.specs.Rules.{unit}
 use Rattle.rule.specs.Weights.{differenceWeight}
 use Rattle.rule.proofs.Weights.{difference-size}
-use Rattle.grid.specs.Index.{level, NowhereHigher}
+use Rattle.grid.specs.Index.{level}
 use Rattle.grid.specs.Block.{blockSize}
 use Rattle.grid.specs.Difference.{Readings, units, behind, differenceWalk}
-use Rattle.grid.specs.Terms.{IsReading, InRange, blockSum}
+use Rattle.grid.specs.Terms.{InRange}
 use Rattle.grid.proofs.Levels.{Levels, higher-cons}
-use Rattle.grid.proofs.Rules.{rule, walk, walk-is, difference-walk-is, difference-bound}
+use Rattle.grid.proofs.Rules.{walk-is, difference-walk-is, difference-bound}
 use Rattle.quadrature.specs.Parts.{left, pointsLeft, levelsLeft, walkLeft}
 
 -- ---- the readings left

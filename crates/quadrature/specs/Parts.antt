@@ -1,7 +1,7 @@
 -- The parts of a difference that a walk still has before it, the part of a full tensor rule that a loop has behind it, and the
 -- part of one record in the sum of differences.
 use mathlib.Core.Bool.{cond}
-use mathlib.Core.List.{List, _∷_, _++_}
+use mathlib.Core.List.{List, _++_}
 use Prim.Native.Nat.{ℕ, suc, _+_, _*_, _-_}
 use lib.Dec.{ltb, leb}
 use lib.IntN.{ℤ, pos, _+ℤ_, _*ℤ_}

@@ -1,8 +1,8 @@
 -- What the functions require of an area for an index: a sound area gives it for every delivered one.
 use mathlib.Core.Path.{_≡_}
 use mathlib.Core.List.{List}
-use Prim.Native.Nat.{ℕ, suc, _+_, _*_, _^_, _<_, _≤_}
-use lib.IntN.{ℤ, natAbs}
+use Prim.Native.Nat.{ℕ, _+_, _<_, _≤_}
+use lib.IntN.{ℤ}
 use lib.ListN.{length, getD, take}
 use Rattle.grid.specs.Index.{level, Within, root, forward, NowhereHigher}
 use Rattle.grid.specs.Block.{blockSize}

@@ -1,14 +1,14 @@
 -- What the definitions of weights, counts and points are in each of their cases.
 -- The idea: the tests of a definition are answered by the order of the two levels.
 -- Assumes nothing.
-use mathlib.Core.Path.{_≡_, refl, sym, ap, _∙_}
+use mathlib.Core.Path.{_≡_, refl, ap, _∙_}
 use mathlib.Core.Logic.{_≢_}
 use Prim.Native.Nat.{ℕ, zero, suc, _+_, _*_, _-_, _^_, _≤_, _<_, _%_}
 use native.Mathlib.Nat.{one-mul, pow-suc, lt-of-lt-of-le}
 use native.Mathlib.Omega.{arith}
 use borrow.Author.Tests.{le-leb, lt-leb, eq-eqb, ne-eqb}
 use lib.Dec.{lit<}
-use lib.IntN.{ℤ, pos, negsuc}
+use lib.IntN.{pos, negsuc}
 use lib.Pow.{shl-exact, pow-mono}
 use Rattle.rule.specs.Points.{newCount, newPoint}
 use Rattle.rule.specs.Weights.{endsOne, endsMinusOne, wholeWeight, differenceWeight}

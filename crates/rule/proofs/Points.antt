@@ -1,9 +1,7 @@
 -- The points of a level are the new points of all levels up to it.
 -- The idea: of the points of one level more, the even multiples are the level's and the odd ones are new.
 -- Assumes nothing.
-use mathlib.Core.Path.{_≡_, refl, sym, ap, ap₂, _∙_}
-use mathlib.Core.Bool.{Bool, true, false, cond}
-use mathlib.Core.List.{List, [], _∷_}
+use mathlib.Core.Path.{_≡_, refl, sym, ap, _∙_}
 use Prim.Native.Nat.{ℕ, zero, suc, _+_, _*_, _-_, _^_, _<_, _≤_}
 use native.Mathlib.Nat as NatL
 use native.Mathlib.Numerals.{add-one}
@@ -16,7 +14,6 @@ use Rattle.sums.proofs.Ring.{sums}
 use Rattle.sums.proofs.Sums.{sumTo-suc, sumTo-cong, sumOf-tab}
 use Rattle.sums.proofs.Lists.{length-tab, getD-tab}
 use Rattle.rule.specs.Points.{points, newPoints, newCount, newPoint}
-use Rattle.rule.proofs.Cases.{count-more, point-more}
 
 -- ---- the new points by number
 

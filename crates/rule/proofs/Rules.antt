@@ -3,10 +3,7 @@
 -- points; and every inner point of the trapezoidal rule is an end of two panels.
 -- Assumes nothing.
 use mathlib.Core.Path.{_≡_, refl, sym, ap, ap₂, _∙_}
-use mathlib.Core.Bool.{Bool, true, false, cond}
-use mathlib.Core.List.{List, [], _∷_}
 use Prim.Native.Nat.{ℕ, zero, suc, _+_, _*_, _-_, _^_, _<_, _≤_}
-use native.Mathlib.Nat as NatL
 use native.Mathlib.Numerals.{add-one}
 use native.Mathlib.Omega.{arith}
 use borrow.Author.Tests.{eq-eqb, ne-eqb}
@@ -15,8 +12,8 @@ use lib.Pow.{pow-add, pow-pos}
 use Rattle.sums.specs.Sums.{sumTo, sumOf}
 use Rattle.sums.specs.Lists.{tab}
 use Rattle.sums.proofs.Ring.{sums, ring, small, distl, one-*ℤ, *ℤ-assoc, negℤ-*ℤ}
-use Rattle.sums.proofs.Sums.{sumTo-suc, sumTo-front, sumTo-cong, sumTo-cong<, sumTo-add, sumTo-mul, sumTo-zero, sumOf-tab}
-use Rattle.rule.specs.Points.{points, newCount, newPoint, levelOf}
+use Rattle.sums.proofs.Sums.{sumTo-suc, sumTo-front, sumTo-cong, sumTo-cong<, sumTo-add, sumTo-mul, sumOf-tab}
+use Rattle.rule.specs.Points.{points, newCount, newPoint}
 use Rattle.rule.specs.Rules.{unit, isPoint, pointWeight, wholeAt, wholeRule, unitStep, differenceRule, trapezoidal}
 use Rattle.rule.specs.Weights.{wholeWeight, differenceWeight}
 use Rattle.rule.proofs.Cases.{whole-beyond}

@@ -3,19 +3,19 @@
 -- the difference rule is the difference of two whole rules, so its sum is the difference of theirs.
 -- Assumes nothing.
 use mathlib.Core.Path.{_≡_, refl, sym, ap, ap₂, _∙_}
-use Prim.Native.Nat.{ℕ, zero, suc, _+_, _*_, _-_, _^_, _<_, _≤_}
+use Prim.Native.Nat.{ℕ, zero, suc, _+_, _*_, _-_, _^_, _<_}
 use native.Mathlib.Decide.{ℕ-discrete, decLt}
 use native.Mathlib.Omega.{arith}
-use borrow.Author.Tests.{le-leb, lt-leb, eq-eqb, ne-eqb}
-use lib.IntN.{ℤ, pos, negsuc, negℤ, natAbs, _+ℤ_, _-ℤ_, _*ℤ_, *ℤ-zero, +ℤ-idr, +ℤ-invr}
+use borrow.Author.Tests.{lt-leb, ne-eqb}
+use lib.IntN.{ℤ, pos, negℤ, natAbs, _+ℤ_, _-ℤ_, _*ℤ_, *ℤ-zero, +ℤ-idr, +ℤ-invr}
 use Rattle.sums.specs.Sums.{sumTo, natSumTo}
-use Rattle.sums.proofs.Ring.{ring, small, negℤ-*ℤ}
+use Rattle.sums.proofs.Ring.{ring, negℤ-*ℤ}
 use Rattle.sums.proofs.Sums.{sumTo-suc, sumTo-cong, sumTo-cong<, sumTo-add, sumTo-mul}
 use Rattle.sums.proofs.Sizes.{natSumTo-suc, natSumTo-cong<}
 use Rattle.rule.specs.Points.{newCount}
 use Rattle.rule.specs.Rules.{unit}
 use Rattle.rule.specs.Weights.{endsOne, endsMinusOne, wholeWeight, differenceWeight}
-use Rattle.rule.proofs.Cases.{whole-none, whole-beyond, whole-inside, difference-none, difference-beyond}
+use Rattle.rule.proofs.Cases.{whole-beyond, whole-inside, difference-beyond}
 use Rattle.rule.proofs.Cases.{difference-new, difference-older}
 
 -- ---- the difference rule is the rule of k minus that of k − 1

@@ -1,10 +1,9 @@
 -- What is proved of one axis, a field for each fact; proofs/Facts.antt has a value of each record.
 use mathlib.Core.Path.{_≡_}
-use mathlib.Core.Bool.{Bool, true, false, cond}
-use mathlib.Core.List.{List, [], _∷_}
+use mathlib.Core.Bool.{cond}
 use Prim.Native.Nat.{ℕ, suc, _*_, _-_, _^_, _≤_, _<_}
 use lib.Dec.{leb, eqb}
-use lib.IntN.{ℤ, pos, natAbs, _+ℤ_, _-ℤ_, _*ℤ_}
+use lib.IntN.{ℤ, pos, natAbs, _-ℤ_, _*ℤ_}
 use lib.ListN.{length, getD}
 use Rattle.sums.specs.Sums.{sumTo, sumOf, natSumTo}
 use Rattle.rule.specs.Points.{points, newPoints, newCount, newPoint, newAt, levelOf, rankOf, timesIn}

@@ -1,6 +1,6 @@
 -- The rules of one axis as the scope document first words them, by position and over a function f of positions, and the
 -- source's trapezoidal rule. The value of a rule is in the unit of its level, that of `trapezoidal` in units of 1/128.
-use mathlib.Core.Bool.{Bool, true, false, cond}
+use mathlib.Core.Bool.{Bool, false, cond}
 use mathlib.Core.List.{List, [], _∷_}
 use Prim.Native.Nat.{ℕ, zero, suc, _-_, _%_, _^_}
 use lib.Dec.{leb, eqb}

@@ -1,6 +1,6 @@
 -- The weights of the whole rule and of the difference rule, by the level k of the rule and the level l at which the point
 -- was new; a weight of level k from 2 up is in units of 2^−k, at level 1 a whole one. A point that is not in the rule weighs 0.
-use mathlib.Core.Bool.{Bool, true, false, cond}
+use mathlib.Core.Bool.{cond}
 use Prim.Native.Nat.{ℕ, zero, suc}
 use lib.Dec.{leb, eqb}
 use lib.IntN.{ℤ, pos, negsuc}

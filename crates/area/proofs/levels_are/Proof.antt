@@ -1,19 +1,17 @@
 -- `area::levels_are` meets its contract: the levels left to compare answer as all of them did. Assumes nothing.
 use borrow.Author.Needs.{needs}
-use mathlib.Core.Path.{_≡_, refl, sym, ap, _∙_}
+use mathlib.Core.Path.{_≡_, refl, sym, _∙_}
 use mathlib.Core.List.{List}
 use Prim.Native.Nat.{ℕ, _≤_, _<_, _*_, _-_, _+_}
 use native.Mathlib.Omega.{arith}
 use denote.Ref.{now}
-use lib.ListN.{length, getD, take, drop}
+use lib.ListN.{length, getD, drop}
 use Rattle.grid.specs.Coefficient.{sameLevels}
 use Rattle.area.specs.Records.{recordsOf, blank}
 use Rattle.area.proofs.Records.{level-in, eight-levels}
 use Rattle.area.proofs.Lookups.{same-head, other-head, same-end}
 use Rattle.area.proofs.levels_are.Statement.{statement}
 use Rattle.area.proofs.levels_are.Tie as tie
-use Rattle.area.proofs.levels_are.Reads as reads
-use Rattle.area.proofs.levels_are.Lts as lts
 
 abbrev held : List ℕ → ℕ → List ℕ
 held cells place = getD (recordsOf cells) place blank .levels

@@ -8,14 +8,12 @@ use denote.Ref.{now}
 use lib.ListN.{length, getD, drop}
 use Rattle.grid.specs.Coefficient.{sameLevels}
 use Rattle.area.specs.declared.Found.{Found}
-use Rattle.area.specs.declared.Found.the-variants.{At, Nothing}
+use Rattle.area.specs.declared.Found.the-variants.{At}
 use Rattle.area.specs.Records.{recordsOf, blank, heldIn}
 use Rattle.area.specs.Lookup.{foundFrom, foundIn}
 use Rattle.area.proofs.Lookups.{found-head, found-end}
 use Rattle.area.proofs.lookup.Statement.{statement}
 use Rattle.area.proofs.lookup.Tie as tie
-use Rattle.area.proofs.lookup.Reads as reads
-use Rattle.area.proofs.lookup.Lts as lts
 
 abbrev Inv-loop : tie.InvT-loop
 Inv-loop cells held levels place₀ place =

@@ -2,10 +2,9 @@ use lib.Seq.{sets, take-all}
 use Rattle.area.proofs.Slices.{sets-step}
 use borrow.Author.Needs.{needs}
 use native.Mathlib.Omega.{arith}
-use mathlib.Core.Path.{_≡_, refl, ap, sym, _∙_}
-use mathlib.Core.List.{List, _++_, append-nil}
-use Prim.Native.Nat.{ℕ, _≤_, _<_, _*_, _-_, _+_}
-use lib.ListN.{length, take, drop, set, getD, replicate, length-set}
+use mathlib.Core.Path.{_≡_, refl, _∙_}
+use Prim.Native.Nat.{_≤_, _-_}
+use lib.ListN.{length, take, length-set}
 use denote.Ref.{now}
 use Rattle.area.proofs.put_eight.Statement.{statement}
 use Rattle.area.proofs.put_eight.Tie as tie

@@ -1,10 +1,9 @@
 use Rattle.area.proofs.Slices.{gather-suc}
-use borrow.Author.Needs.{needs}
 use native.Mathlib.Omega.{arith}
-use mathlib.Core.Path.{_≡_, refl, ap, sym, _∙_}
-use mathlib.Core.List.{List, _++_, append-nil}
-use Prim.Native.Nat.{ℕ, _≤_, _<_, _*_, _-_, _+_}
-use lib.ListN.{length, take, drop, set, getD, replicate, length-set}
+use mathlib.Core.Path.{_≡_, refl, _∙_}
+use mathlib.Core.List.{_++_, append-nil}
+use Prim.Native.Nat.{_≤_, _-_, _+_}
+use lib.ListN.{take, drop, replicate}
 use denote.Ref.{now}
 use Rattle.area.proofs.sixteen_at.Statement.{statement}
 use Rattle.area.proofs.sixteen_at.Tie as tie

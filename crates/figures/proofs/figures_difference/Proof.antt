@@ -1,18 +1,14 @@
 -- `figures::figures_difference` meets its contract: the levels that were read are those of the record. Assumes nothing.
 use borrow.Author.Needs.{needs, sfits-of}
-use mathlib.Core.Path.{_≡_, sym, ap, _∙_, subst}
+use mathlib.Core.Path.{sym, ap, _∙_, subst}
 use denote.Ref.{now}
 use Rattle.sums.proofs.Words.{back}
 use Rattle.grid.specs.Difference.{scaledDifference}
 use Rattle.area.specs.Records.{recordsOf}
-use Rattle.area.proofs.levels_at.Reads as levels-at-reads
 use Rattle.quadrature.specs.Readings.{fetched}
 use Rattle.quadrature.specs.Ready.{Ready}
-use Rattle.quadrature.proofs.scaled_difference.Reads as scaled-difference-reads
 use Rattle.figures.proofs.figures_difference.Statement.{statement}
 use Rattle.figures.proofs.figures_difference.Tie as tie
-use Rattle.figures.proofs.figures_difference.Reads as reads
-use Rattle.figures.proofs.figures_difference.Lts as lts
 
 levels-at-requires : tie.Need-levels-at-requires
 levels-at-requires c κs = search needs

@@ -1,18 +1,14 @@
 -- `figures::figures_tensor_rule` meets its contract: the levels that were read are those of the record. Assumes nothing.
 use borrow.Author.Needs.{needs, sfits-of}
-use mathlib.Core.Path.{_≡_, sym, ap, _∙_, subst}
+use mathlib.Core.Path.{sym, ap, _∙_, subst}
 use denote.Ref.{now}
 use Rattle.sums.proofs.Words.{back}
 use Rattle.grid.specs.Tensor.{tensorRule}
 use Rattle.area.specs.Records.{recordsOf}
-use Rattle.area.proofs.levels_at.Reads as levels-at-reads
 use Rattle.quadrature.specs.Readings.{fetched}
 use Rattle.quadrature.specs.Ready.{Ready}
-use Rattle.quadrature.proofs.tensor_rule.Reads as tensor-rule-reads
 use Rattle.figures.proofs.figures_tensor_rule.Statement.{statement}
 use Rattle.figures.proofs.figures_tensor_rule.Tie as tie
-use Rattle.figures.proofs.figures_tensor_rule.Reads as reads
-use Rattle.figures.proofs.figures_tensor_rule.Lts as lts
 
 levels-at-requires : tie.Need-levels-at-requires
 levels-at-requires c κs = search needs

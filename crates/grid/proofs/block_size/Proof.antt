@@ -1,7 +1,7 @@
 -- `grid::block_size` meets its contract: the size so far times the size over the axes left is the whole size, which is at most
 -- 4,096 within the ceilings. Assumes nothing.
 use borrow.Author.Needs.{needs}
-use mathlib.Core.Path.{_≡_, refl, sym, ap, _∙_}
+use mathlib.Core.Path.{_≡_, sym, ap, _∙_}
 use mathlib.Core.List.{List}
 use Prim.Native.Nat.{ℕ, _+_, _*_, _-_, _≤_, _<_}
 use native.Mathlib.Nat as NatL
@@ -14,8 +14,6 @@ use Rattle.grid.specs.Block.{blockSize}
 use Rattle.grid.proofs.Turns.{size-step, size-done, size-small, size-left-pos, factor-le}
 use Rattle.grid.proofs.block_size.Statement.{statement}
 use Rattle.grid.proofs.block_size.Tie as tie
-use Rattle.grid.proofs.block_size.Reads as reads
-use Rattle.grid.proofs.block_size.Lts as lts
 
 abbrev Inv-loop : tie.InvT-loop
 Inv-loop levels size₀ axis₀ size axis = (axis ≤ 8) × (length levels ≡ 8) × (blockSize levels ≡ size * blockSize (drop axis levels))

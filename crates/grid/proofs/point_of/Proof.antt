@@ -5,7 +5,7 @@ use mathlib.Core.Path.{_≡_, refl, sym, ap, ap₂, _∙_, subst}
 use mathlib.Core.List.{List, _∷_, _++_, append-nil}
 use Prim.Native.Nat.{ℕ, _+_, _-_, _*_, _/_, _%_, _≤_, _<_}
 use native.Mathlib.Omega.{arith}
-use lib.ListN.{length, getD, take, drop, set, length-set}
+use lib.ListN.{length, take, drop, set, length-set}
 use lib.Seq.{take-all}
 use Rattle.rule.specs.Points.{newCount, newPoint}
 use Rattle.grid.specs.Index.{level, Within}
@@ -14,8 +14,6 @@ use Rattle.grid.proofs.Blocks.{high-digit, low-digit}
 use Rattle.grid.proofs.Turns.{size-step, size-left-pos, count-pos, count-out, point-step, point-done, store-next}
 use Rattle.grid.proofs.point_of.Statement.{statement}
 use Rattle.grid.proofs.point_of.Tie as tie
-use Rattle.grid.proofs.point_of.Reads as reads
-use Rattle.grid.proofs.point_of.Lts as lts
 
 abbrev Inv-loop : tie.InvT-loop
 Inv-loop n levels point₀ left₀ size₀ axis₀ point left size axis =

@@ -1,20 +1,17 @@
 -- `grid::raised_on` meets its contract: the axes passed are raised where marked, and the axes left are as they came.
 -- Assumes nothing.
 use borrow.Author.Needs.{needs}
-use mathlib.Core.Path.{_≡_, refl, sym, ap, _∙_}
-use mathlib.Core.List.{List}
+use mathlib.Core.Path.{_≡_, refl, sym, _∙_}
 use mathlib.Core.Logic.{⊎-elim}
-use Prim.Native.Nat.{ℕ, _+_, _-_, _/_, _^_, _≤_, _<_}
+use Prim.Native.Nat.{ℕ, _+_, _-_, _≤_}
 use native.Mathlib.Omega.{arith}
-use lib.ListN.{length, getD, set, length-set}
+use lib.ListN.{length, length-set}
 use lib.Seq.{getD-set-other}
 use Rattle.grid.specs.Index.{level}
 use Rattle.grid.specs.Coefficient.{raisedOn, marks}
 use Rattle.grid.proofs.Turns.{raising, raising-start, raising-in, raising-out, raising-done}
 use Rattle.grid.proofs.raised_on.Statement.{statement}
 use Rattle.grid.proofs.raised_on.Tie as tie
-use Rattle.grid.proofs.raised_on.Reads as reads
-use Rattle.grid.proofs.raised_on.Lts as lts
 
 abbrev Inv-loop : tie.InvT-loop
 Inv-loop mask levels axis₀ raised axis =

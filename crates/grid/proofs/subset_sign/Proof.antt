@@ -1,6 +1,6 @@
 -- `grid::subset_sign` meets its contract: the sign of the marks left, turned where the marks passed are odd in number, is the
 -- whole sign. Assumes nothing.
-use mathlib.Core.Path.{_≡_, refl, sym, ap, _∙_}
+use mathlib.Core.Path.{_≡_, sym, ap, _∙_}
 use mathlib.Core.Bool.{Bool, true, false}
 use mathlib.Core.Logic.{⊎-elim}
 use Prim.Native.Nat.{ℕ, _+_, _-_, _/_, _^_, _≤_}
@@ -10,8 +10,6 @@ use Rattle.grid.specs.Coefficient.{sign, marks}
 use Rattle.grid.proofs.Turns.{turned, sign-start, sign-in, sign-out, sign-done}
 use Rattle.grid.proofs.subset_sign.Statement.{statement}
 use Rattle.grid.proofs.subset_sign.Tie as tie
-use Rattle.grid.proofs.subset_sign.Reads as reads
-use Rattle.grid.proofs.subset_sign.Lts as lts
 
 abbrev Inv-loop : tie.InvT-loop
 Inv-loop mask odd₀ axis₀ odd axis = (axis ≤ 8) × (sign (marks 8 mask) ≡ turned odd (sign (marks (8 - axis) (mask / 2 ^ axis))))

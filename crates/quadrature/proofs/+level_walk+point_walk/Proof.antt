@@ -3,15 +3,15 @@
 -- What a call adds up is a part of the difference, of size at most 2^40, so each sum fits.
 -- Assumes nothing.
 use borrow.Author.Needs.{needs, sfits-of}
-use mathlib.Core.Path.{_≡_, refl, sym, ap, ap₂, _∙_, subst}
+use mathlib.Core.Path.{_≡_, sym, ap, ap₂, _∙_, subst}
 use mathlib.Core.List.{List, [], _∷_, _++_}
-use Prim.Native.Nat.{ℕ, suc, _+_, _*_, _-_, _^_, _<_, _≤_}
+use Prim.Native.Nat.{ℕ, _+_, _*_, _-_, _^_, _<_, _≤_}
 use native.Mathlib.Omega.{arith}
-use lib.IntN.{ℤ, pos, natAbs, _+ℤ_, _*ℤ_}
-use lib.ListN.{length, getD, take, drop}
+use lib.IntN.{ℤ, natAbs, _+ℤ_, _*ℤ_}
+use lib.ListN.{length, take, drop}
 use mir.Syntax.{w64}
 use mir.Val.{toZ, ofZ}
-use Rattle.sums.proofs.Words.{back, back-small, sum-fits, sum-is, product-fits, product-is}
+use Rattle.sums.proofs.Words.{back, sum-fits, sum-is, product-fits, product-is}
 use Rattle.rule.specs.Points.{newCount}
 use Rattle.rule.specs.Weights.{differenceWeight}
 use Rattle.grid.specs.Index.{level, forward}
@@ -24,7 +24,7 @@ use Rattle.area.specs.Records.{recordsOf}
 use Rattle.area.proofs.Records.{length-recordsOf}
 use Rattle.quadrature.specs.Readings.{recordAt, placeIn, fetched}
 use Rattle.quadrature.specs.Ready.{Ready, Stands}
-use Rattle.quadrature.specs.Parts.{left, leftAt, pointsLeft, levelsLeft, walkLeft}
+use Rattle.quadrature.specs.Parts.{left, leftAt, pointsLeft, walkLeft}
 use Rattle.quadrature.proofs.Walks.{behind-left, walk-behind, walk-all, walk-ones}
 use Rattle.quadrature.proofs.Standing.{place-in, stands-higher, level-higher, left-higher, link-is, take-next, stands-further, left-range, target-ones, left-one, reading-in, reading-range, rank-in}
 use Rattle.quadrature.proofs.Steps.{axis-of, count-small, room-points, room-weight, room-below, room-alone, level-adds, level-last, level-size, point-adds, points-done, points-bound}

@@ -1,30 +1,25 @@
 -- `quadrature::coefficient` meets its contract: the masks passed have given their terms, and the masks of the job's axes are all.
 -- Assumes nothing.
-use borrow.Author.Needs.{needs, sfits-of}
-use mathlib.Core.Path.{_≡_, refl, sym, ap, ap₂, _∙_, subst}
+use borrow.Author.Needs.{sfits-of}
+use mathlib.Core.Path.{_≡_, refl, sym, ap, _∙_}
 use mathlib.Core.List.{List}
-use Prim.Native.Nat.{ℕ, suc, _+_, _*_, _-_, _%_, _^_, _≤_, _<_}
-use native.Mathlib.Nat as NatL
+use Prim.Native.Nat.{ℕ, _+_, _*_, _-_, _^_, _≤_, _<_}
 use native.Mathlib.Omega.{arith}
 use denote.Ref.{now}
-use lib.IntN.{ℤ, pos, natAbs, _+ℤ_}
+use lib.IntN.{ℤ, natAbs}
 use lib.ListN.{length}
 use lib.Pow.{pow-mono}
 use mir.Syntax.{w64}
 use mir.Val.{toZ}
 use Rattle.sums.specs.Sums.{sumTo}
-use Rattle.area.specs.declared.IndexRecord.{IndexRecord}
 use Rattle.area.specs.Records.{heldIn}
 use Rattle.quadrature.specs.Readings.{recordAt}
-use Rattle.quadrature.specs.Linked.{subsetTerm, Linked}
+use Rattle.quadrature.specs.Linked.{subsetTerm}
 use Rattle.quadrature.proofs.Held.{held-length}
 use Rattle.quadrature.proofs.Running.{running-fits, running-is, running-size}
 use Rattle.quadrature.proofs.Subsets.{term-size, coefficient-masks}
 use Rattle.quadrature.proofs.coefficient.Statement.{statement}
 use Rattle.quadrature.proofs.coefficient.Tie as tie
-use Rattle.quadrature.proofs.coefficient.Reads as reads
-use Rattle.quadrature.proofs.coefficient.Lts as lts
-use Rattle.quadrature.proofs.subset_term.Reads as subset-term-reads
 
 abbrev term : List ℕ → ℕ → ℕ → ℕ → ℤ
 term cells held place = subsetTerm (heldIn cells held) (recordAt (heldIn cells held) place .levels)

@@ -1,13 +1,12 @@
 -- `quadrature::delivered_difference` meets its contract: by the state that was read. Assumes nothing.
 use borrow.Author.Needs.{sfits-of}
 use borrow.Author.Tests.{le-leb, lt-leb}
-use mathlib.Core.Path.{_≡_, refl, sym, ap, _∙_, subst}
+use mathlib.Core.Path.{_≡_, sym, ap, _∙_, subst}
 use mathlib.Core.List.{List}
-use Prim.Native.Nat.{ℕ, _+_, _*_, _/_, _^_, _≤_, _<_}
+use Prim.Native.Nat.{ℕ, _≤_}
 use native.Mathlib.Omega.{arith}
 use denote.Ref.{now}
 use lib.IntN.{ℤ, pos, natAbs}
-use lib.ListN.{length}
 use Rattle.sums.proofs.Words.{back}
 use Rattle.grid.specs.Difference.{scaledDifference}
 use Rattle.area.specs.declared.IndexRecord.{IndexRecord}
@@ -18,11 +17,6 @@ use Rattle.quadrature.specs.Ready.{Ready}
 use Rattle.quadrature.specs.Parts.{deliveredDifference}
 use Rattle.quadrature.proofs.delivered_difference.Statement.{statement}
 use Rattle.quadrature.proofs.delivered_difference.Tie as tie
-use Rattle.quadrature.proofs.delivered_difference.Reads as reads
-use Rattle.quadrature.proofs.delivered_difference.Lts as lts
-use Rattle.area.proofs.levels_at.Reads as levels-at-reads
-use Rattle.area.proofs.state_at.Reads as state-at-reads
-use Rattle.quadrature.proofs.scaled_difference.Reads as scaled-difference-reads
 
 module _ (rs : List IndexRecord) (store : List ℤ) (p : ℕ) where
   wanted-zero : recordAt rs p .state ≡ 0 → deliveredDifference rs store p ≡ pos 0

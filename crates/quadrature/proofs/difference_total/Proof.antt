@@ -1,26 +1,19 @@
 -- `quadrature::difference_total` meets its contract: the places passed have added their differences. Assumes nothing.
 use borrow.Author.Needs.{sfits-of}
 use mathlib.Core.Path.{_≡_, refl, sym, ap, _∙_}
-use mathlib.Core.List.{List}
-use Prim.Native.Nat.{ℕ, _+_, _*_, _-_, _^_, _≤_, _<_}
+use Prim.Native.Nat.{_+_, _*_, _-_, _^_, _≤_}
 use native.Mathlib.Omega.{arith}
 use denote.Ref.{now}
-use lib.IntN.{ℤ, natAbs}
-use lib.ListN.{length}
+use lib.IntN.{natAbs}
 use mir.Syntax.{w64}
 use mir.Val.{toZ}
 use Rattle.sums.specs.Sums.{sumTo}
 use Rattle.area.specs.Records.{recordsOf, heldIn}
-use Rattle.quadrature.specs.Readings.{recordAt}
-use Rattle.quadrature.specs.Ready.{AllReady}
 use Rattle.quadrature.specs.Parts.{deliveredDifference}
 use Rattle.quadrature.proofs.Running.{running-fits, running-is, running-size}
 use Rattle.quadrature.proofs.Totals.{mean-places}
 use Rattle.quadrature.proofs.difference_total.Statement.{statement}
 use Rattle.quadrature.proofs.difference_total.Tie as tie
-use Rattle.quadrature.proofs.difference_total.Reads as reads
-use Rattle.quadrature.proofs.difference_total.Lts as lts
-use Rattle.quadrature.proofs.delivered_difference.Reads as delivered-difference-reads
 
 abbrev Inv-loop : tie.InvT-loop
 Inv-loop axes held cells store total₀ place₀ total place =

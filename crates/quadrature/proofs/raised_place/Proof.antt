@@ -1,31 +1,23 @@
 -- `quadrature::raised_place` meets its contract: the axes passed are raised where marked, and where a link names no held place the
 -- raised index is not held. Assumes nothing.
 use borrow.Author.Needs.{needs}
-use mathlib.Core.Path.{_≡_, refl, sym, ap, _∙_, subst}
+use mathlib.Core.Path.{_≡_, sym, ap, _∙_}
 use mathlib.Core.Logic.{⊎-elim}
 use mathlib.Core.List.{List}
-use Prim.Native.Nat.{ℕ, _+_, _*_, _-_, _/_, _^_, _≤_, _<_}
-use native.Mathlib.Nat as NatL
+use Prim.Native.Nat.{ℕ, _*_, _-_, _≤_, _<_}
 use native.Mathlib.Omega.{arith}
 use denote.Ref.{now}
-use lib.ListN.{length, getD, take}
-use lib.Seq.{getD-take, length-take-le}
+use lib.ListN.{length, getD}
 use Rattle.grid.specs.Coefficient.{raisedOn, marks}
 use Rattle.grid.proofs.Turns.{raising, raising-start, raising-out}
-use Rattle.area.specs.Records.{recordsOf, heldIn, blank}
-use Rattle.area.specs.declared.IndexRecord.{IndexRecord}
-use Rattle.area.specs.declared.Found.the-variants.{At, Nothing}
+use Rattle.area.specs.Records.{recordsOf, heldIn}
+use Rattle.area.specs.declared.Found.the-variants.{At}
 use Rattle.area.specs.Lookup.{foundIn}
-use Rattle.area.proofs.Records.{length-recordsOf}
 use Rattle.quadrature.specs.Readings.{recordAt, placeIn}
-use Rattle.quadrature.specs.Linked.{Linked}
 use Rattle.quadrature.proofs.Raised.{step-held, step-none, raising-end, found-place}
 use Rattle.quadrature.proofs.Held.{held-length, held-record}
 use Rattle.quadrature.proofs.raised_place.Statement.{statement}
 use Rattle.quadrature.proofs.raised_place.Tie as tie
-use Rattle.quadrature.proofs.raised_place.Reads as reads
-use Rattle.quadrature.proofs.raised_place.Lts as lts
-use Rattle.area.proofs.link_at.Reads as link-at-reads
 
 abbrev levels : List ℕ → ℕ → ℕ → List ℕ
 levels cells held p = recordAt (heldIn cells held) p .levels

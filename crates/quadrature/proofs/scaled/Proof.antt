@@ -1,7 +1,7 @@
 -- `quadrature::scaled` meets its contract: the shift is the power of two that the units leave to 20. Assumes nothing.
 use borrow.Author.Needs.{needs}
-use mathlib.Core.Path.{_≡_, refl, sym, ap, _∙_}
-use Prim.Native.Nat.{ℕ, _-_, _^_, _≤_}
+use mathlib.Core.Path.{ap}
+use Prim.Native.Nat.{_-_, _^_, _≤_}
 use native.Mathlib.Omega.{arith}
 use lib.IntN.{pos, _*ℤ_}
 use Rattle.quadrature.proofs.Shifts.{shift-fits, scaled-fits, scaled-is}

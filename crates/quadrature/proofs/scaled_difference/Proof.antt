@@ -1,34 +1,27 @@
 -- `quadrature::scaled_difference` meets its contract: the walk from the root is the difference, and the shift makes it whole.
 -- Assumes nothing.
-use borrow.Author.Needs.{needs, sfits-of}
+use borrow.Author.Needs.{sfits-of}
 use mathlib.Core.Path.{_≡_, sym, ap, _∙_, subst}
-use mathlib.Core.List.{List, []}
-use Prim.Native.Nat.{ℕ, _+_, _*_, _-_, _^_, _≤_, _<_}
-use native.Mathlib.Nat as NatL
+use mathlib.Core.List.{List}
+use Prim.Native.Nat.{ℕ, _*_, _-_, _^_, _≤_}
 use native.Mathlib.Omega.{arith}
-use denote.Ref.{now}
 use lib.IntN.{ℤ, pos, natAbs, _*ℤ_}
-use lib.ListN.{length, getD, take, drop}
 use lib.Pow.{pow-mono}
 use Rattle.sums.proofs.Ring.{one-*ℤ}
 use Rattle.sums.proofs.Words.{back}
-use Rattle.grid.specs.Index.{level, Within}
-use Rattle.grid.specs.Difference.{units, scaledDifference, differenceSum, differenceWalk}
+use Rattle.grid.specs.Difference.{units, scaledDifference, differenceWalk}
 use Rattle.grid.proofs.Differences.{difference-size}
 use Rattle.grid.proofs.Levels.{units-small}
 use Rattle.grid.proofs.Rules.{difference-walk}
 use Rattle.area.specs.declared.IndexRecord.{IndexRecord}
-use Rattle.area.specs.Records.{recordsOf}
-use Rattle.quadrature.specs.Readings.{recordAt, fetched}
-use Rattle.quadrature.specs.Ready.{Ready, Stands}
-use Rattle.quadrature.specs.Parts.{left, leftAt, walkLeft}
+use Rattle.quadrature.specs.Readings.{fetched}
+use Rattle.quadrature.specs.Ready.{Ready}
+use Rattle.quadrature.specs.Parts.{leftAt, walkLeft}
 use Rattle.quadrature.proofs.Shifts.{left-all}
 use Rattle.quadrature.proofs.Standing.{stands-start, first-level}
 use Rattle.quadrature.proofs.Walks.{walk-all}
 use Rattle.quadrature.proofs.scaled_difference.Statement.{statement}
 use Rattle.quadrature.proofs.scaled_difference.Tie as tie
-use Rattle.quadrature.proofs.scaled_difference.Reads as reads
-use Rattle.quadrature.proofs.scaled_difference.Lts as lts
 
 module _ {d : ℕ} {rs : List IndexRecord} {s : List ℤ} {k : List ℕ} (ready : Ready d rs s k) where
   units-in : units k ≤ 20

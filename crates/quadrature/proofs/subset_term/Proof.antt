@@ -1,31 +1,25 @@
 -- `quadrature::subset_term` meets its contract: the raised index is found or not, and delivered or wanted. Assumes nothing.
 use borrow.Author.Needs.{needs, sfits-of}
-use mathlib.Core.Path.{_≡_, refl, sym, ap, _∙_, subst}
-use mathlib.Core.Bool.{true, false, cond}
+use mathlib.Core.Path.{_≡_, sym, ap, _∙_}
 use mathlib.Core.List.{List}
-use Prim.Native.Nat.{ℕ, _+_, _*_, _≤_, _<_}
+use Prim.Native.Nat.{ℕ, _*_, _≤_, _<_}
 use native.Mathlib.Omega.{arith}
 use denote.Ref.{now}
-use lib.IntN.{ℤ, pos}
+use lib.IntN.{pos}
 use lib.ListN.{length}
 use Rattle.sums.proofs.Words.{back}
-use Rattle.grid.specs.Coefficient.{isIn, sign, raisedOn, marks}
+use Rattle.grid.specs.Coefficient.{sign, raisedOn, marks}
 use Rattle.area.specs.declared.IndexRecord.{IndexRecord}
 use Rattle.area.specs.declared.Found.the-variants.{At, Nothing}
 use Rattle.area.specs.Records.{recordsOf, heldIn}
 use Rattle.area.specs.Lookup.{foundIn}
 use Rattle.quadrature.specs.Readings.{recordAt, placeIn}
-use Rattle.quadrature.specs.Linked.{deliveredIn, subsetTerm, Linked}
+use Rattle.quadrature.specs.Linked.{subsetTerm, Linked}
 use Rattle.quadrature.proofs.Raised.{found-at, found-none}
 use Rattle.quadrature.proofs.Delivered.{in-delivered, out-wanted, out-absent}
 use Rattle.quadrature.proofs.Held.{held-length, held-record}
 use Rattle.quadrature.proofs.subset_term.Statement.{statement}
 use Rattle.quadrature.proofs.subset_term.Tie as tie
-use Rattle.quadrature.proofs.subset_term.Reads as reads
-use Rattle.quadrature.proofs.subset_term.Lts as lts
-use Rattle.area.proofs.state_at.Reads as state-at-reads
-use Rattle.grid.proofs.subset_sign.Reads as subset-sign-reads
-use Rattle.quadrature.proofs.raised_place.Reads as raised-place-reads
 
 module _ (axes : ℕ) (cells : List ℕ) (held place mask : ℕ) (linked : Linked axes (heldIn cells held)) (room : held * 27 ≤ length cells) where
   abbrev rs : List IndexRecord

@@ -1,6 +1,6 @@
 -- `quadrature::tensor_rule` meets its contract: the sum from the root is the full tensor rule, and the shift makes it whole.
 -- Assumes nothing.
-use borrow.Author.Needs.{needs, sfits-of}
+use borrow.Author.Needs.{sfits-of}
 use mathlib.Core.Path.{_≡_, sym, ap, _∙_, subst}
 use mathlib.Core.List.{List}
 use Prim.Native.Nat.{ℕ, _-_, _^_, _≤_}

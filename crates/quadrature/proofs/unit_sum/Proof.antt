@@ -1,19 +1,17 @@
 -- `quadrature::unit_sum` meets its contract: the units so far and those of the axes left are the whole. Assumes nothing.
 use borrow.Author.Needs.{needs}
-use mathlib.Core.Path.{_≡_, refl, sym, ap, _∙_}
+use mathlib.Core.Path.{_≡_, refl}
 use mathlib.Core.Logic.{⊎-elim}
 use mathlib.Core.List.{List}
 use Prim.Native.Nat.{ℕ, zero, suc, _+_, _*_, _-_, _≤_, _<_}
 use native.Mathlib.Omega.{arith}
-use lib.ListN.{length, getD, drop}
+use lib.ListN.{length, drop}
 use Rattle.rule.specs.Rules.{unit}
 use Rattle.grid.specs.Index.{level}
 use Rattle.grid.specs.Difference.{units}
 use Rattle.grid.proofs.Turns.{axis-left, none-left}
 use Rattle.quadrature.proofs.unit_sum.Statement.{statement}
 use Rattle.quadrature.proofs.unit_sum.Tie as tie
-use Rattle.quadrature.proofs.unit_sum.Reads as reads
-use Rattle.quadrature.proofs.unit_sum.Lts as lts
 
 abbrev Inv-loop : tie.InvT-loop
 Inv-loop target units₀ axis₀ sum axis = (axis ≤ 8) × (length target ≡ 8) × (sum ≤ 8 * axis) × (units target ≡ sum + units (drop axis target))

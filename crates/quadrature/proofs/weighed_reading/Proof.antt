@@ -1,7 +1,7 @@
 -- `quadrature::weighed_reading` meets its contract: a reading of size at most 2^20 times such a weight fits. Assumes nothing.
 use borrow.Author.Needs.{needs}
-use mathlib.Core.Path.{_≡_, refl, sym, ap, ap₂, _∙_, subst}
-use Prim.Native.Nat.{ℕ, _+_, _*_, _^_, _≤_, _<_}
+use mathlib.Core.Path.{_≡_, sym, ap, _∙_, subst}
+use Prim.Native.Nat.{_+_, _*_, _^_, _≤_, _<_}
 use native.Mathlib.Nat.{le-trans, le-of-eq, mul-le-mul}
 use native.Mathlib.Omega.{arith}
 use denote.Ref.{now}
@@ -12,14 +12,9 @@ use mir.Val.{SFits, toZ, ofZ}
 use mir.Facts.{toZ-ofZ}
 use Rattle.sums.proofs.Sizes.{abs-mul}
 use Rattle.sums.proofs.Words.{small-fits, reading-fits, back, back-small}
-use Rattle.area.specs.Records.{recordsOf}
 use Rattle.area.proofs.Records.{length-recordsOf}
-use Rattle.quadrature.specs.Readings.{recordAt}
 use Rattle.quadrature.proofs.weighed_reading.Statement.{statement}
 use Rattle.quadrature.proofs.weighed_reading.Tie as tie
-use Rattle.quadrature.proofs.weighed_reading.Reads as reads
-use Rattle.quadrature.proofs.weighed_reading.Lts as lts
-use Rattle.area.proofs.first_at.Reads as first-at-reads
 
 -- a reading as 64 bits
 cast-ok : (x : ℤ) → natAbs x ≤ 2 ^ 20 → SFits w64 (toZ w32 (ofZ w32 x))

@@ -3,7 +3,7 @@
 use borrow.Author.Needs.{needs}
 use mathlib.Core.Path.{sym, _∙_}
 use native.Mathlib.Omega.{arith}
-use Rattle.rule.proofs.Cases.{count-two, point-one, point-two, point-more, shift-odd, odd-small, number-small}
+use Rattle.rule.proofs.Cases.{count-two, point-one, point-two, point-more, shift-odd, number-small}
 use Rattle.rule.proofs.new_point.Statement.{statement}
 use Rattle.rule.proofs.new_point.Tie as tie
 
