@@ -2,8 +2,8 @@
 
 use reference::area::WORDS;
 
-/// The exported functions. Each asks for a sound area, so nothing here may
-/// hand them another.
+/// The exported functions. Each asks for what a sound area gives, so nothing
+/// here may hand them anything else.
 pub mod proved {
     #[allow(improper_ctypes)]
     extern "C" {

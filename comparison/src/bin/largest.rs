@@ -10,7 +10,8 @@ use reference::{calls, sums};
 const AXES: usize = 6;
 const TARGET: Levels = [2, 2, 2, 2, 2, 6, 1, 1];
 
-/// Every index nowhere higher than the target, all old, the root first.
+/// Every index nowhere higher than the target, all old, the root first: as
+/// much of an area as the difference asks for.
 fn area() -> Area {
     let mut indices = Vec::new();
     grid::for_each_nowhere_higher(AXES, &TARGET, |index| indices.push(*index));

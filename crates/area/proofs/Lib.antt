@@ -2,3 +2,5 @@
 pub mod Slices
 pub mod Records
 pub mod Lookups
+pub mod Founds
+pub mod Facts

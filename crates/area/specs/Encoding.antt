@@ -55,7 +55,8 @@ placeFrom p (l ∷ ls) k = cond (sameLevels l k) p (placeFrom (p + 1) ls k)
 unfoldable pub placeOf : List (List ℕ) → List ℕ → ℕ
 placeOf ls k = placeFrom 0 ls k
 
--- Sixteen links: the places of the forward neighbours along axes 1 to 8, then of the backward neighbours.
+-- Sixteen links: the places of the forward neighbours along axes 1 to 8, then of the backward neighbours. Lowered at level 1 the
+-- list has a level 0, which no index has, so there the link is none.
 unfoldable pub linksOf : List (List ℕ) → List ℕ → List ℕ
 linksOf ls k = tab 8 (λ a. placeOf ls (forward k a)) ++ tab 8 (λ a. placeOf ls (backward k a))
 

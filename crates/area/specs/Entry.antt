@@ -1,4 +1,4 @@
--- The entries of the scope document's log: each held index with its state, indicator and readings.
+-- Entries, as the log has them and as an area holds them: each held index with its state, indicator and readings.
 use mathlib.Core.Bool.{cond}
 use mathlib.Core.List.{List, [], _∷_, map}
 use Prim.Native.Nat.{ℕ, _+_}
@@ -9,7 +9,7 @@ use Rattle.grid.specs.Block.{blockSize}
 use Rattle.grid.specs.Difference.{Readings}
 use Rattle.grid.specs.Coefficient.{sameLevels}
 
--- A held index is *wanted* (0), *active* (1) or *old* (2); *delivered* means active or old.
+-- A held index is *wanted* (0), *active* (1) or *old* (2); *delivered* means active or old. A state above 2 occurs in no sound area.
 pub record Entry : Type 0 where
   pub levels : List ℕ
   pub state : ℕ

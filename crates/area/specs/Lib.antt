@@ -3,3 +3,4 @@ pub mod Records
 pub mod Lookup
 pub mod Entry
 pub mod Encoding
+pub mod Facts

@@ -1,11 +1,11 @@
--- The records that a lent slice of cells holds. A record is 27 words: levels of axes 1 to 8; state; indicator; first reading;
+-- The records that a lent slice of cells holds; a cell is one 32-bit word. A record is 27 cells: levels of axes 1 to 8; state; indicator; first reading;
 -- forward links of axes 1 to 8; backward links of axes 1 to 8.
 use mathlib.Core.List.{List, [], _∷_, map}
 use Prim.Native.Nat.{ℕ, zero, suc, _*_, _/_}
 use lib.ListN.{length, getD, set, take, drop}
 use Rattle.area.specs.declared.IndexRecord.{IndexRecord}
 
--- The record that 27 words hold.
+-- The record that 27 cells hold.
 unfoldable pub recordOf : List ℕ → IndexRecord
 recordOf c = record { levels = take 8 c; state = getD c 8 0; indicator = getD c 9 0; first = getD c 10 0; links = take 16 (drop 11 c) }
 
@@ -18,7 +18,8 @@ records (suc n) c = recordOf c ∷ records n (drop 27 c)
 unfoldable pub recordsOf : List ℕ → List IndexRecord
 recordsOf c = records (length c / 27) c
 
--- What a lent slice of cells is: its records, and the words past the last whole one. Nothing else is in the cells.
+-- What a lent slice of cells is: its records, and the cells past the last whole one. Nothing else is in the cells: that these
+-- determine them is a fact (`RunFacts`).
 pub record Run : Type 0 where
   pub records : List IndexRecord
   pub rest : List ℕ

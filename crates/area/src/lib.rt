@@ -9,7 +9,7 @@ ghost use Rattle.grid.specs.Coefficient.{sameLevels};
 ghost use Rattle.area.specs.Records.{recordsOf, runOf, stored, blank, heldIn};
 ghost use Rattle.area.specs.Lookup.{foundIn};
 
-// The place of a neighbour that is not held.
+// The link to a neighbour that is not held.
 pub const NONE: u32 = 4294967295;
 
 pub const WANTED: u32 = 0;
@@ -165,6 +165,7 @@ pub fn lookup(cells: &[u32], held: usize, levels: [u32; 8]) -> Found
     Found::Nothing
 }
 
+// Writes eight cells in a row; the others stay.
 fn put_eight(cells: &mut [u32], at: usize, list: [u32; 8])
     requires { ⌜ at + 8 ≤ length (now cells) ⌝ }
     ensures { λ r. ⌜ now (cells .exit) ≡ sets (now (cells .entry)) at list ⌝ }
@@ -176,6 +177,7 @@ fn put_eight(cells: &mut [u32], at: usize, list: [u32; 8])
     }
 }
 
+// Writes sixteen cells in a row; the others stay.
 fn put_sixteen(cells: &mut [u32], at: usize, list: [u32; 16])
     requires { ⌜ at + 16 ≤ length (now cells) ⌝ }
     ensures { λ r. ⌜ now (cells .exit) ≡ sets (now (cells .entry)) at list ⌝ }
@@ -187,7 +189,7 @@ fn put_sixteen(cells: &mut [u32], at: usize, list: [u32; 16])
     }
 }
 
-// Writes the record at a place.
+// Writes the record at a place, and changes no other cell.
 pub fn store(cells: &mut [u32], place: usize, index: IndexRecord)
     requires { ⌜ place * 27 + 27 ≤ length (now cells) ⌝ }
     ensures { λ r. ⌜ runOf (now (cells .exit)) ≡ stored (runOf (now (cells .entry))) place index ⌝ }

@@ -1,5 +1,5 @@
 // The figures of an area, exported so that a program in another language can compare them: only the comparison links them.
-// Nothing asks a caller outside for what is required here, so the comparison hands over sound areas alone.
+// Nothing asks a caller outside for what is required here, so the comparison hands over areas that meet it.
 ghost use mathlib.Core.Path.{_≡_};
 ghost use Prim.Native.Nat.{_+_, _*_, _<_, _≤_};
 ghost use lib.ListN.{length};

@@ -58,7 +58,7 @@ module _ (h : ℕ) (rs : List IndexRecord) (k : List ℕ) (found : placeIn (take
 -- an index that is ready among the held is ready among all records
 module _ {d : ℕ} (h : ℕ) (rs : List IndexRecord) {s : List ℤ} {k : List ℕ} (ready : Ready d (take h rs) s k) where
   some : (l : List ℕ) → NowhereHigher l k → placeIn (take h rs) l < none
-  some l w = below-none (ready .held l w)
+  some l w = below-none (ready .found l w)
 
   pub held-agree : Agree k (fetched rs s) (fetched (take h rs) s)
   held-agree l n w q = fetched-same h rs l (some l w) s n
@@ -71,7 +71,7 @@ module _ {d : ℕ} (h : ℕ) (rs : List IndexRecord) {s : List ℤ} {k : List �
         ceilings = ready .ceilings;
         beyond = ready .beyond;
         root-place = place-same h rs root (subst (λ p. p < none) (sym (ready .root-place)) (below-none (omega arith))) ∙ ready .root-place;
-        held = λ l w. subst (λ p. p < 512) (sym (place-same h rs l (some l w))) (ready .held l w);
+        found = λ l w. subst (λ p. p < 512) (sym (place-same h rs l (some l w))) (ready .found l w);
         delivered = λ l w. subst (λ (r : IndexRecord). 1 ≤ r .state) (sym (record-same h rs l (some l w))) (ready .delivered l w);
         room = λ l w. subst (λ (r : IndexRecord). r .first + blockSize l ≤ length s) (sym (record-same h rs l (some l w))) (ready .room l w);
         range = λ l n w q. subst IsReading (sym (held-agree l n w q)) (ready .range l n w q);
@@ -124,7 +124,7 @@ module _ {d : ℕ} {rs : List IndexRecord} {s : List ℤ} {k : List ℕ} (ready 
   pub entries-agree : Agree k (fetched rs s) (readingIn (map (entryOf s) rs))
   unfolding fetched readingIn
   entries-agree l n w q =
-      let found = below-none (ready .held l w) in
+      let found = below-none (ready .found l w) in
       sym
       (ap (λ x. getD x n (pos 0)) (readings-are s rs l found)
       ∙ entry-reading s (recordAt rs (placeIn rs l)) n (ready .delivered l w) (subst (λ m. n < blockSize m) (sym (place-levels rs l found)) q))

@@ -1,4 +1,4 @@
--- What the contracts say is said of the entries: readings that agree give the same figures.
+-- What the contracts say is said of the entries that are read from an area: readings that agree give the same figures.
 -- Assumes nothing.
 use mathlib.Core.Path.{_≡_, ap, _∙_}
 use mathlib.Core.List.{List, List·Memᴰ}
@@ -7,7 +7,6 @@ use lib.IntN.{ℤ}
 use lib.ListN.{take}
 use Rattle.sums.proofs.Sums.{sumOf-cong-in}
 use Rattle.grid.specs.Difference.{scaledDifference, scaledMean}
-use Rattle.grid.specs.Coefficient.{coefficient}
 use Rattle.grid.specs.Terms.{Agree}
 use Rattle.grid.proofs.Facts.{difference-facts}
 use Rattle.area.specs.declared.JobRecord.{JobRecord}
@@ -17,7 +16,7 @@ use Rattle.area.specs.Encoding.{areaOf, entriesOf}
 use Rattle.quadrature.specs.Readings.{fetched}
 use Rattle.quadrature.specs.Ready.{Ready}
 use Rattle.quadrature.specs.Linked.{deliveredIn}
-use Rattle.quadrature.specs.Facts.{EncodedFacts}
+use Rattle.quadrature.specs.Facts.{EntryFacts}
 use Rattle.quadrature.proofs.Encoded.{held-ready, held-agree, entries-agree, delivered-same}
 
 module _ (j : JobRecord) (c : List ℕ) (s : List ℤ) where
@@ -46,12 +45,12 @@ module _ (j : JobRecord) (c : List ℕ) (s : List ℤ) where
       sumOf-cong-in (deliveredIn (heldIn c (j .held))) (λ k. scaledDifference k (fetched (recordsOf c) s)) (λ k. scaledDifference k (readingIn (entriesOf (areaOf j c s)))) (λ k m. difference-same d k (w k m))
       ∙ ap (λ J. scaledMean J (readingIn (entriesOf (areaOf j c s)))) delivered-entries
 
-  pub encoded-facts : EncodedFacts j c s
-  encoded-facts =
+  pub entry-facts : EntryFacts j c s
+  entry-facts =
       record {
         ready = ready-all;
         delivered = delivered-entries;
-        coefficients = λ k. ap (λ J. coefficient J k) delivered-entries;
+        readings = agree;
         difference = difference-same;
         tensor = λ d k w. difference-facts .tensor-only k (fetched (recordsOf c) s) (readingIn (entriesOf (areaOf j c s))) (agree d k w);
         mean = mean-same;

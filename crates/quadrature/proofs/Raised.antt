@@ -2,25 +2,25 @@
 -- nothing above is held.
 -- Assumes nothing.
 use mathlib.Core.Path.{_≡_, refl, sym, ap, _∙_, subst}
-use mathlib.Core.Bool.{Bool, true, false, cond}
+use mathlib.Core.Bool.{Bool, true, false}
 use mathlib.Core.List.{List, [], _∷_, _++_}
 use Prim.Native.Nat.{ℕ, zero, suc, _+_, _-_, _/_, _^_, _<_, _≤_}
 use native.Mathlib.Decide.{decLt}
 use native.Mathlib.Nat as NatL
 use native.Mathlib.Omega.{arith}
 use borrow.Author.Tests.{le-leb, lt-leb}
-use lib.Dec.{leb}
 use lib.Bits.{bitAnd}
 use lib.ListN.{length, getD, take, drop, set, take-append-drop}
 use Rattle.grid.specs.Index.{level, forward, NowhereHigher}
-use Rattle.grid.specs.Coefficient.{sameLevels, raisedOn, marks}
+use Rattle.grid.specs.Coefficient.{raisedOn, marks}
 use Rattle.grid.proofs.Levels.{higher-cons, higher-empty}
 use Rattle.grid.proofs.Turns.{raising, raising-in}
 use Rattle.area.specs.declared.IndexRecord.{IndexRecord}
 use Rattle.area.specs.declared.Found.the-variants.{At, Nothing}
 use Rattle.area.specs.Records.{levelsOf}
-use Rattle.area.specs.Lookup.{foundFrom, foundIn}
+use Rattle.area.specs.Lookup.{foundIn}
 use Rattle.area.specs.Encoding.{none, placeFrom, placeOf}
+use Rattle.area.proofs.Founds.{found-from, place-le}
 use Rattle.quadrature.specs.Readings.{recordAt, placeIn}
 use Rattle.quadrature.specs.Linked.{Linked}
 use Rattle.quadrature.proofs.Places.{place-levels, place-inside, below-none, higher-append}
@@ -62,25 +62,6 @@ higher-self [] w = higher-empty
 higher-self (x ∷ l) w = higher-cons x x l l (w .0) (NatL.le-refl x) (higher-self l (w .1))
 
 -- ---- lookup as an answer and as a place
-
-found-from : (p : ℕ) (rs : List IndexRecord) (k : List ℕ) → p + length rs ≤ none → foundFrom p rs k ≡ cond (leb none (placeFrom p (levelsOf rs) k)) Nothing (At (placeFrom p (levelsOf rs) k))
-unfolding foundFrom placeFrom levelsOf
-found-from p [] k h = rw (le-leb none none (NatL.le-refl none))
-found-from p (r ∷ rs) k h = step (sameLevels (r .levels) k) (found-from (p + 1) rs k (omega arith))
-  where
-    step : (t : Bool) → foundFrom (p + 1) rs k ≡ cond (leb none (placeFrom (p + 1) (levelsOf rs) k)) Nothing (At (placeFrom (p + 1) (levelsOf rs) k))
-        → cond t (At p) (foundFrom (p + 1) rs k) ≡ cond (leb none (cond t p (placeFrom (p + 1) (levelsOf rs) k))) Nothing (At (cond t p (placeFrom (p + 1) (levelsOf rs) k)))
-    step true e = rw (lt-leb none p (omega arith))
-    step false e = e
-
-place-le : (p : ℕ) (rs : List IndexRecord) (k : List ℕ) → p + length rs ≤ none → placeFrom p (levelsOf rs) k ≤ none
-unfolding placeFrom levelsOf
-place-le p [] k h = NatL.le-refl none
-place-le p (r ∷ rs) k h = step (sameLevels (r .levels) k) (place-le (p + 1) rs k (omega arith))
-  where
-    step : (t : Bool) → placeFrom (p + 1) (levelsOf rs) k ≤ none → cond t p (placeFrom (p + 1) (levelsOf rs) k) ≤ none
-    step true e = omega arith
-    step false e = e
 
 module _ (rs : List IndexRecord) (k : List ℕ) (few : length rs ≤ 512) where
   room : 0 + length rs ≤ none

@@ -29,7 +29,7 @@ only-root : (l : List ℕ) → NowhereHigher l root → l ≡ root
 unfolding lower inFront root
 only-root l h = ⊎-elim (λ e. e) (λ m. absurd (List·Memᴰ·not-nil m)) (List·Memᴰ·cases-cons (lower-back root l h))
 
-module _ (d : ℕ) (few : d ≤ 8) (x : ℤ) (small : IsReading x) where
+module _ (d : ℕ) (few : d ≤ 8) (x : ℤ) where
   abbrev rs : List IndexRecord
   rs = recordsFor (rootAlone x)
 
@@ -84,24 +84,24 @@ module _ (d : ℕ) (few : d ≤ 8) (x : ℤ) (small : IsReading x) where
   unfolding root
   eight-root = refl
 
-  in-range : (n : ℕ) → n < blockSize root → IsReading (fetched rs s root n)
-  in-range n h = subst (λ m. IsReading (fetched rs s root m)) (sym zero-is) (subst IsReading (sym read) small)
+  in-range : IsReading x → (n : ℕ) → n < blockSize root → IsReading (fetched rs s root n)
+  in-range small n h = subst (λ m. IsReading (fetched rs s root m)) (sym zero-is) (subst IsReading (sym read) small)
     where
       zero-is : n ≡ 0
       zero-is = omega (arith, size-one)
 
-  ready : Ready d rs s root
-  ready =
+  ready : IsReading x → Ready d rs s root
+  ready small =
       record {
         axes = few;
         eight = eight-root;
         ceilings = root-within;
         beyond = λ a i j. root-level a j;
         root-place = root-at;
-        held = at-root (λ l. placeIn rs l < 512) (omega (arith, root-at));
+        found = at-root (λ l. placeIn rs l < 512) (omega (arith, root-at));
         delivered = at-root (λ l. 1 ≤ recordAt rs (placeIn rs l) .state) state-at;
         room = at-root (λ l. recordAt rs (placeIn rs l) .first + blockSize l ≤ length s) room-at;
-        range = λ l n h q. at-root (λ m. (i : ℕ) → i < blockSize m → IsReading (fetched rs s m i)) in-range l h n q;
+        range = λ l n h q. at-root (λ m. (i : ℕ) → i < blockSize m → IsReading (fetched rs s m i)) (in-range small) l h n q;
         ahead = λ l a b h f.
             at-root (λ m. getD (recordAt rs (placeIn rs m) .links) a 0 ≡ placeIn rs (forward m a)) (ap (λ p. getD (recordAt rs p .links) a 0) root-at ∙ ahead-at a b) l h;
       }
@@ -113,12 +113,12 @@ module _ (d : ℕ) (few : d ≤ 8) (x : ℤ) (small : IsReading x) where
       first-is : p ≡ 0
       first-is = omega (arith, one)
 
-  all-ready : AllReady d 1 rs s
-  all-ready =
+  all-ready : IsReading x → AllReady d 1 rs s
+  all-ready small =
       record {
         few = omega arith;
         room = omega (arith, one);
-        ready = λ p h w. at-first (λ q. Ready d rs s (recordAt rs q .levels)) (subst (Ready d rs s) (sym levels-at) ready) p (omega (arith, one));
+        ready = λ p h w. at-first (λ q. Ready d rs s (recordAt rs q .levels)) (subst (Ready d rs s) (sym levels-at) (ready small)) p (omega (arith, one));
       }
 
   linked : Linked d rs
@@ -128,7 +128,7 @@ module _ (d : ℕ) (few : d ≤ 8) (x : ℤ) (small : IsReading x) where
         few = omega (arith, one);
         eight = at-first (λ p. length (recordAt rs p .levels) ≡ 8) (ap length levels-at ∙ eight-root);
         low = λ p a h b. at-first (λ q. 1 ≤ level (recordAt rs q .levels) a) (omega (arith, ap (λ k. level k a) levels-at, root-level a b)) p h;
-        small = λ p a h b. at-first (λ q. level (recordAt rs q .levels) a ≤ 8) (omega (arith, ap (λ k. level k a) levels-at, root-level a b)) p h;
+        high = λ p a h b. at-first (λ q. level (recordAt rs q .levels) a ≤ 8) (omega (arith, ap (λ k. level k a) levels-at, root-level a b)) p h;
         beyond = λ p a h i b. at-first (λ q. level (recordAt rs q .levels) a ≡ 1) (ap (λ k. level k a) levels-at ∙ root-level a b) p h;
         own = at-first (λ p. placeIn rs (recordAt rs p .levels) ≡ p) (ap (placeIn rs) levels-at ∙ root-at);
         lower = λ p k h w.
@@ -137,5 +137,5 @@ module _ (d : ℕ) (few : d ≤ 8) (x : ℤ) (small : IsReading x) where
         ahead = λ p a h b. at-first (λ q. getD (recordAt rs q .links) a 0 ≡ placeIn rs (forward (recordAt rs q .levels) a)) (ahead-at a b ∙ ap (λ k. placeIn rs (forward k a)) (sym levels-at)) p h;
       }
 
-  pub required-facts : RequiredFacts d x
-  required-facts = record { ready = ready; all-ready = all-ready; linked = linked }
+pub required-facts : RequiredFacts
+required-facts = record { ready = λ d x h r. ready d h x r; all-ready = λ d x h r. all-ready d h x r; linked = λ d x h. linked d h x }

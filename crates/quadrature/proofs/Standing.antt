@@ -42,7 +42,7 @@ module _ {d : ℕ} {rs : List IndexRecord} {s : List ℤ} {k : List ℕ} (ready 
 
   at-root : recordAt rs 0 .levels ≡ root
   at-root =
-      subst (λ p. recordAt rs p .levels ≡ root) (ready .root-place) (place-levels rs root (below-none (ready .held root root-lower)))
+      subst (λ p. recordAt rs p .levels ≡ root) (ready .root-place) (place-levels rs root (below-none (ready .found root root-lower)))
 
   pub stands-start : Stands rs k 0 0 0
   unfolding blockSize
@@ -99,7 +99,7 @@ module _ {d : ℕ} {rs : List IndexRecord} {s : List ℤ} {k : List ℕ} (ready 
           subst (λ p. getD (recordAt rs p .links) axis 0 ≡ placeIn rs raised) (st .own) (ready .ahead levels axis a (st .lower) raised-lower)
 
       raised-at : recordAt rs (placeIn rs raised) .levels ≡ raised
-      raised-at = place-levels rs raised (below-none (ready .held raised raised-lower))
+      raised-at = place-levels rs raised (below-none (ready .found raised raised-lower))
 
       same-front : take axis (recordAt rs (placeIn rs raised) .levels) ≡ take axis levels
       unfolding forward
@@ -108,7 +108,7 @@ module _ {d : ℕ} {rs : List IndexRecord} {s : List ℤ} {k : List ℕ} (ready 
       pub stands-higher : Stands rs k axis (placeIn rs raised) rank
       stands-higher =
           record {
-            inside = ready .held raised raised-lower;
+            inside = ready .found raised raised-lower;
             own = ap (placeIn rs) raised-at;
             lower = subst (λ l. NowhereHigher l k) (sym raised-at) raised-lower;
             ones = λ b h q. ap (λ l. level l b) raised-at ∙ forward-other levels axis b (λ e. omega arith) ∙ st .ones b h q;

@@ -1,13 +1,12 @@
--- What the functions' contracts say of an area's cells is said of the entries that the area encodes; and what they require can be
--- met.
+-- What the functions' contracts say of an area's cells is said of the entries that are read from it; and what they require can be met.
 use mathlib.Core.Path.{_≡_}
 use mathlib.Core.List.{List, [], _∷_, List·Memᴰ}
-use Prim.Native.Nat.{ℕ}
+use Prim.Native.Nat.{ℕ, _≤_}
 use lib.IntN.{ℤ}
 use Rattle.grid.specs.Index.{root}
 use Rattle.grid.specs.Difference.{scaledDifference, scaledMean}
 use Rattle.grid.specs.Tensor.{tensorRule}
-use Rattle.grid.specs.Coefficient.{coefficient}
+use Rattle.grid.specs.Terms.{Agree, IsReading}
 use Rattle.area.specs.declared.JobRecord.{JobRecord}
 use Rattle.area.specs.Records.{recordsOf, heldIn}
 use Rattle.area.specs.Entry.{Entry, deliveredOf, readingIn}
@@ -17,13 +16,14 @@ use Rattle.quadrature.specs.Ready.{Ready, AllReady}
 use Rattle.quadrature.specs.Linked.{deliveredIn, Linked}
 
 -- j is the job record, c the cells, s the reading store
-pub record EncodedFacts (j : JobRecord) (c : List ℕ) (s : List ℤ) : Type 0 where
+pub record EntryFacts (j : JobRecord) (c : List ℕ) (s : List ℤ) : Type 0 where
   -- an index that is ready among the held records is ready among all records of the cells, as the functions require it
   pub ready : (d : ℕ) (k : List ℕ) → Ready d (heldIn c (j .held)) s k → Ready d (recordsOf c) s k
-  -- the delivered indices are those of the entries, and so are their coefficients
+  -- the delivered indices are those of the entries
   pub delivered : deliveredIn (heldIn c (j .held)) ≡ deliveredOf (entriesOf (areaOf j c s))
-  pub coefficients : (k : List ℕ) → coefficient (deliveredIn (heldIn c (j .held))) k ≡ coefficient (deliveredOf (entriesOf (areaOf j c s))) k
-  -- the difference and the full tensor rule of an index are those of the entries' readings
+  -- the readings of an index that is ready, and of all nowhere higher, are those of the entries
+  pub readings : (d : ℕ) (k : List ℕ) → Ready d (heldIn c (j .held)) s k → Agree k (fetched (recordsOf c) s) (readingIn (entriesOf (areaOf j c s)))
+  -- so its difference and its full tensor rule are those of the entries' readings
   pub difference : (d : ℕ) (k : List ℕ) → Ready d (heldIn c (j .held)) s k
       → scaledDifference k (fetched (recordsOf c) s) ≡ scaledDifference k (readingIn (entriesOf (areaOf j c s)))
   pub tensor : (d : ℕ) (k : List ℕ) → Ready d (heldIn c (j .held)) s k
@@ -37,8 +37,8 @@ pub record EncodedFacts (j : JobRecord) (c : List ℕ) (s : List ℤ) : Type 0 w
 unfoldable pub rootAlone : ℤ → List Entry
 rootAlone reading = record { levels = root; state = 1; indicator = 0; readings = reading ∷ [] } ∷ []
 
--- What is required is met by these entries as the area encodes them, for every number of axes and every reading in range.
-pub record RequiredFacts (d : ℕ) (reading : ℤ) : Type 0 where
-  pub ready : Ready d (recordsFor (rootAlone reading)) (storeFor (rootAlone reading)) root
-  pub all-ready : AllReady d 1 (recordsFor (rootAlone reading)) (storeFor (rootAlone reading))
-  pub linked : Linked d (recordsFor (rootAlone reading))
+-- What is required is met by these entries as an area encodes them, for every number of axes and every reading in range.
+pub record RequiredFacts : Type 0 where
+  pub ready : (d : ℕ) (x : ℤ) → d ≤ 8 → IsReading x → Ready d (recordsFor (rootAlone x)) (storeFor (rootAlone x)) root
+  pub all-ready : (d : ℕ) (x : ℤ) → d ≤ 8 → IsReading x → AllReady d 1 (recordsFor (rootAlone x)) (storeFor (rootAlone x))
+  pub linked : (d : ℕ) (x : ℤ) → d ≤ 8 → Linked d (recordsFor (rootAlone x))

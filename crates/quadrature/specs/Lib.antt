@@ -1,5 +1,5 @@
 -- Numbers over storage: the readings that records and store hold, what the functions require, and the parts that their loops and
--- recursions still have before them.
+-- recursions have done or have still to do.
 pub mod Readings
 pub mod Ready
 pub mod Parts

@@ -1,4 +1,4 @@
--- What the coefficient requires of the held records: a sound area gives it.
+-- What the coefficient requires of the held records. It is meant to follow from soundness.
 use mathlib.Core.Path.{_≡_}
 use mathlib.Core.Bool.{cond}
 use mathlib.Core.List.{List, [], _∷_}
@@ -20,14 +20,14 @@ deliveredIn (r ∷ rs) = cond (leb 1 (r .state)) (r .levels ∷ deliveredIn rs) 
 unfoldable pub subsetTerm : List IndexRecord → List ℕ → ℕ → ℤ
 subsetTerm rs k mask = cond (isIn (deliveredIn rs) (raisedOn k (marks 8 mask))) (sign (marks 8 mask)) (pos 0)
 
--- At most 512 records of eight levels, each level at least 1 and 1 beyond the d axes, none twice; every index nowhere higher than a
--- held one is held; and each forward link names its neighbour's place, or none.
+-- d is at most 8; at most 512 records of eight levels, each 1 to 8 and 1 beyond the d axes, none twice; every index nowhere higher
+-- than a held one is held; and each forward link names its neighbour's place, or none.
 pub record Linked (d : ℕ) (rs : List IndexRecord) : Type 0 where
   pub axes : d ≤ 8
   pub few : length rs ≤ 512
   pub eight : (p : ℕ) → p < length rs → length (recordAt rs p .levels) ≡ 8
   pub low : (p a : ℕ) → p < length rs → a < 8 → 1 ≤ level (recordAt rs p .levels) a
-  pub small : (p a : ℕ) → p < length rs → a < 8 → level (recordAt rs p .levels) a ≤ 8
+  pub high : (p a : ℕ) → p < length rs → a < 8 → level (recordAt rs p .levels) a ≤ 8
   pub beyond : (p a : ℕ) → p < length rs → d ≤ a → a < 8 → level (recordAt rs p .levels) a ≡ 1
   pub own : (p : ℕ) → p < length rs → placeIn rs (recordAt rs p .levels) ≡ p
   pub lower : (p : ℕ) (k : List ℕ) → p < length rs → NowhereHigher k (recordAt rs p .levels) → placeIn rs k < length rs

@@ -1,5 +1,5 @@
--- The parts of a difference that a walk still has before it, the part of a full tensor rule that a loop has behind it, and the
--- part of one record in the sum of differences.
+-- The parts of a difference that a walk has still to do, the part of a full tensor rule that a loop has already done, and the part
+-- of one record in the sum of differences.
 use mathlib.Core.Bool.{cond}
 use mathlib.Core.List.{List, _++_}
 use Prim.Native.Nat.{ℕ, suc, _+_, _*_, _-_}
@@ -20,6 +20,7 @@ use Rattle.quadrature.specs.Readings.{recordAt, fetched}
 unfoldable pub left : Readings → List ℕ → ℕ → Readings
 left R passed rank = λ ls n. R (passed ++ ls) (rank * blockSize ls + n)
 
+-- The same, where the record at a place stands.
 abbrev pub leftAt : List IndexRecord → List ℤ → ℕ → ℕ → ℕ → Readings
 leftAt rs s axis place rank = left (fetched rs s) (take axis (recordAt rs place .levels)) rank
 
@@ -31,7 +32,8 @@ pointsLeft n point l ks R = sumTo n (λ i. differenceWalk ks (behind R l (point 
 unfoldable pub levelsLeft : ℕ → ℕ → ℕ → List ℕ → Readings → ℤ
 levelsLeft n top l ks R = sumTo n (λ i. differenceWeight top (l + i) *ℤ pointsLeft (newCount (l + i)) 0 (l + i) ks R)
 
--- What a level walk still has before it: the levels from l on of an axis of the job; behind the last axis, the reading itself.
+-- What a level walk has still to do: the levels from l on of an axis of the job; past the last axis, the reading itself, since the
+-- axes left stand at level 1.
 unfoldable pub walkLeft : ℕ → List ℕ → ℕ → ℕ → Readings → ℤ
 walkLeft axes k axis l R =
     cond (ltb axis axes) (levelsLeft (suc (level k axis) - l) (level k axis) l (drop (axis + 1) k) R) (differenceWalk (drop axis k) R)

@@ -1,4 +1,4 @@
--- What the functions require of an area for an index: a sound area gives it for every delivered one.
+-- What the functions require of an area for an index. It is meant to follow from soundness for every delivered one.
 use mathlib.Core.Path.{_≡_}
 use mathlib.Core.List.{List}
 use Prim.Native.Nat.{ℕ, _+_, _<_, _≤_}
@@ -10,22 +10,22 @@ use Rattle.grid.specs.Terms.{IsReading}
 use Rattle.area.specs.declared.IndexRecord.{IndexRecord}
 use Rattle.quadrature.specs.Readings.{recordAt, placeIn, fetched}
 
--- k is an index of d axes, and every index nowhere higher is delivered, its block lies in the store with readings in range, and the
--- forward links between such indices name their places; the root is at place 0.
+-- k is an index of d axes, at most 8; every index nowhere higher is found at a place below 512 and delivered, its block lies in the
+-- store with readings in range, and the forward links between such indices name their places; the root is at place 0.
 pub record Ready (d : ℕ) (rs : List IndexRecord) (s : List ℤ) (k : List ℕ) : Type 0 where
   pub axes : d ≤ 8
   pub eight : length k ≡ 8
   pub ceilings : Within k
   pub beyond : (a : ℕ) → d ≤ a → a < 8 → level k a ≡ 1
   pub root-place : placeIn rs root ≡ 0
-  pub held : (l : List ℕ) → NowhereHigher l k → placeIn rs l < 512
+  pub found : (l : List ℕ) → NowhereHigher l k → placeIn rs l < 512
   pub delivered : (l : List ℕ) → NowhereHigher l k → 1 ≤ recordAt rs (placeIn rs l) .state
   pub room : (l : List ℕ) → NowhereHigher l k → recordAt rs (placeIn rs l) .first + blockSize l ≤ length s
   pub range : (l : List ℕ) (n : ℕ) → NowhereHigher l k → n < blockSize l → IsReading (fetched rs s l n)
   pub ahead : (l : List ℕ) (a : ℕ) → a < 8 → NowhereHigher l k → NowhereHigher (forward l a) k
       → getD (recordAt rs (placeIn rs l) .links) a 0 ≡ placeIn rs (forward l a)
 
--- Where a walk stands before an axis: the record at the place is nowhere higher than k and at level 1 on the later axes; the rank is
+-- Where a walk stands at an axis: the record at the place is nowhere higher than k and at level 1 on the later axes; the rank is
 -- that of a point of the axes passed.
 pub record Stands (rs : List IndexRecord) (k : List ℕ) (axis place rank : ℕ) : Type 0 where
   pub inside : place < 512

@@ -1,5 +1,6 @@
 // Numbers over storage: the difference of an index, its full tensor rule, its combination coefficient, and the sum of differences.
-// An index is reached from the root along forward links, which in a sound area name every held neighbour.
+// An index is reached along forward links, from the root or, for a coefficient, from the index itself: in a sound area they name
+// every held neighbour.
 ghost use mathlib.Core.Path.{_≡_};
 ghost use Prim.Native.Nat.{_+_, _*_, _-_, _^_, _<_, _≤_};
 ghost use lib.IntN.{pos, natAbs, _*ℤ_};
@@ -27,7 +28,8 @@ fn weighed_reading(place: usize, rank: usize, weight: i64, cells: &[u32], store:
     weight * (store[at] as i64)
 }
 
-// Goes through the levels of an axis from `level` on: the record at `place` stands at that level there, and at level 1 behind.
+// Goes through the levels of an axis from `level` on: the record at `place` stands at that level there, and at level 1 on the later
+// axes. Past the last axis it takes the reading.
 fn level_walk(
     axes: usize,
     target: [u32; 8],
@@ -294,7 +296,7 @@ fn delivered_difference(axes: usize, place: usize, cells: &[u32], store: &[i32])
 pub fn difference_total(axes: usize, held: usize, cells: &[u32], store: &[i32]) -> i64
     requires { ⌜ AllReady axes held (recordsOf (now cells)) (now store) ⌝ }
     ensures is { λ r. ⌜ r ≡ scaledMean (deliveredIn (heldIn (now (cells .entry)) held)) (fetched (recordsOf (now (cells .entry))) (now (store .entry))) ⌝ }
-    ensures small { λ r. ⌜ natAbs r ≤ held * 2 ^ 40 ⌝ }
+    ensures small { λ r. ⌜ natAbs r ≤ length (deliveredIn (heldIn (now (cells .entry)) held)) * 2 ^ 40 ⌝ }
 {
     let mut total: i64 = 0;
     let mut place: usize = 0;

@@ -1,17 +1,19 @@
 -- `quadrature::difference_total` meets its contract: the places passed have added their differences. Assumes nothing.
 use borrow.Author.Needs.{sfits-of}
-use mathlib.Core.Path.{_≡_, refl, sym, ap, _∙_}
+use mathlib.Core.Path.{_≡_, refl, sym, ap, _∙_, subst}
 use Prim.Native.Nat.{_+_, _*_, _-_, _^_, _≤_}
 use native.Mathlib.Omega.{arith}
 use denote.Ref.{now}
 use lib.IntN.{natAbs}
+use lib.ListN.{length, take}
 use mir.Syntax.{w64}
 use mir.Val.{toZ}
 use Rattle.sums.specs.Sums.{sumTo}
 use Rattle.area.specs.Records.{recordsOf, heldIn}
+use Rattle.quadrature.specs.Linked.{deliveredIn}
 use Rattle.quadrature.specs.Parts.{deliveredDifference}
 use Rattle.quadrature.proofs.Running.{running-fits, running-is, running-size}
-use Rattle.quadrature.proofs.Totals.{mean-places}
+use Rattle.quadrature.proofs.Totals.{mean-places, mean-size}
 use Rattle.quadrature.proofs.difference_total.Statement.{statement}
 use Rattle.quadrature.proofs.difference_total.Tie as tie
 
@@ -59,14 +61,14 @@ loop-again c =
     )
 
 returns : tie.Need-returns Inv-loop μ-loop
+unfolding heldIn
 returns c =
     let s = c .before .before .before in
     let l = c .before .loop in
     let rs = recordsOf (now (s .args .cells)) in
-    let done : l .place ≡ s .args .held = omega arith in (
-      l .inv .2 ∙ ap (λ n. sumTo n (deliveredDifference rs (now (s .args .store)))) done ∙ sym (unfold heldIn in mean-places (s .args .held) rs (now (s .args .store)) (s .pre .room)),
-      omega (arith, l .inv .1),
-    )
+    let done : l .place ≡ s .args .held = omega arith in
+    let e = l .inv .2 ∙ ap (λ n. sumTo n (deliveredDifference rs (now (s .args .store)))) done ∙ sym (mean-places (s .args .held) rs (now (s .args .store)) (s .pre .room)) in
+    (e, subst (λ x. natAbs x ≤ length (deliveredIn (take (s .args .held) rs)) * 2 ^ 40) (sym e) (mean-size (s .args .axes) (s .args .held) rs (now (s .args .store)) (s .pre)))
 
 pub difference-total-spec : {M : Type 1} → statement M
 difference-total-spec =

@@ -1,0 +1,7 @@
+-- What is said of storage, proved. Assumes nothing.
+use Rattle.area.specs.Facts.{RunFacts}
+use Rattle.area.proofs.Records.{run-determines}
+use Rattle.area.proofs.Founds.{found-is}
+
+pub run-facts : RunFacts
+run-facts = record { determines = run-determines; found = found-is }
