@@ -1,4 +1,4 @@
--- What the coefficient requires of the held records. It is meant to follow from soundness.
+-- What the coefficient requires of the held records. A sound area gives it (`soundness`).
 use mathlib.Core.Path.{_≡_}
 use mathlib.Core.Bool.{cond}
 use mathlib.Core.List.{List, [], _∷_}

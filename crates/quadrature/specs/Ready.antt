@@ -1,4 +1,4 @@
--- What the functions require of an area for an index. It is meant to follow from soundness for every delivered one.
+-- What the functions require of an area for an index. A sound area gives it for every delivered one (`soundness`).
 use mathlib.Core.Path.{_≡_}
 use mathlib.Core.List.{List}
 use Prim.Native.Nat.{ℕ, _+_, _<_, _≤_}

@@ -1,0 +1,53 @@
+-- What soundness gives, proved. Assumes nothing.
+use mathlib.Core.Path.{_≡_, sym, ap, subst}
+use mathlib.Core.List.{List, List·Memᴰ}
+use Prim.Native.Nat.{ℕ, _<_, _≤_}
+use native.Mathlib.Omega.{arith}
+use lib.ListN.{length}
+use lib.Seq.{getD-take, length-take-le}
+use Rattle.area.specs.declared.IndexRecord.{IndexRecord}
+use Rattle.area.specs.Records.{blank}
+use Rattle.area.specs.Encoding.{Area, heldOf}
+use Rattle.quadrature.specs.Readings.{recordAt}
+use Rattle.quadrature.specs.Ready.{Ready, AllReady}
+use Rattle.quadrature.specs.Linked.{deliveredIn}
+use Rattle.quadrature.proofs.Delivered.{delivered-sure}
+use Rattle.quadrature.proofs.Encoded.{held-ready}
+use Rattle.soundness.specs.Sound.{Sound}
+use Rattle.soundness.specs.Facts.{FollowFacts, SoundFacts}
+use Rattle.soundness.proofs.Forth.{structure}
+use Rattle.soundness.proofs.Back.{followed}
+use Rattle.soundness.proofs.Gives.{structure-linked, sound-ready}
+use Rattle.soundness.proofs.Down.{delivered-down}
+
+module _ (a : Area) (sound : Sound a) (room : a .job .budget ≤ length (a .store)) where
+  ready : (k : List ℕ) → List·Memᴰ k (deliveredIn (heldOf a)) → Ready (a .job .axes) (heldOf a) (a .store) k
+  ready k m =
+      let x = delivered-sure (heldOf a) k m in
+      sound-ready a sound room k (x .place) (record { place = x .inside; same = x .levels }) (x .delivered)
+
+  held-count : length (heldOf a) ≡ a .job .held
+  held-count = length-take-le (a .job .held) (a .run .records) (sound .lent)
+
+  ready-at : (p : ℕ) → p < a .job .held → 1 ≤ recordAt (a .run .records) p .state → Ready (a .job .axes) (a .run .records) (a .store) (recordAt (a .run .records) p .levels)
+  ready-at p h w =
+      let e : recordAt (heldOf a) p ≡ recordAt (a .run .records) p = getD-take (a .job .held) (a .run .records) p blank h in
+      held-ready (a .job .held) (a .run .records)
+      (sound-ready a sound room (recordAt (a .run .records) p .levels) p
+      (record { place = omega (arith, held-count); same = ap (λ (r : IndexRecord). r .levels) e })
+      (subst (λ (r : IndexRecord). 1 ≤ r .state) (sym e) w))
+
+  all-ready : AllReady (a .job .axes) (a .job .held) (a .run .records) (a .store)
+  all-ready = record { few = omega (arith, held-count, sound .structure .count .1); room = sound .lent; ready = ready-at }
+
+pub follow-facts : FollowFacts
+follow-facts = record { accepted = structure; accepts = followed }
+
+pub sound-facts : SoundFacts
+sound-facts =
+    record {
+      ready = ready;
+      all-ready = all-ready;
+      linked = λ a sound. structure-linked (a .job .axes) (a .job .budget) (heldOf a) (sound .structure);
+      down = λ a sound. delivered-down (a .job .axes) (a .job .budget) (heldOf a) (sound .structure);
+    }

@@ -1,0 +1,9 @@
+-- The laws, lowest first.
+pub mod Levels
+pub mod Forth
+pub mod Back
+pub mod Lower
+pub mod Sizes
+pub mod Gives
+pub mod Down
+pub mod Facts

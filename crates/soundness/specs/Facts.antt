@@ -1,0 +1,27 @@
+-- What soundness gives, and that a check by links comes to the same as the clauses on the held indices.
+use mathlib.Core.List.{List, List·Memᴰ}
+use Prim.Native.Nat.{ℕ, _≤_}
+use lib.ListN.{length}
+use Rattle.grid.specs.Terms.{DownSet}
+use Rattle.area.specs.declared.IndexRecord.{IndexRecord}
+use Rattle.area.specs.Encoding.{Area, heldOf}
+use Rattle.quadrature.specs.Ready.{Ready, AllReady}
+use Rattle.quadrature.specs.Linked.{deliveredIn, Linked}
+use Rattle.soundness.specs.Sound.{Structure, Sound}
+use Rattle.soundness.specs.Follow.{Followed}
+
+-- Following links accepts exactly the held indices and links of a sound area.
+pub record FollowFacts : Type 0 where
+  pub accepted : (d b : ℕ) (rs : List IndexRecord) → Followed d b rs → Structure d b rs
+  pub accepts : (d b : ℕ) (rs : List IndexRecord) → Structure d b rs → Followed d b rs
+
+-- In a sound area whose store is no shorter than its budget:
+pub record SoundFacts : Type 0 where
+  -- every delivered index is ready, among the held and for the sum over the places, so its difference and tensor rule can be worked
+  pub ready : (a : Area) → Sound a → a .job .budget ≤ length (a .store) → (k : List ℕ) → List·Memᴰ k (deliveredIn (heldOf a))
+      → Ready (a .job .axes) (heldOf a) (a .store) k
+  pub all-ready : (a : Area) → Sound a → a .job .budget ≤ length (a .store) → AllReady (a .job .axes) (a .job .held) (a .run .records) (a .store)
+  -- the held records are linked, so coefficients can be worked
+  pub linked : (a : Area) → Sound a → Linked (a .job .axes) (heldOf a)
+  -- and the delivered indices are what the combination identity asks for
+  pub down : (a : Area) → Sound a → DownSet (deliveredIn (heldOf a))

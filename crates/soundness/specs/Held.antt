@@ -1,0 +1,32 @@
+-- Held indices: which place holds an index, and what its record says.
+use mathlib.Core.Path.{_≡_}
+use mathlib.Core.List.{List}
+use Prim.Native.Nat.{ℕ, _+_, _<_}
+use lib.ListN.{length, getD}
+use Rattle.area.specs.declared.IndexRecord.{IndexRecord}
+use Rattle.quadrature.specs.Readings.{recordAt}
+
+abbrev pub levelsAt : List IndexRecord → ℕ → List ℕ
+levelsAt rs p = recordAt rs p .levels
+
+abbrev pub stateAt : List IndexRecord → ℕ → ℕ
+stateAt rs p = recordAt rs p .state
+
+-- The links of a record along an axis: the place of its forward and of its backward neighbour.
+abbrev pub forwardLink : List IndexRecord → ℕ → ℕ → ℕ
+forwardLink rs p a = getD (recordAt rs p .links) a 0
+
+abbrev pub backwardLink : List IndexRecord → ℕ → ℕ → ℕ
+backwardLink rs p a = getD (recordAt rs p .links) (8 + a) 0
+
+-- The place p holds the index k.
+pub record Holds (rs : List IndexRecord) (k : List ℕ) (p : ℕ) : Type 0 where
+  pub place : p < length rs
+  pub same : levelsAt rs p ≡ k
+
+-- k is held; k is held and old.
+abbrev pub Held : List IndexRecord → List ℕ → Type 0
+Held rs k = (p : ℕ) × Holds rs k p
+
+abbrev pub HeldOld : List IndexRecord → List ℕ → Type 0
+HeldOld rs k = (p : ℕ) × Holds rs k p × (stateAt rs p ≡ 2)
