@@ -17,6 +17,7 @@ use Rattle.soundness.specs.Sound.{Sound}
 use Rattle.soundness.specs.Facts.{FollowFacts, SoundFacts}
 use Rattle.soundness.proofs.Forth.{structure}
 use Rattle.soundness.proofs.Back.{followed}
+use Rattle.soundness.proofs.Tests.{reads-structure}
 use Rattle.soundness.proofs.Gives.{structure-linked, sound-ready}
 use Rattle.soundness.proofs.Down.{delivered-down}
 
@@ -41,7 +42,13 @@ module _ (a : Area) (sound : Sound a) (room : a .job .budget ≤ length (a .stor
   all-ready = record { few = omega (arith, held-count, sound .structure .count .1); room = sound .lent; ready = ready-at }
 
 pub follow-facts : FollowFacts
-follow-facts = record { accepted = structure; accepts = followed }
+follow-facts =
+    record {
+      accepted = structure;
+      accepts = followed;
+      yes-sure = λ d b rs formed. reads-structure d rs b formed .sure;
+      yes-back = λ d b rs formed. reads-structure d rs b formed .back;
+    }
 
 pub sound-facts : SoundFacts
 sound-facts =

@@ -2,6 +2,8 @@
 pub mod Levels
 pub mod Forth
 pub mod Back
+pub mod Exactly
+pub mod Tests
 pub mod Lower
 pub mod Sizes
 pub mod Gives

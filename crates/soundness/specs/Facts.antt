@@ -1,19 +1,26 @@
 -- What soundness gives, and that a check by links comes to the same as the clauses on the held indices.
+use mathlib.Core.Path.{_≡_}
+use mathlib.Core.Bool.{true}
 use mathlib.Core.List.{List, List·Memᴰ}
-use Prim.Native.Nat.{ℕ, _≤_}
+use Prim.Native.Nat.{ℕ, _<_, _≤_}
 use lib.ListN.{length}
 use Rattle.grid.specs.Terms.{DownSet}
 use Rattle.area.specs.declared.IndexRecord.{IndexRecord}
 use Rattle.area.specs.Encoding.{Area, heldOf}
 use Rattle.quadrature.specs.Ready.{Ready, AllReady}
 use Rattle.quadrature.specs.Linked.{deliveredIn, Linked}
+use Rattle.soundness.specs.Held.{levelsAt}
 use Rattle.soundness.specs.Sound.{Structure, Sound}
 use Rattle.soundness.specs.Follow.{Followed}
+use Rattle.soundness.specs.Test.{followedTest}
 
 -- Following links accepts exactly the held indices and links of a sound area.
 pub record FollowFacts : Type 0 where
   pub accepted : (d b : ℕ) (rs : List IndexRecord) → Followed d b rs → Structure d b rs
   pub accepts : (d b : ℕ) (rs : List IndexRecord) → Structure d b rs → Followed d b rs
+  -- and as a test, on records of eight levels, it says yes exactly then
+  pub yes-sure : (d b : ℕ) (rs : List IndexRecord) → ((p : ℕ) → p < length rs → length (levelsAt rs p) ≡ 8) → followedTest d b rs ≡ true → Structure d b rs
+  pub yes-back : (d b : ℕ) (rs : List IndexRecord) → ((p : ℕ) → p < length rs → length (levelsAt rs p) ≡ 8) → Structure d b rs → followedTest d b rs ≡ true
 
 -- In a sound area whose store is no shorter than its budget:
 pub record SoundFacts : Type 0 where

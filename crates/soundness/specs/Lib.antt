@@ -1,5 +1,6 @@
--- Soundness: the clauses of the scope document, and what a check by links tests.
+-- Soundness: the clauses of the scope document, what a check by links tests, and what soundness gives.
 pub mod Held
 pub mod Sound
 pub mod Follow
+pub mod Test
 pub mod Facts

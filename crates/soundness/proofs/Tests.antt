@@ -1,0 +1,198 @@
+-- The test by links is true exactly if the area is followed, so exactly if it has the structure of a sound area.
+-- The idea: each test reads as its statement, and tests are joined as statements are.
+-- Assumes nothing.
+use mathlib.Core.Path.{_≡_, refl}
+use mathlib.Core.Logic.{_≢_, _⊎_, inl, inr}
+use mathlib.Core.Bool.{true, not, _&&_}
+use mathlib.Core.List.{List}
+use Prim.Native.Nat.{ℕ, _<_, _≤_}
+use native.Mathlib.Decide.{ℕ-discrete}
+use native.Mathlib.Omega.{arith}
+use lib.Dec.{ltb, eqb}
+use lib.ListN.{length}
+use Rattle.grid.specs.Index.{level, excess, Within, within, Index, root, backward}
+use Rattle.grid.specs.Coefficient.{sameLevels}
+use Rattle.grid.proofs.Levels.{within-sure, within-back}
+use Rattle.area.specs.declared.IndexRecord.{IndexRecord}
+use Rattle.area.specs.Encoding.{none}
+use Rattle.soundness.specs.Held.{levelsAt, stateAt, forwardLink, backwardLink}
+use Rattle.soundness.specs.Sound.{Structure}
+use Rattle.soundness.specs.Follow.{Behind, Ahead, Blocks, Followed}
+use Rattle.soundness.specs.Test.{allFrom, beyondTest, indexTest, rootTest, behindTest, backTest, aheadTest, placeTest, blocksTest, openTest, completeTest, followedTest}
+use Rattle.soundness.proofs.Exactly.{Reads, reads-as, reads-eq, reads-lt, reads-le, reads-true, reads-not, reads-and, reads-cond, reads-or, reads-if, reads-all, reads-any, reads-same}
+use Rattle.soundness.proofs.Forth.{structure}
+use Rattle.soundness.proofs.Back.{followed}
+
+reads-beyond : (d : ℕ) (k : List ℕ) (a : ℕ) → Reads (beyondTest d k a) ((a < d → ⊥) → level k a ≡ 1)
+unfolding beyondTest
+reads-beyond d k a =
+    reads-as (λ x. x .1) (λ f. (λ h. tt, f)) (reads-cond (ltb a d) true (eqb (level k a) 1) (reads-lt a d) reads-true (reads-eq (level k a) 1))
+
+reads-within : (k : List ℕ) → Reads (within k) (Within k)
+reads-within k = record { sure = within-sure k; back = within-back k }
+
+reads-index : (d : ℕ) (k : List ℕ) → length k ≡ 8 → Reads (indexTest d k) (Index d k)
+unfolding indexTest
+reads-index d k e =
+    reads-as (λ x. record { eight = e; ceilings = x .0; beyond = λ a h h8. x .1 a h8 (λ l. omega arith) })
+    (λ i. (i .ceilings, λ a h8 n. i .beyond a (omega arith) h8))
+    (reads-and (within k) (allFrom 8 0 (beyondTest d k)) (reads-within k)
+    (reads-all (beyondTest d k) (λ a. (a < d → ⊥) → level k a ≡ 1) 8 (λ a h. reads-beyond d k a)))
+
+module _ (d : ℕ) (rs : List IndexRecord) where
+  abbrev pub Root : ℕ → Type 0
+  Root p = (p ≡ 0 → levelsAt rs p ≡ root) × ((p ≡ 0 → ⊥) → levelsAt rs p ≡ root → ⊥)
+
+  reads-root : (p : ℕ) → Reads (rootTest rs p) (Root p)
+  unfolding rootTest
+  reads-root p =
+      reads-cond (eqb p 0) (sameLevels (levelsAt rs p) root) (not (sameLevels (levelsAt rs p) root)) (reads-eq p 0)
+      (reads-same (levelsAt rs p) root) (reads-not (sameLevels (levelsAt rs p) root) (reads-same (levelsAt rs p) root))
+
+  reads-behind : (p a q : ℕ) → Reads (behindTest rs p a q) (Behind rs p a q)
+  unfolding behindTest
+  reads-behind p a q =
+      reads-as (λ x. record { place = x .0; same = x .1 .0; old = x .1 .1 .0; again = x .1 .1 .1 })
+      (λ y. (y .place, (y .same, (y .old, y .again))))
+      (reads-and _ _ (reads-lt q (length rs))
+      (reads-and _ _ (reads-same (levelsAt rs q) (backward (levelsAt rs p) a)) (reads-and _ _ (reads-eq (stateAt rs q) 2) (reads-eq (forwardLink rs q a) p))))
+
+  abbrev pub Backs : ℕ → ℕ → Type 0
+  Backs p a =
+      (level (levelsAt rs p) a ≤ 1 → backwardLink rs p a ≡ none) × ((level (levelsAt rs p) a ≤ 1 → ⊥) → Behind rs p a (backwardLink rs p a))
+
+  reads-back : (p a : ℕ) → Reads (backTest rs p a) (Backs p a)
+  unfolding backTest
+  reads-back p a =
+      reads-cond _ _ _ (reads-le (level (levelsAt rs p) a) 1) (reads-eq (backwardLink rs p a) none) (reads-behind p a (backwardLink rs p a))
+
+  reads-ahead : (p a : ℕ) → Reads (aheadTest rs p a) ((forwardLink rs p a ≡ none) ⊎ Ahead rs p a (forwardLink rs p a))
+  unfolding aheadTest
+  reads-ahead p a =
+      reads-or _ _ (reads-eq (forwardLink rs p a) none)
+      (reads-as (λ x. record { place = x .0; again = x .1 }) (λ y. (y .place, y .again))
+      (reads-and _ _ (reads-lt (forwardLink rs p a) (length rs)) (reads-eq (backwardLink rs (forwardLink rs p a) a) p)))
+
+  -- what one place shows of itself
+  pub record Place (p : ℕ) : Type 0 where
+    pub index : Index d (levelsAt rs p)
+    pub states : stateAt rs p ≤ 2
+    pub roots : Root p
+    pub axes : (a : ℕ) → a < 8 → Backs p a × ((forwardLink rs p a ≡ none) ⊎ Ahead rs p a (forwardLink rs p a))
+
+  pub reads-place : (p : ℕ) → length (levelsAt rs p) ≡ 8 → Reads (placeTest d rs p) (Place p)
+  unfolding placeTest
+  reads-place p e =
+      reads-as (λ x. record { index = x .0; states = x .1 .0; roots = x .1 .1 .0; axes = x .1 .1 .1 })
+      (λ y. (y .index, (y .states, (y .roots, y .axes))))
+      (reads-and _ _ (reads-index d (levelsAt rs p) e)
+      (reads-and _ _ (reads-le (stateAt rs p) 2)
+      (reads-and _ _ (reads-root p)
+      (reads-all (λ a. backTest rs p a && aheadTest rs p a) (λ a. Backs p a × ((forwardLink rs p a ≡ none) ⊎ Ahead rs p a (forwardLink rs p a))) 8
+      (λ a h. reads-and _ _ (reads-back p a) (reads-ahead p a))))))
+
+  -- what the second pass needs of the first, to read where links lead
+  module _ (all : (p : ℕ) → p < length rs → Place p) where
+    pub back-held : (p b : ℕ) → p < length rs → b < 8 → 1 < level (levelsAt rs p) b → backwardLink rs p b < length rs
+    back-held p b hp hb l = all p hp .axes b hb .0 .1 (λ m. omega arith) .place
+
+    pub ahead-held : (p a : ℕ) → p < length rs → a < 8 → forwardLink rs p a ≢ none → forwardLink rs p a < length rs
+    ahead-held p a hp ha n = step (all p hp .axes a ha .1)
+      where
+        step : (forwardLink rs p a ≡ none) ⊎ Ahead rs p a (forwardLink rs p a) → forwardLink rs p a < length rs
+        step (inl e) = absurd (n e)
+        step (inr y) = y .place
+
+  reads-blocks : (p a b : ℕ) → b < d → Reads (blocksTest rs p a b) (Blocks d rs p a b)
+  unfolding blocksTest
+  reads-blocks p a b hb =
+      reads-as (λ x. record { axis = hb; other = x .0; above = x .1 .0; missing = x .1 .1 }) (λ y. (y .other, (y .above, y .missing)))
+      (reads-and _ _ (reads-not (eqb b a) (reads-eq b a))
+      (reads-and _ _ (reads-lt 1 (level (levelsAt rs p) b))
+      (reads-or _ _ (reads-eq (forwardLink rs (backwardLink rs p b) a) none)
+      (reads-not (eqb (stateAt rs (forwardLink rs (backwardLink rs p b) a)) 2) (reads-eq (stateAt rs (forwardLink rs (backwardLink rs p b) a)) 2)))))
+
+  abbrev Open : ℕ → ℕ → Type 0
+  Open p a = (stateAt rs p ≡ 2) × ((forwardLink rs p a ≡ none) × ((level (levelsAt rs p) a < 8) × (excess (levelsAt rs p) < 12)))
+
+  abbrev Complete : ℕ → ℕ → Type 0
+  Complete p a = Open p a → (b : ℕ) × (b < d) × Blocks d rs p a b
+
+  reads-complete : (p a : ℕ) → Reads (completeTest d rs p a) (Complete p a)
+  unfolding completeTest openTest
+  reads-complete p a =
+      reads-if _ _
+      (reads-and _ _ (reads-eq (stateAt rs p) 2)
+      (reads-and _ _ (reads-eq (forwardLink rs p a) none)
+      (reads-and _ _ (reads-lt (level (levelsAt rs p) a) 8) (reads-lt (excess (levelsAt rs p)) 12))))
+      (reads-any (blocksTest rs p a) (Blocks d rs p a) d (λ b hb. reads-blocks p a b hb))
+
+  -- every record has eight levels, as whatever is read from cells has
+  module _ (b₀ : ℕ) (formed : (p : ℕ) → p < length rs → length (levelsAt rs p) ≡ 8) where
+    abbrev Whole : Type 0
+    Whole =
+        ((1 ≤ d) × (d ≤ 8))
+        × (((1 ≤ b₀) × (b₀ ≤ 8192))
+        × (((1 ≤ length rs) × (length rs ≤ 512)) × (((p : ℕ) → p < length rs → Place p) × ((p : ℕ) → p < length rs → (a : ℕ) → a < d → Complete p a))))
+
+    there : Whole → Followed d b₀ rs
+    there x =
+        record {
+          axes = x .0;
+          budget = x .1 .0;
+          count = x .1 .1 .0;
+          index = λ p h. place p h .index;
+          states = λ p h. place p h .states;
+          first = place 0 (x .1 .1 .0 .0) .roots .0 refl;
+          only = λ p h e. zero-or p h e (ℕ-discrete p 0);
+          back-none = λ p a h h8 l. place p h .axes a h8 .0 .0 l;
+          back = λ p a h h8 l. place p h .axes a h8 .0 .1 (λ m. omega arith);
+          ahead = λ p a h h8. place p h .axes a h8 .1;
+          complete = λ p a h ha o e l m. let t : (c : ℕ) × (c < d) × Blocks d rs p a c = x .1 .1 .1 .1 p h a ha (o, (e, (l, m))) in (t .0, t .2);
+        }
+      where
+        place : (p : ℕ) → p < length rs → Place p
+        place = x .1 .1 .1 .0
+
+        zero-or : (p : ℕ) → p < length rs → levelsAt rs p ≡ root → Dec (p ≡ 0) → p ≡ 0
+        zero-or p h e (yes z) = z
+        zero-or p h e (no z) = absurd (place p h .roots .1 z e)
+
+    here : Followed d b₀ rs → Whole
+    here f = (
+      f .axes,
+      (
+        f .budget,
+        (
+          f .count,
+          (
+            λ p h.
+                record {
+                  index = f .index p h;
+                  states = f .states p h;
+                  roots = (λ e. rw e (f .first), λ n e. n (f .only p h e));
+                  axes = λ a h8. ((f .back-none p a h h8, λ n. f .back p a h h8 (omega arith)), f .ahead p a h h8);
+                },
+            λ p h a ha o.
+                let t : (c : ℕ) × Blocks d rs p a c = f .complete p a h ha (o .0) (o .1 .0) (o .1 .1 .0) (o .1 .1 .1) in
+                (t .0, t .1 .axis, t .1),
+          ),
+        ),
+      ),
+    )
+
+    pub reads-followed : Reads (followedTest d b₀ rs) (Followed d b₀ rs)
+    unfolding followedTest
+    reads-followed =
+        reads-as there here
+        (reads-and _ _ (reads-and _ _ (reads-le 1 d) (reads-le d 8))
+        (reads-and _ _ (reads-and _ _ (reads-le 1 b₀) (reads-le b₀ 8192))
+        (reads-and _ _ (reads-and _ _ (reads-le 1 (length rs)) (reads-le (length rs) 512))
+        (reads-and _ _
+        (reads-all (placeTest d rs) Place (length rs) (λ p h. reads-place p (formed p h)))
+        (reads-all (λ p. allFrom d 0 (completeTest d rs p)) (λ p. (a : ℕ) → a < d → Complete p a) (length rs)
+        (λ p h. reads-all (completeTest d rs p) (Complete p) d (λ a ha. reads-complete p a)))))))
+
+    -- the test says yes exactly if the held indices and links are those of a sound area
+    pub reads-structure : Reads (followedTest d b₀ rs) (Structure d b₀ rs)
+    reads-structure = reads-as (structure d b₀ rs) (followed d b₀ rs) reads-followed
