@@ -1,3 +1,4 @@
+-- `area::eight_at` meets its contract: the cells passed are in the list, and the rest of it is still zero. Assumes nothing.
 use Rattle.area.proofs.Slices.{gather-suc}
 use native.Mathlib.Omega.{arith}
 use mathlib.Core.Path.{_≡_, refl, _∙_}

@@ -1,3 +1,4 @@
+-- `area::load` meets its contract: each field is read from the cells where the record has it. Assumes nothing.
 use Rattle.area.proofs.Records.{load-is}
 use Prim.Native.Nat.{_-_}
 use denote.Ref.{now}

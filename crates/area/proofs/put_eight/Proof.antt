@@ -1,3 +1,4 @@
+-- `area::put_eight` meets its contract: the part of the list that is passed is written, and no other cell has changed. Assumes nothing.
 use lib.Seq.{sets, take-all}
 use Rattle.area.proofs.Slices.{sets-step}
 use borrow.Author.Needs.{needs}

@@ -1,3 +1,4 @@
+-- `area::store` meets its contract: the 27 cells that are written are those of the record, and the others stay. Assumes nothing.
 use Rattle.area.proofs.Records.{run-pieces}
 use native.Mathlib.Omega.{arith}
 use mathlib.Core.Path.{_≡_, _∙_}
