@@ -96,6 +96,25 @@ record-front xs t h =
     let h16 : 16 ≤ length (drop 11 xs) = simp length-drop (omega arith) in
     rw (take-append-le 8 xs t h8, List·getD-append xs t 0 8 (omega arith), List·getD-append xs t 0 9 (omega arith), List·getD-append xs t 0 10 (omega arith), drop-append-le 11 xs t h11, take-append-le 16 (drop 11 xs) t h16)
 
+-- the first records are those of the first cells
+records-front : (n m : ℕ) (c : List ℕ) → n ≤ m → n * 27 ≤ length c → records n (take (n * 27) c) ≡ take n (records m c)
+unfolding records
+records-front zero m c h hc = refl
+records-front (suc n) zero c h hc = absurd (omega arith)
+records-front (suc n) (suc m) c h hc =
+    let e : suc n * 27 ≡ 27 + n * 27 = omega arith in
+    let hl : length (take 27 c) ≡ 27 = length-take-le 27 c (omega arith) in
+    let hd : length (drop 27 c) ≡ length c - 27 = length-drop 27 c in
+    let x : List ℕ = take (n * 27) (drop 27 c) in
+    let f : recordOf (take 27 c) ≡ recordOf c = rw (take-append-drop 27 c) at (sym (record-front (take 27 c) (drop 27 c) (omega arith))) in
+    rw (e, take-add 27 (n * 27) c, record-front (take 27 c) x (omega arith), drop-at (take 27 c) x 27 hl, f, records-front n m (drop 27 c) (omega arith) (omega arith))
+
+pub records-take : (n : ℕ) (c : List ℕ) → n * 27 ≤ length c → recordsOf (take (n * 27) c) ≡ take n (recordsOf c)
+unfolding recordsOf
+records-take n c h =
+    let e : length (take (n * 27) c) / 27 ≡ n = omega (arith, length-take-le (n * 27) c h) in
+    rw e (records-front n (length c / 27) c (omega arith) h)
+
 records-sets : (n : ℕ) (c : List ℕ) (p : ℕ) (ws : List ℕ) → p < n → n * 27 ≤ length c → length ws ≡ 27
     → records n (sets c (p * 27) ws) ≡ set (records n c) p (recordOf ws)
 unfolding records

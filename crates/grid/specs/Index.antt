@@ -46,8 +46,8 @@ root = replicate 8 1
 unfoldable pub forward : List ℕ → ℕ → List ℕ
 forward k a = set k a (level k a + 1)
 
--- Lowering one level above 1 by one gives a *backward neighbour*. Along an axis at level 1 there is none, so this is asked
--- only where 1 < level k a.
+-- Lowering one level above 1 by one gives a *backward neighbour*. Along an axis at level 1 there is none: the list then has a level 0,
+-- which no index has.
 unfoldable pub backward : List ℕ → ℕ → List ℕ
 backward k a = set k a (level k a - 1)
 

@@ -1,5 +1,5 @@
 -- The structure of a sound area passes the check by links.
--- The idea: if no axis blocked an index that could be raised, the raised one would be admissible, so held, and the link would name it.
+-- The idea: if no axis barred an index that could be raised, the raised one would be admissible, so held, and the link would name it.
 -- Assumes nothing.
 use mathlib.Core.Path.{_≡_, sym, ap, _∙_}
 use mathlib.Core.Logic.{_≢_, _⊎_, inl, inr}
@@ -14,7 +14,7 @@ use Rattle.area.specs.declared.IndexRecord.{IndexRecord}
 use Rattle.area.specs.Encoding.{none}
 use Rattle.soundness.specs.Held.{levelsAt, stateAt, forwardLink, backwardLink, Holds, Held, HeldOld}
 use Rattle.soundness.specs.Sound.{Structure}
-use Rattle.soundness.specs.Follow.{Behind, Ahead, Blocks, Followed}
+use Rattle.soundness.specs.Follow.{Behind, Ahead, Bars, Followed}
 use Rattle.soundness.proofs.Levels.{find, forward-same, forward-backward-other, at-least, axis-of, index-forward}
 use Rattle.soundness.proofs.Forth.{none-far}
 
@@ -50,7 +50,7 @@ module _ (d b₀ : ℕ) (rs : List IndexRecord) (s : Structure d b₀ rs) where
       let ha : a < d = axis-of d (levelsAt rs p) (index p hp) a h l in
       let x : HeldOld rs (backward (levelsAt rs p) a) = s .behind p a hp ha l in
       let e : backwardLink rs p a ≡ x .0 = s .backward-links p a hp ha l .place (x .0) (x .1) in
-      rw e (record { place = x .1 .place; same = x .1 .same; old = x .2; again = named-back p (x .0) a hp ha l (x .1) })
+      rw e (record { place = x .1 .place; same = x .1 .same; old = x .2; named-back = named-back p (x .0) a hp ha l (x .1) })
 
   back-none : (p a : ℕ) → p < length rs → a < 8 → level (levelsAt rs p) a ≤ 1 → backwardLink rs p a ≡ none
   back-none p a hp h e = step (decLt a d)
@@ -79,7 +79,7 @@ module _ (d b₀ : ℕ) (rs : List IndexRecord) (s : Structure d b₀ rs) where
           let one : 1 ≤ level (levelsAt rs p) a = at-least d (levelsAt rs p) (index p hp) a h in
           record {
             place = y .place;
-            again =
+            named-back =
                 s .backward-links q a (y .place) ha (omega arith) .place p
                 (record { place = hp; same = sym (ap (λ k. backward k a) (y .same) ∙ backward-forward (levelsAt rs p) a l) });
           }
@@ -94,8 +94,8 @@ module _ (d b₀ : ℕ) (rs : List IndexRecord) (s : Structure d b₀ rs) where
 
   -- ---- completeness
   -- whether axis b shows that p raised along a is not admissible
-  pub blocks-or : (p a b : ℕ) → Dec (Blocks d rs p a b)
-  blocks-or p a b = first (decLt b d) (ℕ-discrete b a) (decLt 1 (level (levelsAt rs p) b))
+  pub bars-or : (p a b : ℕ) → Dec (Bars d rs p a b)
+  bars-or p a b = first (decLt b d) (ℕ-discrete b a) (decLt 1 (level (levelsAt rs p) b))
       (ℕ-discrete (forwardLink rs (backwardLink rs p b) a) none) (ℕ-discrete (stateAt rs (forwardLink rs (backwardLink rs p b) a)) 2)
     where
       out : {A B : Type 0} → (A → ⊥) → (B → ⊥) → A ⊎ B → ⊥
@@ -103,7 +103,7 @@ module _ (d b₀ : ℕ) (rs : List IndexRecord) (s : Structure d b₀ rs) where
       out f g (inr x) = g x
 
       first : Dec (b < d) → Dec (b ≡ a) → Dec (1 < level (levelsAt rs p) b) → Dec (forwardLink rs (backwardLink rs p b) a ≡ none)
-          → Dec (stateAt rs (forwardLink rs (backwardLink rs p b) a) ≡ 2) → Dec (Blocks d rs p a b)
+          → Dec (stateAt rs (forwardLink rs (backwardLink rs p b) a) ≡ 2) → Dec (Bars d rs p a b)
       first (no n) e l m o = no (λ t. n (t .axis))
       first (yes x) (yes e) l m o = no (λ t. t .other e)
       first (yes x) (no e) (no n) m o = no (λ t. n (t .above))
@@ -116,8 +116,8 @@ module _ (d b₀ : ℕ) (rs : List IndexRecord) (s : Structure d b₀ rs) where
     in-p : a < length (levelsAt rs p)
     in-p = axis-in p a hp (omega (arith, most))
 
-    -- where no axis blocks, every backward neighbour of p raised along a is held and old
-    module _ (free : (b : ℕ) → b < d → Blocks d rs p a b → ⊥) where
+    -- where no axis bars, every backward neighbour of p raised along a is held and old
+    module _ (free : (b : ℕ) → b < d → Bars d rs p a b → ⊥) where
       behind-other : (b : ℕ) → b < d → b ≢ a → 1 < level (levelsAt rs p) b → HeldOld rs (backward (forward (levelsAt rs p) a) b)
       behind-other b hb n l = step (ahead-or q a (x .place) ha)
           (ℕ-discrete (stateAt rs (forwardLink rs q a)) 2)
@@ -150,10 +150,10 @@ module _ (d b₀ : ℕ) (rs : List IndexRecord) (s : Structure d b₀ rs) where
           let e : forwardLink rs p a ≡ h .0 = s .forward-links p a hp ha .place (h .0) (h .1) in
           omega (arith, none-far, h .1 .place, s .count .1)
 
-    complete : (b : ℕ) × Blocks d rs p a b
-    complete = step (find d (Blocks d rs p a) (blocks-or p a))
+    complete : (b : ℕ) × Bars d rs p a b
+    complete = step (find d (Bars d rs p a) (bars-or p a))
       where
-        step : ((b : ℕ) × (b < d) × Blocks d rs p a b) ⊎ ((b : ℕ) → b < d → Blocks d rs p a b → ⊥) → (b : ℕ) × Blocks d rs p a b
+        step : ((b : ℕ) × (b < d) × Bars d rs p a b) ⊎ ((b : ℕ) → b < d → Bars d rs p a b → ⊥) → (b : ℕ) × Bars d rs p a b
         step (inl t) = (t .0, t .2)
         step (inr f) = absurd (impossible f)
 

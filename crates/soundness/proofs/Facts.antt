@@ -18,6 +18,7 @@ use Rattle.soundness.specs.Facts.{FollowFacts, SoundFacts}
 use Rattle.soundness.proofs.Forth.{structure}
 use Rattle.soundness.proofs.Back.{followed}
 use Rattle.soundness.proofs.Tests.{reads-structure}
+use Rattle.soundness.proofs.Totals.{reads-area}
 use Rattle.soundness.proofs.Gives.{structure-linked, sound-ready}
 use Rattle.soundness.proofs.Down.{delivered-down}
 
@@ -28,7 +29,7 @@ module _ (a : Area) (sound : Sound a) (room : a .job .budget ≤ length (a .stor
       sound-ready a sound room k (x .place) (record { place = x .inside; same = x .levels }) (x .delivered)
 
   held-count : length (heldOf a) ≡ a .job .held
-  held-count = length-take-le (a .job .held) (a .run .records) (sound .lent)
+  held-count = length-take-le (a .job .held) (a .run .records) (sound .held-lent)
 
   ready-at : (p : ℕ) → p < a .job .held → 1 ≤ recordAt (a .run .records) p .state → Ready (a .job .axes) (a .run .records) (a .store) (recordAt (a .run .records) p .levels)
   ready-at p h w =
@@ -39,15 +40,15 @@ module _ (a : Area) (sound : Sound a) (room : a .job .budget ≤ length (a .stor
       (subst (λ (r : IndexRecord). 1 ≤ r .state) (sym e) w))
 
   all-ready : AllReady (a .job .axes) (a .job .held) (a .run .records) (a .store)
-  all-ready = record { few = omega (arith, held-count, sound .structure .count .1); room = sound .lent; ready = ready-at }
+  all-ready = record { few = omega (arith, held-count, sound .structure .count .1); room = sound .held-lent; ready = ready-at }
 
 pub follow-facts : FollowFacts
 follow-facts =
     record {
       accepted = structure;
       accepts = followed;
-      yes-sure = λ d b rs formed. reads-structure d rs b formed .sure;
-      yes-back = λ d b rs formed. reads-structure d rs b formed .back;
+      tested = λ d b rs formed. reads-structure d rs b formed;
+      whole = reads-area;
     }
 
 pub sound-facts : SoundFacts

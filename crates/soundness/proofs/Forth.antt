@@ -15,7 +15,7 @@ use Rattle.area.specs.declared.IndexRecord.{IndexRecord}
 use Rattle.area.specs.Encoding.{none}
 use Rattle.soundness.specs.Held.{levelsAt, stateAt, forwardLink, backwardLink, Holds, Held, HeldOld}
 use Rattle.soundness.specs.Sound.{Structure}
-use Rattle.soundness.specs.Follow.{Behind, Ahead, Blocks, Followed}
+use Rattle.soundness.specs.Follow.{Behind, Ahead, Bars, Followed}
 use Rattle.soundness.proofs.Levels.{forward-same, forward-backward-other, at-least, axis-of, root-or, forward-index}
 
 pub none-far : 512 ≤ none
@@ -37,10 +37,10 @@ module _ (d b₀ : ℕ) (rs : List IndexRecord) (f : Followed d b₀ rs) where
   ahead-same p q a hp h y = step (decLt 1 (level (levelsAt rs q) a))
     where
       step : Dec (1 < level (levelsAt rs q) a) → levelsAt rs q ≡ forward (levelsAt rs p) a
-      step (no l) = absurd (omega (arith, f .back-none q a (y .place) h (omega arith), y .again, none-far, f .count .1))
+      step (no l) = absurd (omega (arith, f .back-none q a (y .place) h (omega arith), y .named-back, none-far, f .count .1))
       step (yes l) =
           let x : Behind rs q a (backwardLink rs q a) = behind q a (y .place) h l in
-          let e : levelsAt rs p ≡ backward (levelsAt rs q) a = ap (λ z. levelsAt rs z) (sym (y .again)) ∙ x .same in
+          let e : levelsAt rs p ≡ backward (levelsAt rs q) a = ap (λ z. levelsAt rs z) (sym (y .named-back)) ∙ x .same in
           sym (ap (λ k. forward k a) e ∙ forward-backward (levelsAt rs q) a (axis-in q a (y .place) h) l)
 
   -- ---- places with equal levels are equal, by induction on the excess: their backward neighbours are one place, whose forward link names both
@@ -62,7 +62,7 @@ module _ (d b₀ : ℕ) (rs : List IndexRecord) (f : Followed d b₀ rs) where
         let less : excess (backward (levelsAt rs p) a) ≤ n = omega (arith, backward-excess (levelsAt rs p) a (axis-in p a hp h) l) in
         let one : backwardLink rs p a ≡ backwardLink rs q a =
         ih (backwardLink rs p a) (backwardLink rs q a) (x .place) (y .place) (x .same ∙ ap (λ k. backward k a) e ∙ sym (y .same)) (rw (x .same) less) in
-        sym (x .again) ∙ ap (λ z. forwardLink rs z a) one ∙ y .again
+        sym (x .named-back) ∙ ap (λ z. forwardLink rs z a) one ∙ y .named-back
 
   unique-to : (n : ℕ) → Unique n
   unfolding Unique
@@ -91,7 +91,7 @@ module _ (d b₀ : ℕ) (rs : List IndexRecord) (f : Followed d b₀ rs) where
       let e : backwardLink rs q a ≡ p =
       unique (backwardLink rs q a) p (y .place) hp
       (y .same ∙ ap (λ k. backward k a) (s .same) ∙ backward-forward (levelsAt rs p) a (axis-in p a hp h)) in
-      ap (λ z. forwardLink rs z a) (sym e) ∙ y .again
+      ap (λ z. forwardLink rs z a) (sym e) ∙ y .named-back
 
   ahead-none : (p a : ℕ) → p < length rs → a < 8 → (Held rs (forward (levelsAt rs p) a) → ⊥) → forwardLink rs p a ≡ none
   ahead-none p a hp h out = step (f .ahead p a hp h)
@@ -128,8 +128,8 @@ module _ (d b₀ : ℕ) (rs : List IndexRecord) (f : Followed d b₀ rs) where
       raised-is = ap (λ z. forward z a) (s .same) ∙ forward-backward k a in-k (omega arith)
 
       -- no axis shows that k is not admissible
-      unblocked : (b : ℕ) → Blocks d rs p a b → ⊥
-      unblocked b t = step (t .missing)
+      unbarred : (b : ℕ) → Bars d rs p a b → ⊥
+      unbarred b t = step (t .missing)
         where
           x : Holds rs (backward (levelsAt rs p) b) (backwardLink rs p b)
           x = back-holds p b (s .place) (omega (arith, t .axis, most)) (t .above)
@@ -159,8 +159,8 @@ module _ (d b₀ : ℕ) (rs : List IndexRecord) (f : Followed d b₀ rs) where
       taken (inl e) =
           let w : (level (levelsAt rs p) a < 8) × (excess (levelsAt rs p) < 12) =
           forward-index d (levelsAt rs p) (index p (s .place)) most a ha (rw raised-is i) in
-          let t : (b : ℕ) × Blocks d rs p a b = f .complete p a (s .place) ha o e (w .0) (w .1) in
-          absurd (unblocked (t .0) (t .1))
+          let t : (b : ℕ) × Bars d rs p a b = f .complete p a (s .place) ha o e (w .0) (w .1) in
+          absurd (unbarred (t .0) (t .1))
 
     admitted : Held rs k
     admitted = step (root-or d k i)

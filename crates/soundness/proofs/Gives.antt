@@ -99,7 +99,7 @@ module _ (a : Area) (sound : Sound a) (room : a .job .budget ≤ length (a .stor
 
     reading : (l : List ℕ) (n : ℕ) → NowhereHigher l k → n < blockSize l → IsReading (fetched rs (a .store) l n)
     unfolding fetched
-    reading l n w q = sound .readings (placeIn rs l) n (holds l w .place) (state-at l w) (subst (λ m. n < blockSize m) (sym (holds l w .same)) q)
+    reading l n w q = sound .readings (placeIn rs l) n (holds l w .place) (state-at l w) (subst (λ m. n < blockSize m) (sym (holds l w .same)) q) .1
 
     pub sound-ready : Ready d rs (a .store) k
     sound-ready =

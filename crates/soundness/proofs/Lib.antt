@@ -6,6 +6,8 @@ pub mod Exactly
 pub mod Tests
 pub mod Lower
 pub mod Sizes
+pub mod Totals
+pub mod Clauses
 pub mod Gives
 pub mod Down
 pub mod Facts

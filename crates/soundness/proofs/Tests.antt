@@ -3,12 +3,12 @@
 -- Assumes nothing.
 use mathlib.Core.Path.{_≡_, refl}
 use mathlib.Core.Logic.{_≢_, _⊎_, inl, inr}
-use mathlib.Core.Bool.{true, not, _&&_}
+use mathlib.Core.Bool.{true, not}
 use mathlib.Core.List.{List}
-use Prim.Native.Nat.{ℕ, _<_, _≤_}
+use Prim.Native.Nat.{ℕ, _-_, _<_, _≤_}
 use native.Mathlib.Decide.{ℕ-discrete}
 use native.Mathlib.Omega.{arith}
-use lib.Dec.{ltb, eqb}
+use lib.Dec.{eqb}
 use lib.ListN.{length}
 use Rattle.grid.specs.Index.{level, excess, Within, within, Index, root, backward}
 use Rattle.grid.specs.Coefficient.{sameLevels}
@@ -16,61 +16,56 @@ use Rattle.grid.proofs.Levels.{within-sure, within-back}
 use Rattle.area.specs.declared.IndexRecord.{IndexRecord}
 use Rattle.area.specs.Encoding.{none}
 use Rattle.soundness.specs.Held.{levelsAt, stateAt, forwardLink, backwardLink}
-use Rattle.soundness.specs.Sound.{Structure}
-use Rattle.soundness.specs.Follow.{Behind, Ahead, Blocks, Followed}
-use Rattle.soundness.specs.Test.{allFrom, beyondTest, indexTest, rootTest, behindTest, backTest, aheadTest, placeTest, blocksTest, openTest, completeTest, followedTest}
-use Rattle.soundness.proofs.Exactly.{Reads, reads-as, reads-eq, reads-lt, reads-le, reads-true, reads-not, reads-and, reads-cond, reads-or, reads-if, reads-all, reads-any, reads-same}
+use Rattle.soundness.specs.Sound.{Exactly, Structure}
+use Rattle.soundness.specs.Follow.{Behind, Ahead, Bars, Followed}
+use Rattle.soundness.specs.Test.{allFrom, indexTest, rootTest, behindTest, backTest, aheadTest, axisTest, placeTest, placesTest, barsTest, openTest, completeTest, allCompleteTest, followedTest}
+use Rattle.soundness.proofs.Exactly.{reads-as, reads-eq, reads-lt, reads-le, reads-not, reads-and, reads-then, reads-cond, reads-or, reads-if, reads-all-from, reads-all, reads-any, reads-same}
 use Rattle.soundness.proofs.Forth.{structure}
 use Rattle.soundness.proofs.Back.{followed}
 
-reads-beyond : (d : ℕ) (k : List ℕ) (a : ℕ) → Reads (beyondTest d k a) ((a < d → ⊥) → level k a ≡ 1)
-unfolding beyondTest
-reads-beyond d k a =
-    reads-as (λ x. x .1) (λ f. (λ h. tt, f)) (reads-cond (ltb a d) true (eqb (level k a) 1) (reads-lt a d) reads-true (reads-eq (level k a) 1))
-
-reads-within : (k : List ℕ) → Reads (within k) (Within k)
+reads-within : (k : List ℕ) → Exactly (within k) (Within k)
 reads-within k = record { sure = within-sure k; back = within-back k }
 
-reads-index : (d : ℕ) (k : List ℕ) → length k ≡ 8 → Reads (indexTest d k) (Index d k)
+reads-index : (d : ℕ) (k : List ℕ) → d ≤ 8 → length k ≡ 8 → Exactly (indexTest d k) (Index d k)
 unfolding indexTest
-reads-index d k e =
-    reads-as (λ x. record { eight = e; ceilings = x .0; beyond = λ a h h8. x .1 a h8 (λ l. omega arith) })
-    (λ i. (i .ceilings, λ a h8 n. i .beyond a (omega arith) h8))
-    (reads-and (within k) (allFrom 8 0 (beyondTest d k)) (reads-within k)
-    (reads-all (beyondTest d k) (λ a. (a < d → ⊥) → level k a ≡ 1) 8 (λ a h. reads-beyond d k a)))
+reads-index d k h e =
+    reads-as (λ x. record { eight = e; ceilings = x .0; beyond = λ a l h8. x .1 a l (omega arith) })
+    (λ i. (i .ceilings, λ a l h8. i .beyond a l (omega arith)))
+    (reads-and (within k) (allFrom (8 - d) d (λ a. eqb (level k a) 1)) (reads-within k)
+    (reads-all-from (λ a. eqb (level k a) 1) (λ a. level k a ≡ 1) (8 - d) d (λ a l. reads-eq (level k a) 1)))
 
 module _ (d : ℕ) (rs : List IndexRecord) where
   abbrev pub Root : ℕ → Type 0
   Root p = (p ≡ 0 → levelsAt rs p ≡ root) × ((p ≡ 0 → ⊥) → levelsAt rs p ≡ root → ⊥)
 
-  reads-root : (p : ℕ) → Reads (rootTest rs p) (Root p)
+  reads-root : (p : ℕ) → Exactly (rootTest rs p) (Root p)
   unfolding rootTest
   reads-root p =
       reads-cond (eqb p 0) (sameLevels (levelsAt rs p) root) (not (sameLevels (levelsAt rs p) root)) (reads-eq p 0)
       (reads-same (levelsAt rs p) root) (reads-not (sameLevels (levelsAt rs p) root) (reads-same (levelsAt rs p) root))
 
-  reads-behind : (p a q : ℕ) → Reads (behindTest rs p a q) (Behind rs p a q)
+  reads-behind : (p a q : ℕ) → Exactly (behindTest rs p a q) (Behind rs p a q)
   unfolding behindTest
   reads-behind p a q =
-      reads-as (λ x. record { place = x .0; same = x .1 .0; old = x .1 .1 .0; again = x .1 .1 .1 })
-      (λ y. (y .place, (y .same, (y .old, y .again))))
+      reads-as (λ x. record { place = x .0; same = x .1 .1 .1; old = x .1 .0; named-back = x .1 .1 .0 })
+      (λ y. (y .place, (y .old, (y .named-back, y .same))))
       (reads-and _ _ (reads-lt q (length rs))
-      (reads-and _ _ (reads-same (levelsAt rs q) (backward (levelsAt rs p) a)) (reads-and _ _ (reads-eq (stateAt rs q) 2) (reads-eq (forwardLink rs q a) p))))
+      (reads-and _ _ (reads-eq (stateAt rs q) 2) (reads-and _ _ (reads-eq (forwardLink rs q a) p) (reads-same (levelsAt rs q) (backward (levelsAt rs p) a)))))
 
   abbrev pub Backs : ℕ → ℕ → Type 0
   Backs p a =
       (level (levelsAt rs p) a ≤ 1 → backwardLink rs p a ≡ none) × ((level (levelsAt rs p) a ≤ 1 → ⊥) → Behind rs p a (backwardLink rs p a))
 
-  reads-back : (p a : ℕ) → Reads (backTest rs p a) (Backs p a)
+  reads-back : (p a : ℕ) → Exactly (backTest rs p a) (Backs p a)
   unfolding backTest
   reads-back p a =
       reads-cond _ _ _ (reads-le (level (levelsAt rs p) a) 1) (reads-eq (backwardLink rs p a) none) (reads-behind p a (backwardLink rs p a))
 
-  reads-ahead : (p a : ℕ) → Reads (aheadTest rs p a) ((forwardLink rs p a ≡ none) ⊎ Ahead rs p a (forwardLink rs p a))
+  reads-ahead : (p a : ℕ) → Exactly (aheadTest rs p a) ((forwardLink rs p a ≡ none) ⊎ Ahead rs p a (forwardLink rs p a))
   unfolding aheadTest
   reads-ahead p a =
       reads-or _ _ (reads-eq (forwardLink rs p a) none)
-      (reads-as (λ x. record { place = x .0; again = x .1 }) (λ y. (y .place, y .again))
+      (reads-as (λ x. record { place = x .0; named-back = x .1 }) (λ y. (y .place, y .named-back))
       (reads-and _ _ (reads-lt (forwardLink rs p a) (length rs)) (reads-eq (backwardLink rs (forwardLink rs p a) a) p)))
 
   -- what one place shows of itself
@@ -80,15 +75,15 @@ module _ (d : ℕ) (rs : List IndexRecord) where
     pub roots : Root p
     pub axes : (a : ℕ) → a < 8 → Backs p a × ((forwardLink rs p a ≡ none) ⊎ Ahead rs p a (forwardLink rs p a))
 
-  pub reads-place : (p : ℕ) → length (levelsAt rs p) ≡ 8 → Reads (placeTest d rs p) (Place p)
-  unfolding placeTest
-  reads-place p e =
+  pub reads-place : d ≤ 8 → (p : ℕ) → length (levelsAt rs p) ≡ 8 → Exactly (placeTest d rs p) (Place p)
+  unfolding placeTest axisTest
+  reads-place few p e =
       reads-as (λ x. record { index = x .0; states = x .1 .0; roots = x .1 .1 .0; axes = x .1 .1 .1 })
       (λ y. (y .index, (y .states, (y .roots, y .axes))))
-      (reads-and _ _ (reads-index d (levelsAt rs p) e)
+      (reads-and _ _ (reads-index d (levelsAt rs p) few e)
       (reads-and _ _ (reads-le (stateAt rs p) 2)
       (reads-and _ _ (reads-root p)
-      (reads-all (λ a. backTest rs p a && aheadTest rs p a) (λ a. Backs p a × ((forwardLink rs p a ≡ none) ⊎ Ahead rs p a (forwardLink rs p a))) 8
+      (reads-all (axisTest rs p) (λ a. Backs p a × ((forwardLink rs p a ≡ none) ⊎ Ahead rs p a (forwardLink rs p a))) 8
       (λ a h. reads-and _ _ (reads-back p a) (reads-ahead p a))))))
 
   -- what the second pass needs of the first, to read where links lead
@@ -103,29 +98,33 @@ module _ (d : ℕ) (rs : List IndexRecord) where
         step (inl e) = absurd (n e)
         step (inr y) = y .place
 
-  reads-blocks : (p a b : ℕ) → b < d → Reads (blocksTest rs p a b) (Blocks d rs p a b)
-  unfolding blocksTest
-  reads-blocks p a b hb =
+  reads-bars : (p a b : ℕ) → b < d → Exactly (barsTest rs p a b) (Bars d rs p a b)
+  unfolding barsTest
+  reads-bars p a b hb =
       reads-as (λ x. record { axis = hb; other = x .0; above = x .1 .0; missing = x .1 .1 }) (λ y. (y .other, (y .above, y .missing)))
       (reads-and _ _ (reads-not (eqb b a) (reads-eq b a))
       (reads-and _ _ (reads-lt 1 (level (levelsAt rs p) b))
       (reads-or _ _ (reads-eq (forwardLink rs (backwardLink rs p b) a) none)
       (reads-not (eqb (stateAt rs (forwardLink rs (backwardLink rs p b) a)) 2) (reads-eq (stateAt rs (forwardLink rs (backwardLink rs p b) a)) 2)))))
 
+  -- where the level could be raised along a
   abbrev Open : ℕ → ℕ → Type 0
-  Open p a = (stateAt rs p ≡ 2) × ((forwardLink rs p a ≡ none) × ((level (levelsAt rs p) a < 8) × (excess (levelsAt rs p) < 12)))
+  Open p a = (forwardLink rs p a ≡ none) × (level (levelsAt rs p) a < 8) → (c : ℕ) × (c < d) × Bars d rs p a c
 
-  abbrev Complete : ℕ → ℕ → Type 0
-  Complete p a = Open p a → (b : ℕ) × (b < d) × Blocks d rs p a b
+  reads-open : (p a : ℕ) → Exactly (openTest d rs p a) (Open p a)
+  unfolding openTest
+  reads-open p a =
+      reads-if _ _ (reads-and _ _ (reads-eq (forwardLink rs p a) none) (reads-lt (level (levelsAt rs p) a) 8))
+      (reads-any (barsTest rs p a) (Bars d rs p a) d (λ b hb. reads-bars p a b hb))
 
-  reads-complete : (p a : ℕ) → Reads (completeTest d rs p a) (Complete p a)
-  unfolding completeTest openTest
-  reads-complete p a =
-      reads-if _ _
-      (reads-and _ _ (reads-eq (stateAt rs p) 2)
-      (reads-and _ _ (reads-eq (forwardLink rs p a) none)
-      (reads-and _ _ (reads-lt (level (levelsAt rs p) a) 8) (reads-lt (excess (levelsAt rs p)) 12))))
-      (reads-any (blocksTest rs p a) (Blocks d rs p a) d (λ b hb. reads-blocks p a b hb))
+  abbrev Complete : ℕ → Type 0
+  Complete p = (stateAt rs p ≡ 2) × (excess (levelsAt rs p) < 12) → (a : ℕ) → a < d → Open p a
+
+  reads-complete : (p : ℕ) → Exactly (completeTest d rs p) (Complete p)
+  unfolding completeTest
+  reads-complete p =
+      reads-if _ _ (reads-and _ _ (reads-eq (stateAt rs p) 2) (reads-lt (excess (levelsAt rs p)) 12))
+      (reads-all (openTest d rs p) (Open p) d (λ a ha. reads-open p a))
 
   -- every record has eight levels, as whatever is read from cells has
   module _ (b₀ : ℕ) (formed : (p : ℕ) → p < length rs → length (levelsAt rs p) ≡ 8) where
@@ -133,7 +132,7 @@ module _ (d : ℕ) (rs : List IndexRecord) where
     Whole =
         ((1 ≤ d) × (d ≤ 8))
         × (((1 ≤ b₀) × (b₀ ≤ 8192))
-        × (((1 ≤ length rs) × (length rs ≤ 512)) × (((p : ℕ) → p < length rs → Place p) × ((p : ℕ) → p < length rs → (a : ℕ) → a < d → Complete p a))))
+        × (((1 ≤ length rs) × (length rs ≤ 512)) × (((p : ℕ) → p < length rs → Place p) × ((p : ℕ) → p < length rs → Complete p))))
 
     there : Whole → Followed d b₀ rs
     there x =
@@ -148,7 +147,7 @@ module _ (d : ℕ) (rs : List IndexRecord) where
           back-none = λ p a h h8 l. place p h .axes a h8 .0 .0 l;
           back = λ p a h h8 l. place p h .axes a h8 .0 .1 (λ m. omega arith);
           ahead = λ p a h h8. place p h .axes a h8 .1;
-          complete = λ p a h ha o e l m. let t : (c : ℕ) × (c < d) × Blocks d rs p a c = x .1 .1 .1 .1 p h a ha (o, (e, (l, m))) in (t .0, t .2);
+          complete = λ p a h ha o e l m. let t : (c : ℕ) × (c < d) × Bars d rs p a c = x .1 .1 .1 .1 p h (o, m) a ha (e, l) in (t .0, t .2);
         }
       where
         place : (p : ℕ) → p < length rs → Place p
@@ -173,26 +172,30 @@ module _ (d : ℕ) (rs : List IndexRecord) where
                   roots = (λ e. rw e (f .first), λ n e. n (f .only p h e));
                   axes = λ a h8. ((f .back-none p a h h8, λ n. f .back p a h h8 (omega arith)), f .ahead p a h h8);
                 },
-            λ p h a ha o.
-                let t : (c : ℕ) × Blocks d rs p a c = f .complete p a h ha (o .0) (o .1 .0) (o .1 .1 .0) (o .1 .1 .1) in
+            λ p h o a ha w.
+                let t : (c : ℕ) × Bars d rs p a c = f .complete p a h ha (o .0) (w .0) (w .1) (o .1) in
                 (t .0, t .1 .axis, t .1),
           ),
         ),
       ),
     )
 
-    pub reads-followed : Reads (followedTest d b₀ rs) (Followed d b₀ rs)
+    pub reads-places : d ≤ 8 → Exactly (placesTest d rs) ((p : ℕ) → p < length rs → Place p)
+    unfolding placesTest
+    reads-places few = reads-all (placeTest d rs) Place (length rs) (λ p h. reads-place few p (formed p h))
+
+    pub reads-completes : Exactly (allCompleteTest d rs) ((p : ℕ) → p < length rs → Complete p)
+    unfolding allCompleteTest
+    reads-completes = reads-all (completeTest d rs) Complete (length rs) (λ p h. reads-complete p)
+
+    pub reads-followed : Exactly (followedTest d b₀ rs) (Followed d b₀ rs)
     unfolding followedTest
     reads-followed =
         reads-as there here
-        (reads-and _ _ (reads-and _ _ (reads-le 1 d) (reads-le d 8))
-        (reads-and _ _ (reads-and _ _ (reads-le 1 b₀) (reads-le b₀ 8192))
-        (reads-and _ _ (reads-and _ _ (reads-le 1 (length rs)) (reads-le (length rs) 512))
-        (reads-and _ _
-        (reads-all (placeTest d rs) Place (length rs) (λ p h. reads-place p (formed p h)))
-        (reads-all (λ p. allFrom d 0 (completeTest d rs p)) (λ p. (a : ℕ) → a < d → Complete p a) (length rs)
-        (λ p h. reads-all (completeTest d rs p) (Complete p) d (λ a ha. reads-complete p a)))))))
+        (reads-then _ _ (reads-and _ _ (reads-le 1 d) (reads-le d 8)) (λ h.
+        reads-and _ _ (reads-and _ _ (reads-le 1 b₀) (reads-le b₀ 8192))
+        (reads-and _ _ (reads-and _ _ (reads-le 1 (length rs)) (reads-le (length rs) 512)) (reads-and _ _ (reads-places (h .1)) reads-completes))))
 
     -- the test says yes exactly if the held indices and links are those of a sound area
-    pub reads-structure : Reads (followedTest d b₀ rs) (Structure d b₀ rs)
+    pub reads-structure : Exactly (followedTest d b₀ rs) (Structure d b₀ rs)
     reads-structure = reads-as (structure d b₀ rs) (followed d b₀ rs) reads-followed

@@ -1,6 +1,5 @@
--- What soundness gives, and that a check by links comes to the same as the clauses on the held indices.
+-- What soundness gives, and that a check by links comes to the same as the clauses.
 use mathlib.Core.Path.{_≡_}
-use mathlib.Core.Bool.{true}
 use mathlib.Core.List.{List, List·Memᴰ}
 use Prim.Native.Nat.{ℕ, _<_, _≤_}
 use lib.ListN.{length}
@@ -10,19 +9,21 @@ use Rattle.area.specs.Encoding.{Area, heldOf}
 use Rattle.quadrature.specs.Ready.{Ready, AllReady}
 use Rattle.quadrature.specs.Linked.{deliveredIn, Linked}
 use Rattle.soundness.specs.Held.{levelsAt}
-use Rattle.soundness.specs.Sound.{Structure, Sound}
+use Rattle.soundness.specs.Sound.{Structure, Sound, LongEnough, Exactly}
 use Rattle.soundness.specs.Follow.{Followed}
 use Rattle.soundness.specs.Test.{followedTest}
+use Rattle.soundness.specs.Totals.{areaTest}
 
 -- Following links accepts exactly the held indices and links of a sound area.
 pub record FollowFacts : Type 0 where
   pub accepted : (d b : ℕ) (rs : List IndexRecord) → Followed d b rs → Structure d b rs
   pub accepts : (d b : ℕ) (rs : List IndexRecord) → Structure d b rs → Followed d b rs
   -- and as a test, on records of eight levels, it says yes exactly then
-  pub yes-sure : (d b : ℕ) (rs : List IndexRecord) → ((p : ℕ) → p < length rs → length (levelsAt rs p) ≡ 8) → followedTest d b rs ≡ true → Structure d b rs
-  pub yes-back : (d b : ℕ) (rs : List IndexRecord) → ((p : ℕ) → p < length rs → length (levelsAt rs p) ≡ 8) → Structure d b rs → followedTest d b rs ≡ true
+  pub tested : (d b : ℕ) (rs : List IndexRecord) → ((p : ℕ) → p < length rs → length (levelsAt rs p) ≡ 8) → Exactly (followedTest d b rs) (Structure d b rs)
+  -- and the whole test says yes exactly if the area is sound and lies in storage that is long enough
+  pub whole : (a : Area) → ((p : ℕ) → p < length (heldOf a) → length (levelsAt (heldOf a) p) ≡ 8) → Exactly (areaTest a) (LongEnough a × Sound a)
 
--- In a sound area whose store is no shorter than its budget:
+-- In a sound area; where readings are asked for, the store is no shorter than the budget:
 pub record SoundFacts : Type 0 where
   -- every delivered index is ready, among the held and for the sum over the places, so its difference and tensor rule can be worked
   pub ready : (a : Area) → Sound a → a .job .budget ≤ length (a .store) → (k : List ℕ) → List·Memᴰ k (deliveredIn (heldOf a))

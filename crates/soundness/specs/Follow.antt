@@ -15,21 +15,24 @@ pub record Behind (rs : List IndexRecord) (p a q : ℕ) : Type 0 where
   pub place : q < length rs
   pub same : levelsAt rs q ≡ backward (levelsAt rs p) a
   pub old : stateAt rs q ≡ 2
-  pub again : forwardLink rs q a ≡ p
+  pub named-back : forwardLink rs q a ≡ p
 
 -- q is ahead of p along a: held, and its backward link names p. Its own test then compares the levels.
 pub record Ahead (rs : List IndexRecord) (p a q : ℕ) : Type 0 where
   pub place : q < length rs
-  pub again : backwardLink rs q a ≡ p
+  pub named-back : backwardLink rs q a ≡ p
 
--- Axis b shows that p raised along a is not admissible: the forward link along a of p's backward neighbour along b is none, or
--- names an index that is not old.
-pub record Blocks (d : ℕ) (rs : List IndexRecord) (p a b : ℕ) : Type 0 where
-  pub axis : b < d
-  pub other : b ≢ a
-  pub above : 1 < level (levelsAt rs p) b
-  pub missing : (forwardLink rs (backwardLink rs p b) a ≡ none) ⊎ (stateAt rs (forwardLink rs (backwardLink rs p b) a) ≢ 2)
+-- Axis c bars p along a, that is, shows that p raised along a is not admissible. The backward neighbour along c of p raised along a is
+-- p's backward neighbour along c, raised along a; its place is the forward link of the place behind, and it is none or not old.
+pub record Bars (d : ℕ) (rs : List IndexRecord) (p a c : ℕ) : Type 0 where
+  pub axis : c < d
+  pub other : c ≢ a
+  pub above : 1 < level (levelsAt rs p) c
+  pub missing : (forwardLink rs (backwardLink rs p c) a ≡ none) ⊎ (stateAt rs (forwardLink rs (backwardLink rs p c) a) ≢ 2)
 
+-- Two places with one index would have the same place behind, whose forward link names one of them only; so, down to the root, all are
+-- different. An admissible index other than the root is a forward neighbour of an old one. Beyond axis d levels are 1, so links there
+-- come out none.
 pub record Followed (d b : ℕ) (rs : List IndexRecord) : Type 0 where
   pub axes : (1 ≤ d) × (d ≤ 8)
   pub budget : (1 ≤ b) × (b ≤ 8192)
@@ -44,6 +47,6 @@ pub record Followed (d b : ℕ) (rs : List IndexRecord) : Type 0 where
   pub back : (p a : ℕ) → p < length rs → a < 8 → 1 < level (levelsAt rs p) a → Behind rs p a (backwardLink rs p a)
   -- forward links: none, or to the place ahead
   pub ahead : (p a : ℕ) → p < length rs → a < 8 → (forwardLink rs p a ≡ none) ⊎ Ahead rs p a (forwardLink rs p a)
-  -- where an old index has no forward link but could be raised, some axis blocks it
+  -- where an old index has no forward link but could be raised, some axis bars it
   pub complete : (p a : ℕ) → p < length rs → a < d → stateAt rs p ≡ 2 → forwardLink rs p a ≡ none
-      → level (levelsAt rs p) a < 8 → excess (levelsAt rs p) < 12 → (c : ℕ) × Blocks d rs p a c
+      → level (levelsAt rs p) a < 8 → excess (levelsAt rs p) < 12 → (c : ℕ) × Bars d rs p a c

@@ -3,12 +3,14 @@ use mathlib.Core.Path.{_≡_}
 use mathlib.Core.List.{List}
 use Prim.Native.Nat.{ℕ, _+_, _<_}
 use lib.ListN.{length, getD}
+use Rattle.grid.specs.Block.{blockSize}
 use Rattle.area.specs.declared.IndexRecord.{IndexRecord}
 use Rattle.quadrature.specs.Readings.{recordAt}
 
 abbrev pub levelsAt : List IndexRecord → ℕ → List ℕ
 levelsAt rs p = recordAt rs p .levels
 
+-- The state: 0 wanted, 1 active, 2 old; delivered means 1 or 2.
 abbrev pub stateAt : List IndexRecord → ℕ → ℕ
 stateAt rs p = recordAt rs p .state
 
@@ -18,6 +20,10 @@ forwardLink rs p a = getD (recordAt rs p .links) a 0
 
 abbrev pub backwardLink : List IndexRecord → ℕ → ℕ → ℕ
 backwardLink rs p a = getD (recordAt rs p .links) (8 + a) 0
+
+-- The size of the block of a place.
+abbrev pub sizeAt : List IndexRecord → ℕ → ℕ
+sizeAt rs p = blockSize (levelsAt rs p)
 
 -- The place p holds the index k.
 pub record Holds (rs : List IndexRecord) (k : List ℕ) (p : ℕ) : Type 0 where

@@ -1,5 +1,7 @@
--- When an area is *sound* ("Old, active and wanted", its last paragraph): one field or two for each clause, in the scope document's order.
+-- When an area is *sound* ("Old, active and wanted", its last paragraph): one to three fields for each clause, in the scope document's
+-- order. Places and axes count from 0.
 use mathlib.Core.Path.{_≡_}
+use mathlib.Core.Bool.{Bool, true}
 use mathlib.Core.List.{List}
 use Prim.Native.Nat.{ℕ, _+_, _*_, _^_, _<_, _≤_}
 use lib.IntN.{pos, natAbs}
@@ -14,12 +16,12 @@ use Rattle.area.specs.Encoding.{Area, heldOf, entriesOf, none}
 use Rattle.quadrature.specs.Readings.{recordAt}
 use Rattle.soundness.specs.Held.{levelsAt, stateAt, forwardLink, backwardLink, Holds, Held, HeldOld}
 
--- A link *names exactly* the held neighbour: the place that holds it, and none if no place does.
+-- A link names exactly the held neighbour: the place that holds it, and none if no place does.
 pub record Names (rs : List IndexRecord) (neighbour : List ℕ) (link : ℕ) : Type 0 where
   pub place : (q : ℕ) → Holds rs neighbour q → link ≡ q
   pub otherwise : (Held rs neighbour → ⊥) → link ≡ none
 
--- The clauses on the held indices and their links. d is the number of axes, b the budget, rs the held records.
+-- The clauses up to the links. d is the number of axes, b the budget, rs the held records.
 pub record Structure (d b : ℕ) (rs : List IndexRecord) : Type 0 where
   -- d, budget, levels and excess are in range; levels beyond axis d are 1
   pub axes : (1 ≤ d) × (d ≤ 8)
@@ -44,8 +46,8 @@ pub record Structure (d b : ℕ) (rs : List IndexRecord) : Type 0 where
 
 -- The clauses, in order.
 pub record Sound (a : Area) : Type 0 where
-  -- the held records lie in the lent run
-  pub lent : a .job .held ≤ length (a .run .records)
+  -- the held records lie in the lent run: no clause by itself, it makes the held as many as the job record says
+  pub held-lent : a .job .held ≤ length (a .run .records)
   pub structure : Structure (a .job .axes) (a .job .budget) (heldOf a)
   -- wanted records come last with indicator 0
   pub wanted-last : (p q : ℕ) → p ≤ q → q < length (heldOf a) → stateAt (heldOf a) p ≡ 0 → stateAt (heldOf a) q ≡ 0
@@ -57,8 +59,18 @@ pub record Sound (a : Area) : Type 0 where
   pub within-budget : a .job .reserved ≤ a .job .budget
   -- delivered readings are in range
   pub readings : (p n : ℕ) → p < length (heldOf a) → 1 ≤ stateAt (heldOf a) p → n < blockSize (levelsAt (heldOf a) p)
-      → IsReading (getD (a .store) (recordAt (heldOf a) p .first + n) (pos 0))
+      → (recordAt (heldOf a) p .first + n < length (a .store)) × IsReading (getD (a .store) (recordAt (heldOf a) p .first + n) (pos 0))
   -- the pending error is the active sum
   pub pending : a .job .pending ≡ pendingOf (entriesOf a)
   -- the scaled mean is in size at most the delivered count times 2^40
   pub mean : natAbs (a .job .mean) ≤ length (deliveredOf (entriesOf a)) * 2 ^ 40
+
+-- The lent storage is long enough ("Causes and numbers", 3): 512 records or more, and a store no shorter than the recorded budget.
+pub record LongEnough (a : Area) : Type 0 where
+  pub records : 512 ≤ length (a .run .records)
+  pub store : a .job .budget ≤ length (a .store)
+
+-- An answer that says yes exactly if a statement holds.
+pub record Exactly (answer : Bool) (P : Type 0) : Type 0 where
+  pub sure : answer ≡ true → P
+  pub back : P → answer ≡ true

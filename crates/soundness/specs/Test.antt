@@ -1,7 +1,7 @@
 -- The check by links as a test: two passes over the places, the second for completeness.
 use mathlib.Core.Bool.{Bool, true, false, not, cond, _&&_}
 use mathlib.Core.List.{List}
-use Prim.Native.Nat.{ℕ, zero, suc, _+_}
+use Prim.Native.Nat.{ℕ, zero, suc, _+_, _-_}
 use lib.Dec.{ltb, leb, eqb}
 use lib.ListN.{length}
 use Rattle.grid.specs.Index.{level, excess, within, root, backward}
@@ -21,11 +21,8 @@ anyFrom zero i f = false
 anyFrom (suc n) i f = cond (f i) true (anyFrom n (i + 1) f)
 
 -- An index of d axes: within the ceilings, and level 1 beyond axis d.
-unfoldable pub beyondTest : ℕ → List ℕ → ℕ → Bool
-beyondTest d k a = cond (ltb a d) true (eqb (level k a) 1)
-
 unfoldable pub indexTest : ℕ → List ℕ → Bool
-indexTest d k = within k && allFrom 8 0 (beyondTest d k)
+indexTest d k = within k && allFrom (8 - d) d (λ a. eqb (level k a) 1)
 
 -- The root is exactly at place 0.
 unfoldable pub rootTest : List IndexRecord → ℕ → Bool
@@ -34,7 +31,7 @@ rootTest rs p = cond (eqb p 0) (sameLevels (levelsAt rs p) root) (not (sameLevel
 -- The place q is behind p along a.
 unfoldable pub behindTest : List IndexRecord → ℕ → ℕ → ℕ → Bool
 behindTest rs p a q =
-    ltb q (length rs) && (sameLevels (levelsAt rs q) (backward (levelsAt rs p) a) && (eqb (stateAt rs q) 2 && eqb (forwardLink rs q a) p))
+    ltb q (length rs) && (eqb (stateAt rs q) 2 && (eqb (forwardLink rs q a) p && sameLevels (levelsAt rs q) (backward (levelsAt rs p) a)))
 
 unfoldable pub backTest : List IndexRecord → ℕ → ℕ → Bool
 backTest rs p a = cond (leb (level (levelsAt rs p) a) 1) (eqb (backwardLink rs p a) none) (behindTest rs p a (backwardLink rs p a))
@@ -43,28 +40,38 @@ unfoldable pub aheadTest : List IndexRecord → ℕ → ℕ → Bool
 aheadTest rs p a =
     cond (eqb (forwardLink rs p a) none) true (ltb (forwardLink rs p a) (length rs) && eqb (backwardLink rs (forwardLink rs p a) a) p)
 
+-- The links along one axis.
+unfoldable pub axisTest : List IndexRecord → ℕ → ℕ → Bool
+axisTest rs p a = backTest rs p a && aheadTest rs p a
+
 -- What one place shows of itself.
 unfoldable pub placeTest : ℕ → List IndexRecord → ℕ → Bool
-placeTest d rs p =
-    indexTest d (levelsAt rs p) && (leb (stateAt rs p) 2 && (rootTest rs p && allFrom 8 0 (λ a. backTest rs p a && aheadTest rs p a)))
+placeTest d rs p = indexTest d (levelsAt rs p) && (leb (stateAt rs p) 2 && (rootTest rs p && allFrom 8 0 (axisTest rs p)))
 
--- Axis c blocks p along a.
-unfoldable pub blocksTest : List IndexRecord → ℕ → ℕ → ℕ → Bool
-blocksTest rs p a c =
+-- The first pass.
+unfoldable pub placesTest : ℕ → List IndexRecord → Bool
+placesTest d rs = allFrom (length rs) 0 (placeTest d rs)
+
+-- Axis c bars p along a.
+unfoldable pub barsTest : List IndexRecord → ℕ → ℕ → ℕ → Bool
+barsTest rs p a c =
     not (eqb c a)
     && (ltb 1 (level (levelsAt rs p) c)
     && cond (eqb (forwardLink rs (backwardLink rs p c) a) none) true (not (eqb (stateAt rs (forwardLink rs (backwardLink rs p c) a)) 2)))
 
--- p is old, has no forward link along a, and could be raised there.
-unfoldable pub openTest : List IndexRecord → ℕ → ℕ → Bool
-openTest rs p a = eqb (stateAt rs p) 2 && (eqb (forwardLink rs p a) none && (ltb (level (levelsAt rs p) a) 8 && ltb (excess (levelsAt rs p)) 12))
+-- Where p has no forward link along a and its level there could be raised, some axis bars it.
+unfoldable pub openTest : ℕ → List IndexRecord → ℕ → ℕ → Bool
+openTest d rs p a = cond (eqb (forwardLink rs p a) none && ltb (level (levelsAt rs p) a) 8) (anyFrom d 0 (barsTest rs p a)) true
 
-unfoldable pub completeTest : ℕ → List IndexRecord → ℕ → ℕ → Bool
-completeTest d rs p a = cond (openTest rs p a) (anyFrom d 0 (blocksTest rs p a)) true
+-- An old index whose excess could grow, along every axis.
+unfoldable pub completeTest : ℕ → List IndexRecord → ℕ → Bool
+completeTest d rs p = cond (eqb (stateAt rs p) 2 && ltb (excess (levelsAt rs p)) 12) (allFrom d 0 (openTest d rs p)) true
+
+-- The second pass.
+unfoldable pub allCompleteTest : ℕ → List IndexRecord → Bool
+allCompleteTest d rs = allFrom (length rs) 0 (completeTest d rs)
 
 unfoldable pub followedTest : ℕ → ℕ → List IndexRecord → Bool
 followedTest d b rs =
     (leb 1 d && leb d 8)
-    && ((leb 1 b && leb b 8192)
-    && ((leb 1 (length rs) && leb (length rs) 512)
-    && (allFrom (length rs) 0 (placeTest d rs) && allFrom (length rs) 0 (λ p. allFrom d 0 (completeTest d rs p)))))
+    && ((leb 1 b && leb b 8192) && ((leb 1 (length rs) && leb (length rs) 512) && (placesTest d rs && allCompleteTest d rs)))

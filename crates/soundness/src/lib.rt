@@ -1,1 +1,1 @@
-// Soundness: definitions and laws only, so far. `check` and its tests by links will stand here.
+// Soundness: definitions and laws only. `check` stands in the crate `checking`.
