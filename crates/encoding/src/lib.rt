@@ -1,0 +1,1 @@
+// What a sound area encodes: definitions and laws only. The calls rest on them.
