@@ -1,0 +1,89 @@
+-- The tests of one place by what was read there, and sums along the places by one place more.
+-- Assumes nothing.
+use mathlib.Core.Path.{_≡_}
+use mathlib.Core.Logic.{_≢_}
+use mathlib.Core.Bool.{true, false}
+use mathlib.Core.List.{List}
+use Prim.Native.Nat.{ℕ, _+_, _<_, _≤_}
+use native.Mathlib.Numerals.{add-one}
+use native.Mathlib.Omega.{arith}
+use borrow.Author.Tests.{leb-true, eq-eqb, ne-eqb, lt-ltb, le-ltb, le-leb, lt-leb}
+use lib.Dec.{eqb}
+use lib.IntN.{ℤ}
+use lib.ListN.{length}
+use Rattle.sums.specs.Sums.{natSumTo}
+use Rattle.sums.proofs.Sizes.{natSumTo-suc}
+use Rattle.grid.specs.Index.{Within}
+use Rattle.grid.proofs.Levels.{and-left, and-right}
+use Rattle.area.specs.declared.IndexRecord.{IndexRecord}
+use Rattle.area.specs.Records.{recordsOf}
+use Rattle.area.proofs.Records.{length-recordsOf, eight-levels}
+use Rattle.quadrature.specs.Readings.{recordAt}
+use Rattle.soundness.specs.Held.{levelsAt, stateAt, sizeAt}
+use Rattle.soundness.specs.Test.{allFrom, placesTest}
+use Rattle.soundness.specs.Totals.{wantedTest, readingTest, blockTest, blocksTest}
+use Rattle.soundness.proofs.Tests.{reads-places}
+
+pub sum-next : (n : ℕ) (f : ℕ → ℕ) → natSumTo (n + 1) f ≡ natSumTo n f + f n
+sum-next n f = rw (add-one n) (natSumTo-suc n f)
+
+module _ (rs : List IndexRecord) (p : ℕ) where
+  -- ---- wanted records
+  pub not-wanted : stateAt rs p ≢ 0 → wantedTest rs p ≡ true
+  unfolding wantedTest
+  not-wanted n = rw (ne-eqb (stateAt rs p) 0 n)
+
+  module _ (wanted : stateAt rs p ≡ 0) where
+    pub not-idle : recordAt rs p .indicator ≢ 0 → wantedTest rs p ≡ false
+    unfolding wantedTest
+    not-idle n = rw (eq-eqb (stateAt rs p) 0 wanted, ne-eqb (recordAt rs p .indicator) 0 n)
+
+    pub none-after : recordAt rs p .indicator ≡ 0 → length rs ≤ p + 1 → wantedTest rs p ≡ true
+    unfolding wantedTest
+    none-after e h = rw (eq-eqb (stateAt rs p) 0 wanted, eq-eqb (recordAt rs p .indicator) 0 e, le-ltb (p + 1) (length rs) h)
+
+    pub one-after : recordAt rs p .indicator ≡ 0 → p + 1 < length rs → wantedTest rs p ≡ eqb (stateAt rs (p + 1)) 0
+    unfolding wantedTest
+    one-after e h = rw (eq-eqb (stateAt rs p) 0 wanted, eq-eqb (recordAt rs p .indicator) 0 e, lt-ltb (p + 1) (length rs) h)
+
+  -- ---- blocks
+  module _ (b : ℕ) (s : List ℤ) where
+    abbrev from : ℕ
+    from = natSumTo p (sizeAt rs)
+
+    pub elsewhere : recordAt rs p .first ≢ from → blockTest b rs s p ≡ false
+    unfolding blockTest
+    elsewhere n = rw (ne-eqb (recordAt rs p .first) from n)
+
+    module _ (begins : recordAt rs p .first ≡ from) where
+      pub too-far : b < from + sizeAt rs p → blockTest b rs s p ≡ false
+      unfolding blockTest
+      too-far h = rw (eq-eqb (recordAt rs p .first) from begins, lt-leb (from + sizeAt rs p) b h)
+
+      module _ (ends : from + sizeAt rs p ≤ b) where
+        pub not-read : stateAt rs p ≡ 0 → blockTest b rs s p ≡ true
+        unfolding blockTest
+        not-read e = rw (eq-eqb (recordAt rs p .first) from begins, le-leb (from + sizeAt rs p) b ends, eq-eqb (stateAt rs p) 0 e)
+
+        pub by-readings : stateAt rs p ≢ 0 → blockTest b rs s p ≡ allFrom (sizeAt rs p) from (readingTest s)
+        unfolding blockTest
+        by-readings n = rw (eq-eqb (recordAt rs p .first) from begins, le-leb (from + sizeAt rs p) b ends, ne-eqb (stateAt rs p) 0 n)
+
+    pub ends-within : blockTest b rs s p ≡ true → from + sizeAt rs p ≤ b
+    unfolding blockTest
+    ends-within e = leb-true (from + sizeAt rs p) b (and-left _ _ (and-right (eqb (recordAt rs p .first) from) _ e))
+
+-- ---- all blocks
+module _ (r b : ℕ) (rs : List IndexRecord) (s : List ℤ) where
+  pub one-bad : allFrom (length rs) 0 (blockTest b rs s) ≡ false → blocksTest r b rs s ≡ false
+  unfolding blocksTest
+  one-bad e = rw e
+
+  pub by-sum : allFrom (length rs) 0 (blockTest b rs s) ≡ true → blocksTest r b rs s ≡ eqb (natSumTo (length rs) (sizeAt rs)) r
+  unfolding blocksTest
+  by-sum e = rw e
+
+-- ---- the first pass has tested the levels
+pub tested-levels : (d : ℕ) (c : List ℕ) → d ≤ 8 → placesTest d (recordsOf c) ≡ true → (p : ℕ) → p < length (recordsOf c) → Within (levelsAt (recordsOf c) p)
+tested-levels d c few e p h =
+    reads-places d (recordsOf c) 0 (λ q l. eight-levels c q (omega (arith, length-recordsOf c))) few .sure e p h .index .ceilings

@@ -1,0 +1,71 @@
+-- The tests of one place's links, case by case, as the code asks them.
+-- Assumes nothing.
+use mathlib.Core.Path.{_≡_}
+use mathlib.Core.Logic.{_≢_}
+use mathlib.Core.Bool.{true, false, not}
+use mathlib.Core.List.{List}
+use Prim.Native.Nat.{ℕ, _<_, _≤_}
+use lib.Dec.{eqb}
+use lib.ListN.{length}
+use borrow.Author.Tests.{eq-eqb, ne-eqb, lt-ltb, le-ltb, le-leb, lt-leb}
+use Rattle.grid.specs.Index.{level, root, backward}
+use Rattle.grid.specs.Coefficient.{sameLevels}
+use Rattle.area.specs.declared.IndexRecord.{IndexRecord}
+use Rattle.area.specs.Encoding.{none}
+use Rattle.soundness.specs.Held.{levelsAt, stateAt, forwardLink, backwardLink}
+use Rattle.soundness.specs.Test.{rootTest, behindTest, backTest, aheadTest, axisTest}
+
+module _ (rs : List IndexRecord) (p : ℕ) where
+  pub root-here : p ≡ 0 → rootTest rs p ≡ sameLevels (levelsAt rs p) root
+  unfolding rootTest
+  root-here e = rw (eq-eqb p 0 e)
+
+  pub root-elsewhere : p ≢ 0 → rootTest rs p ≡ not (sameLevels (levelsAt rs p) root)
+  unfolding rootTest
+  root-elsewhere n = rw (ne-eqb p 0 n)
+
+  module _ (a q : ℕ) where
+    pub behind-far : length rs ≤ q → behindTest rs p a q ≡ false
+    unfolding behindTest
+    behind-far h = rw (le-ltb q (length rs) h)
+
+    pub behind-not-old : q < length rs → stateAt rs q ≢ 2 → behindTest rs p a q ≡ false
+    unfolding behindTest
+    behind-not-old h n = rw (lt-ltb q (length rs) h, ne-eqb (stateAt rs q) 2 n)
+
+    pub behind-not-named : q < length rs → stateAt rs q ≡ 2 → forwardLink rs q a ≢ p → behindTest rs p a q ≡ false
+    unfolding behindTest
+    behind-not-named h e n = rw (lt-ltb q (length rs) h, eq-eqb (stateAt rs q) 2 e, ne-eqb (forwardLink rs q a) p n)
+
+    pub behind-levels : q < length rs → stateAt rs q ≡ 2 → forwardLink rs q a ≡ p → behindTest rs p a q ≡ sameLevels (levelsAt rs q) (backward (levelsAt rs p) a)
+    unfolding behindTest
+    behind-levels h e f = rw (lt-ltb q (length rs) h, eq-eqb (stateAt rs q) 2 e, eq-eqb (forwardLink rs q a) p f)
+
+  module _ (a : ℕ) where
+    pub back-none : level (levelsAt rs p) a ≤ 1 → backTest rs p a ≡ eqb (backwardLink rs p a) none
+    unfolding backTest
+    back-none h = rw (le-leb (level (levelsAt rs p) a) 1 h)
+
+    pub back-behind : 1 < level (levelsAt rs p) a → backTest rs p a ≡ behindTest rs p a (backwardLink rs p a)
+    unfolding backTest
+    back-behind h = rw (lt-leb (level (levelsAt rs p) a) 1 h)
+
+    pub ahead-none : forwardLink rs p a ≡ none → aheadTest rs p a ≡ true
+    unfolding aheadTest
+    ahead-none e = rw (eq-eqb (forwardLink rs p a) none e)
+
+    pub ahead-far : forwardLink rs p a ≢ none → length rs ≤ forwardLink rs p a → aheadTest rs p a ≡ false
+    unfolding aheadTest
+    ahead-far n h = rw (ne-eqb (forwardLink rs p a) none n, le-ltb (forwardLink rs p a) (length rs) h)
+
+    pub ahead-named : forwardLink rs p a ≢ none → forwardLink rs p a < length rs → aheadTest rs p a ≡ eqb (backwardLink rs (forwardLink rs p a) a) p
+    unfolding aheadTest
+    ahead-named n h = rw (ne-eqb (forwardLink rs p a) none n, lt-ltb (forwardLink rs p a) (length rs) h)
+
+    pub axis-no-back : backTest rs p a ≡ false → axisTest rs p a ≡ false
+    unfolding axisTest
+    axis-no-back e = rw e
+
+    pub axis-ahead : backTest rs p a ≡ true → axisTest rs p a ≡ aheadTest rs p a
+    unfolding axisTest
+    axis-ahead e = rw e

@@ -1,0 +1,468 @@
+// Whether an area is sound. Links are followed and never searched for, so the work grows with what is held. Two passes over the
+// places: the second asks for completeness, and reads where the first has tested.
+ghost use mathlib.Core.Path.{_≡_};
+ghost use mathlib.Core.Bool.{true};
+ghost use Prim.Native.Nat.{_+_, _*_, _^_, _<_, _≤_};
+ghost use lib.Dec.{leb};
+ghost use lib.IntN.{natAbs};
+ghost use lib.ListN.{length};
+ghost use Rattle.sums.specs.Sums.{natSumTo};
+ghost use Rattle.grid.specs.Index.{level, excess, Within};
+ghost use Rattle.area.specs.Records.{recordsOf};
+ghost use Rattle.area.specs.Encoding.{areaOf};
+ghost use Rattle.soundness.specs.Held.{levelsAt, backwardLink, sizeAt};
+ghost use Rattle.soundness.specs.Clauses.{checked};
+ghost use Rattle.soundness.specs.Test.{allFrom, anyFrom, indexTest, rootTest, behindTest, backTest, aheadTest, axisTest, placeTest, placesTest, barsTest, openTest, completeTest, allCompleteTest};
+ghost use Rattle.soundness.specs.Totals.{wantedTest, allWantedTest, readingTest, blockTest, blocksTest, pendingIn, deliveredCount, jobTest, heldTest};
+
+// Whether a level list is an index of a job with so many axes.
+fn index_fits(axes: usize, levels: [u32; 8]) -> bool
+    requires { ⌜ axes ≤ 8 ⌝ }
+    ensures { λ r. ⌜ r ≡ indexTest axes levels ⌝ }
+{
+    if !grid::within_ceilings(levels) {
+        return false;
+    }
+    let mut axis = axes;
+    while axis < 8 {
+        if levels[axis] != 1 {
+            return false;
+        }
+        axis += 1;
+    }
+    true
+}
+
+// Whether the root is here exactly if this is place 0.
+fn root_fits(place: usize, cells: &[u32]) -> bool
+    requires { ⌜ place < length (recordsOf (now cells)) ⌝ }
+    ensures { λ r. ⌜ r ≡ rootTest (recordsOf (now (cells .entry))) place ⌝ }
+{
+    let is_root = area::levels_are(cells, place, [1u32; 8]);
+    if place == 0 { is_root } else { !is_root }
+}
+
+// Whether the backward link along an axis names a place behind: the lowered levels, old, and linked back.
+fn behind_fits(held: usize, place: usize, axis: usize, levels: [u32; 8], cells: &[u32]) -> bool
+    requires { ⌜ (length (recordsOf (now cells)) ≡ held) × (place < held) × (axis < 8) ⌝ }
+    requires { ⌜ (levels ≡ levelsAt (recordsOf (now cells)) place) × (1 < level levels axis) ⌝ }
+    ensures { λ r. ⌜ r ≡ behindTest (recordsOf (now (cells .entry))) place axis (backwardLink (recordsOf (now (cells .entry))) place axis) ⌝ }
+{
+    let behind = area::link_at(cells, place, 8 + axis) as usize;
+    if held <= behind {
+        return false;
+    }
+    if area::state_at(cells, behind) != area::OLD {
+        return false;
+    }
+    if area::link_at(cells, behind, axis) as usize != place {
+        return false;
+    }
+    area::levels_are(cells, behind, grid::backward_neighbour(levels, axis))
+}
+
+// Whether the backward link along an axis is right: none at level 1, else to the place behind.
+fn back_fits(held: usize, place: usize, axis: usize, levels: [u32; 8], cells: &[u32]) -> bool
+    requires { ⌜ (length (recordsOf (now cells)) ≡ held) × (place < held) × (axis < 8) ⌝ }
+    requires { ⌜ levels ≡ levelsAt (recordsOf (now cells)) place ⌝ }
+    ensures { λ r. ⌜ r ≡ backTest (recordsOf (now (cells .entry))) place axis ⌝ }
+{
+    if levels[axis] <= 1 {
+        area::link_at(cells, place, 8 + axis) == area::NONE
+    } else {
+        behind_fits(held, place, axis, levels, cells)
+    }
+}
+
+// Whether the forward link along an axis is none, or names a held place that names this one back.
+fn ahead_fits(held: usize, place: usize, axis: usize, cells: &[u32]) -> bool
+    requires { ⌜ (length (recordsOf (now cells)) ≡ held) × (place < held) × (axis < 8) ⌝ }
+    ensures { λ r. ⌜ r ≡ aheadTest (recordsOf (now (cells .entry))) place axis ⌝ }
+{
+    let link = area::link_at(cells, place, axis);
+    if link == area::NONE {
+        return true;
+    }
+    let ahead = link as usize;
+    if held <= ahead {
+        return false;
+    }
+    area::link_at(cells, ahead, 8 + axis) as usize == place
+}
+
+// Whether the sixteen links of a place are right.
+fn links_fit(held: usize, place: usize, levels: [u32; 8], cells: &[u32]) -> bool
+    requires { ⌜ (length (recordsOf (now cells)) ≡ held) × (place < held) ⌝ }
+    requires { ⌜ levels ≡ levelsAt (recordsOf (now cells)) place ⌝ }
+    ensures { λ r. ⌜ r ≡ allFrom 8 0 (axisTest (recordsOf (now (cells .entry))) place) ⌝ }
+{
+    let mut axis: usize = 0;
+    while axis < 8 {
+        if !back_fits(held, place, axis, levels, cells) {
+            return false;
+        }
+        if !ahead_fits(held, place, axis, cells) {
+            return false;
+        }
+        axis += 1;
+    }
+    true
+}
+
+// What one place shows of itself: its index, state and links, and that it is the root exactly at place 0.
+fn place_fits(axes: usize, held: usize, place: usize, cells: &[u32]) -> bool
+    requires { ⌜ (axes ≤ 8) × (length (recordsOf (now cells)) ≡ held) × (place < held) ⌝ }
+    ensures { λ r. ⌜ r ≡ placeTest axes (recordsOf (now (cells .entry))) place ⌝ }
+{
+    let levels = area::levels_at(cells, place);
+    if !index_fits(axes, levels) {
+        return false;
+    }
+    if area::OLD < area::state_at(cells, place) {
+        return false;
+    }
+    if !root_fits(place, cells) {
+        return false;
+    }
+    links_fit(held, place, levels, cells)
+}
+
+// The first pass.
+fn places_fit(axes: usize, held: usize, cells: &[u32]) -> bool
+    requires { ⌜ (axes ≤ 8) × (length (recordsOf (now cells)) ≡ held) ⌝ }
+    ensures { λ r. ⌜ r ≡ placesTest axes (recordsOf (now (cells .entry))) ⌝ }
+{
+    let mut place: usize = 0;
+    while place < held {
+        if !place_fits(axes, held, place, cells) {
+            return false;
+        }
+        place += 1;
+    }
+    true
+}
+
+// The excess of an index.
+fn excess_of(levels: [u32; 8]) -> u32
+    requires { ⌜ Within levels ⌝ }
+    ensures { λ r. ⌜ r ≡ excess levels ⌝ }
+{
+    let mut sum: u32 = 0;
+    let mut axis: usize = 0;
+    while axis < 8 {
+        sum += levels[axis] - 1;
+        axis += 1;
+    }
+    sum
+}
+
+// Whether axis `other` shows that the index here, raised along `axis`, isn't admissible: the place behind along `other` has no
+// forward link along `axis`, or one to an index that isn't old.
+fn bars(axes: usize, place: usize, axis: usize, other: usize, cells: &[u32]) -> bool
+    requires { ⌜ (axes ≤ 8) × (placesTest axes (recordsOf (now cells)) ≡ true) ⌝ }
+    requires { ⌜ (place < length (recordsOf (now cells))) × (axis < axes) × (other < axes) ⌝ }
+    ensures { λ r. ⌜ r ≡ barsTest (recordsOf (now (cells .entry))) place axis other ⌝ }
+{
+    if other == axis {
+        return false;
+    }
+    if area::level_at(cells, place, other) <= 1 {
+        return false;
+    }
+    let behind = area::link_at(cells, place, 8 + other) as usize;
+    let beside = area::link_at(cells, behind, axis);
+    if beside == area::NONE {
+        return true;
+    }
+    area::state_at(cells, beside as usize) != area::OLD
+}
+
+// Whether some axis bars the index here along `axis`.
+fn barred(axes: usize, place: usize, axis: usize, cells: &[u32]) -> bool
+    requires { ⌜ (axes ≤ 8) × (placesTest axes (recordsOf (now cells)) ≡ true) ⌝ }
+    requires { ⌜ (place < length (recordsOf (now cells))) × (axis < axes) ⌝ }
+    ensures { λ r. ⌜ r ≡ anyFrom axes 0 (barsTest (recordsOf (now (cells .entry))) place axis) ⌝ }
+{
+    let mut other: usize = 0;
+    while other < axes {
+        if bars(axes, place, axis, other, cells) {
+            return true;
+        }
+        other += 1;
+    }
+    false
+}
+
+// Whether the forward neighbour along an axis is held, above the ceiling of levels, or barred.
+fn axis_complete(axes: usize, place: usize, axis: usize, cells: &[u32]) -> bool
+    requires { ⌜ (axes ≤ 8) × (placesTest axes (recordsOf (now cells)) ≡ true) ⌝ }
+    requires { ⌜ (place < length (recordsOf (now cells))) × (axis < axes) ⌝ }
+    ensures { λ r. ⌜ r ≡ openTest axes (recordsOf (now (cells .entry))) place axis ⌝ }
+{
+    if area::link_at(cells, place, axis) != area::NONE {
+        return true;
+    }
+    if 8 <= area::level_at(cells, place, axis) {
+        return true;
+    }
+    barred(axes, place, axis, cells)
+}
+
+// Whether all that the index here makes admissible is held.
+fn place_complete(axes: usize, place: usize, cells: &[u32]) -> bool
+    requires { ⌜ (axes ≤ 8) × (placesTest axes (recordsOf (now cells)) ≡ true) ⌝ }
+    requires { ⌜ place < length (recordsOf (now cells)) ⌝ }
+    ensures { λ r. ⌜ r ≡ completeTest axes (recordsOf (now (cells .entry))) place ⌝ }
+{
+    if area::state_at(cells, place) != area::OLD {
+        return true;
+    }
+    if 12 <= excess_of(area::levels_at(cells, place)) {
+        return true;
+    }
+    let mut axis: usize = 0;
+    while axis < axes {
+        if !axis_complete(axes, place, axis, cells) {
+            return false;
+        }
+        axis += 1;
+    }
+    true
+}
+
+// The second pass.
+fn all_complete(axes: usize, held: usize, cells: &[u32]) -> bool
+    requires { ⌜ (axes ≤ 8) × (placesTest axes (recordsOf (now cells)) ≡ true) ⌝ }
+    requires { ⌜ length (recordsOf (now cells)) ≡ held ⌝ }
+    ensures { λ r. ⌜ r ≡ allCompleteTest axes (recordsOf (now (cells .entry))) ⌝ }
+{
+    let mut place: usize = 0;
+    while place < held {
+        if !place_complete(axes, place, cells) {
+            return false;
+        }
+        place += 1;
+    }
+    true
+}
+
+// Whether a wanted place has indicator 0 and none but wanted ones after it.
+fn wanted_fits(held: usize, place: usize, cells: &[u32]) -> bool
+    requires { ⌜ (length (recordsOf (now cells)) ≡ held) × (place < held) ⌝ }
+    ensures { λ r. ⌜ r ≡ wantedTest (recordsOf (now (cells .entry))) place ⌝ }
+{
+    if area::state_at(cells, place) != area::WANTED {
+        return true;
+    }
+    if area::indicator_at(cells, place) != 0 {
+        return false;
+    }
+    let next = place + 1;
+    if held <= next {
+        return true;
+    }
+    area::state_at(cells, next) == area::WANTED
+}
+
+// Whether wanted records come last with indicator 0.
+fn all_wanted_fit(held: usize, cells: &[u32]) -> bool
+    requires { ⌜ length (recordsOf (now cells)) ≡ held ⌝ }
+    ensures { λ r. ⌜ r ≡ allWantedTest (recordsOf (now (cells .entry))) ⌝ }
+{
+    let mut place: usize = 0;
+    while place < held {
+        if !wanted_fits(held, place, cells) {
+            return false;
+        }
+        place += 1;
+    }
+    true
+}
+
+// Whether the readings of a block are in range.
+pub fn readings_fit(first: usize, size: usize, store: &[i32]) -> bool
+    requires { ⌜ first + size ≤ length (now store) ⌝ }
+    ensures { λ r. ⌜ r ≡ allFrom size first (readingTest (now (store .entry))) ⌝ }
+{
+    let end = first + size;
+    let mut at = first;
+    while at < end {
+        let reading = store[at];
+        if reading < -1048576 {
+            return false;
+        }
+        if 1048576 < reading {
+            return false;
+        }
+        at += 1;
+    }
+    true
+}
+
+// Whether the block of a place lies where the blocks before it end, within the budget, its readings in range once delivered.
+fn block_fits(
+    budget: usize,
+    place: usize,
+    first: usize,
+    size: usize,
+    cells: &[u32],
+    store: &[i32],
+) -> bool
+    requires { ⌜ (place < length (recordsOf (now cells))) × (budget ≤ length (now store)) × (budget ≤ 8192) ⌝ }
+    requires { ⌜ (first ≡ natSumTo place (sizeAt (recordsOf (now cells)))) × (first ≤ 8192) ⌝ }
+    requires { ⌜ (size ≡ sizeAt (recordsOf (now cells)) place) × (size ≤ 8192) ⌝ }
+    ensures { λ r. ⌜ r ≡ blockTest budget (recordsOf (now (cells .entry))) (now (store .entry)) place ⌝ }
+{
+    if area::first_at(cells, place) as usize != first {
+        return false;
+    }
+    if budget < first + size {
+        return false;
+    }
+    if area::state_at(cells, place) == area::WANTED {
+        return true;
+    }
+    readings_fit(first, size, store)
+}
+
+// Whether the blocks follow each other, within the budget, and come to the reserved readings.
+fn blocks_fit(
+    axes: usize,
+    held: usize,
+    reserved: usize,
+    budget: usize,
+    cells: &[u32],
+    store: &[i32],
+) -> bool
+    requires { ⌜ (axes ≤ 8) × (placesTest axes (recordsOf (now cells)) ≡ true) ⌝ }
+    requires { ⌜ (length (recordsOf (now cells)) ≡ held) × (budget ≤ length (now store)) × (budget ≤ 8192) ⌝ }
+    ensures { λ r. ⌜ r ≡ blocksTest reserved budget (recordsOf (now (cells .entry))) (now (store .entry)) ⌝ }
+{
+    let mut first: usize = 0;
+    let mut place: usize = 0;
+    while place < held {
+        let size = grid::block_size(area::levels_at(cells, place));
+        if !block_fits(budget, place, first, size, cells, store) {
+            return false;
+        }
+        first += size;
+        place += 1;
+    }
+    first == reserved
+}
+
+// The sum of the active indices' indicators.
+fn pending_sum(held: usize, cells: &[u32]) -> u64
+    requires { ⌜ (length (recordsOf (now cells)) ≡ held) × (held ≤ 512) ⌝ }
+    ensures { λ r. ⌜ r ≡ pendingIn (recordsOf (now (cells .entry))) ⌝ }
+{
+    let mut sum: u64 = 0;
+    let mut place: usize = 0;
+    while place < held {
+        if area::state_at(cells, place) == area::ACTIVE {
+            sum += area::indicator_at(cells, place) as u64;
+        }
+        place += 1;
+    }
+    sum
+}
+
+// How many places are delivered.
+fn delivered_count(held: usize, cells: &[u32]) -> usize
+    requires { ⌜ (length (recordsOf (now cells)) ≡ held) × (held ≤ 512) ⌝ }
+    ensures { λ r. ⌜ r ≡ deliveredCount (recordsOf (now (cells .entry))) ⌝ }
+{
+    let mut count: usize = 0;
+    let mut place: usize = 0;
+    while place < held {
+        if area::state_at(cells, place) != area::WANTED {
+            count += 1;
+        }
+        place += 1;
+    }
+    count
+}
+
+// Whether a scaled mean is in size at most a delivered count times 2^40.
+fn mean_fits(count: usize, mean: i64) -> bool
+    requires { ⌜ count ≤ 512 ⌝ }
+    ensures { λ r. ⌜ r ≡ leb (natAbs mean) (count * 2 ^ 40) ⌝ }
+{
+    let bound = (count as i64) * 1099511627776;
+    if bound < mean {
+        return false;
+    }
+    -bound <= mean
+}
+
+// Whether the numbers of the job record are in range and the lent storage is long enough.
+fn job_fits(job: area::JobRecord, records: usize, readings: usize) -> bool
+    ensures { λ r. ⌜ r ≡ jobTest job records readings ⌝ }
+{
+    if records < 512 {
+        return false;
+    }
+    if readings < job.budget as usize {
+        return false;
+    }
+    if job.axes < 1 {
+        return false;
+    }
+    if 8 < job.axes {
+        return false;
+    }
+    if job.budget < 1 {
+        return false;
+    }
+    if 8192 < job.budget {
+        return false;
+    }
+    if job.held < 1 {
+        return false;
+    }
+    job.held <= 512
+}
+
+// Whether the held records are sound. The cells are theirs alone.
+fn held_fit(job: area::JobRecord, cells: &[u32], store: &[i32]) -> bool
+    requires { ⌜ (job .axes ≤ 8) × (job .budget ≤ 8192) × (job .held ≤ 512) ⌝ }
+    requires { ⌜ (length (recordsOf (now cells)) ≡ job .held) × (job .budget ≤ length (now store)) ⌝ }
+    ensures { λ r. ⌜ r ≡ heldTest job (recordsOf (now (cells .entry))) (now (store .entry)) ⌝ }
+{
+    let axes = job.axes as usize;
+    let held = job.held as usize;
+    if !places_fit(axes, held, cells) {
+        return false;
+    }
+    if !all_complete(axes, held, cells) {
+        return false;
+    }
+    if !all_wanted_fit(held, cells) {
+        return false;
+    }
+    if !blocks_fit(
+        axes,
+        held,
+        job.reserved as usize,
+        job.budget as usize,
+        cells,
+        store,
+    ) {
+        return false;
+    }
+    if pending_sum(held, cells) != job.pending {
+        return false;
+    }
+    mean_fits(delivered_count(held, cells), job.mean)
+}
+
+// Whether the area is sound and lies in storage that is long enough.
+pub fn check(job: area::JobRecord, cells: &[u32], store: &[i32]) -> bool
+    ensures { λ r. ⌜ r ≡ checked (areaOf job (now (cells .entry)) (now (store .entry))) ⌝ }
+{
+    if !job_fits(job, cells.len() / 27, store.len()) {
+        return false;
+    }
+    let end = job.held as usize * 27;
+    held_fit(job, &cells[..end], store)
+}
