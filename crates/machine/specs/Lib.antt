@@ -1,0 +1,9 @@
+-- The published algorithm on a list of entries: the log, the steps, what refuses a call, and what is counted. `Areas` says what the
+-- steps are on an area.
+pub mod Log
+pub mod Promote
+pub mod Steps
+pub mod Areas
+pub mod Causes
+pub mod Counts
+pub mod Facts

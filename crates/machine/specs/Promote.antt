@@ -1,0 +1,90 @@
+-- Promote ("Old, active and wanted"): selecting an active index, and refining it. In Fig. 1 of the source these are the selection of
+-- the index with the largest indicator, its move to the old set, and the loop over its forward neighbours.
+use mathlib.Core.Bool.{Bool, true, false, cond, _&&_}
+use mathlib.Core.List.{List, [], _∷_, _++_, map}
+use Prim.Native.Nat.{ℕ, zero, suc, _+_}
+use lib.Dec.{leb, eqb}
+use lib.ListN.{length, set}
+use Rattle.grid.specs.Index.{level, within, forward, backward}
+use Rattle.grid.specs.Coefficient.{sameLevels}
+use Rattle.area.specs.Entry.{Entry, reservedBy, pendingOf}
+use Rattle.soundness.specs.Test.{allFrom}
+use Rattle.encoding.specs.Entries.{entryAt}
+use Rattle.machine.specs.Log.{Log, withEntries, wanted}
+
+-- ---- selecting: the active index of largest indicator, the lowest place among equals
+
+-- The largest indicator of an active entry; 0 if none is active.
+unfoldable pub largest : List Entry → ℕ
+largest [] = 0
+largest (e ∷ es) = cond (eqb (e .state) 1 && leb (largest es) (e .indicator)) (e .indicator) (largest es)
+
+-- The place of the first active entry with this indicator; the number of entries if there is none.
+unfoldable pub firstActive : ℕ → List Entry → ℕ
+firstActive i [] = 0
+firstActive i (e ∷ es) = cond (eqb (e .state) 1 && eqb (e .indicator) i) 0 (suc (firstActive i es))
+
+unfoldable pub selected : List Entry → ℕ
+selected es = firstActive (largest es) es
+
+-- ---- refining: the selected index becomes old; a forward neighbour within the ceilings is admitted if all its own backward
+-- neighbours are old, the selected one now included
+
+unfoldable pub retired : Entry → Entry
+retired e = record { levels = e .levels; state = 2; indicator = e .indicator; readings = e .readings }
+
+unfoldable pub retire : List Entry → ℕ → List Entry
+retire es p = set es p (retired (entryAt es p))
+
+-- The index has an old entry.
+unfoldable pub isOld : List Entry → List ℕ → Bool
+isOld [] k = false
+isOld (e ∷ es) k = cond (sameLevels (e .levels) k && eqb (e .state) 2) true (isOld es k)
+
+-- Along an axis at level 1 there is no backward neighbour, so none is asked for.
+unfoldable pub backwardOld : List Entry → List ℕ → ℕ → Bool
+backwardOld es k b = cond (leb (level k b) 1) true (isOld es (backward k b))
+
+unfoldable pub admits : ℕ → List Entry → List ℕ → ℕ → Bool
+admits d es k a = within (forward k a) && allFrom d 0 (backwardOld es (forward k a))
+
+-- Those of n numbers from a on that pass a test, in order.
+unfoldable pub passing : ℕ → ℕ → (ℕ → Bool) → List ℕ
+passing zero a f = []
+passing (suc n) a f = cond (f a) (a ∷ passing n (a + 1) f) (passing n (a + 1) f)
+
+-- The axes, in order, along which k has an admitted forward neighbour.
+unfoldable pub admittedAxes : ℕ → List Entry → List ℕ → List ℕ
+admittedAxes d es k = passing d 0 (admits d es k)
+
+-- The admitted are appended in axis order, wanted. This is for any active place, whatever selected it.
+unfoldable pub refine : ℕ → List Entry → ℕ → List Entry
+refine d es p = retire es p ++ map (λ a. wanted (forward (entryAt es p .levels) a)) (admittedAxes d (retire es p) (entryAt es p .levels))
+
+-- ---- the answers
+
+-- *Met* exactly if the pending error is at most the threshold.
+unfoldable pub isMet : Log → Bool
+isMet l = leb (pendingOf (l .entries)) (l .threshold)
+
+-- At most 512 held, and reserved at most the budget. Promote is *spent* exactly if this fails with the admitted appended.
+unfoldable pub fits : ℕ → List Entry → Bool
+fits b es = leb (length es) 512 && leb (reservedBy es) b
+
+pub data Outcome : Type 0 where
+  met : Outcome
+  spent : Outcome
+  promoted : Outcome
+
+pub record Promotion : Type 0 where
+  pub outcome : Outcome
+  pub log : Log
+
+-- Refining a place, unless it is spent, and then nothing changes.
+unfoldable pub promoteAt : Log → ℕ → Promotion
+promoteAt l p =
+    cond (fits (l .budget) (refine (l .axes) (l .entries) p)) (record { outcome = promoted; log = withEntries l (refine (l .axes) (l .entries) p) })
+    (record { outcome = spent; log = l })
+
+unfoldable pub promote : Log → Promotion
+promote l = cond (isMet l) (record { outcome = met; log = l }) (promoteAt l (selected (l .entries)))
