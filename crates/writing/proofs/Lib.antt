@@ -1,0 +1,19 @@
+-- What the steps change in storage, lowest first.
+pub mod Linking
+pub mod Fields
+pub mod Places
+pub mod Links
+pub mod Named
+pub mod Kept
+pub mod Entries
+pub mod Unread
+pub mod Appended
+pub mod InTurn
+pub mod Admitted
+pub mod Store
+pub mod Areas
+pub mod Start
+pub mod Deliver
+pub mod Refine
+pub mod Facts
+pub mod After

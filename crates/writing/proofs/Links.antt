@@ -1,0 +1,70 @@
+-- Sixteen links by axis: those that the encoding makes of an index, and those of an index just admitted.
+-- Assumes nothing.
+use mathlib.Core.Path.{_≡_, refl, sym, ap, ap₂, _∙_, subst}
+use mathlib.Core.Logic.{_⊎_, inl}
+use mathlib.Core.Bool.{Bool, true, false, cond}
+use mathlib.Core.List.{List}
+use Prim.Native.Nat.{ℕ, _+_, _-_, _<_, _≤_}
+use native.Mathlib.Decide.{decLt}
+use native.Mathlib.Omega.{arith}
+use borrow.Author.Tests.{lt-ltb, le-ltb}
+use lib.Dec.{ltb}
+use lib.ListN.{length, getD, replicate, length-append, getD-replicate, List·getD-append}
+use lib.Seq.{ext-getD, getD-append-add}
+use Rattle.sums.specs.Lists.{tab}
+use Rattle.sums.proofs.Lists.{length-tab, getD-tab}
+use Rattle.grid.specs.Index.{level, forward, backward}
+use Rattle.area.specs.Encoding.{none, placeOf, linksOf}
+use Rattle.encoding.proofs.Links.{forward-at, backward-at}
+use Rattle.writing.specs.Changes.{newLinks}
+use Rattle.writing.proofs.Places.{place-bounded}
+
+module _ (ls : List (List ℕ)) (k : List ℕ) where
+  pub links-length : length (linksOf ls k) ≡ 16
+  unfolding linksOf
+  links-length =
+      length-append (tab 8 (λ a. placeOf ls (forward k a))) (tab 8 (λ a. placeOf ls (backward k a)))
+      ∙ ap₂ _+_ (length-tab 8 (λ a. placeOf ls (forward k a))) (length-tab 8 (λ a. placeOf ls (backward k a)))
+
+  -- sixteen links are an index's if they are its neighbours' places
+  pub links-are : (m : List ℕ) → length m ≡ 16 → ((a : ℕ) → a < 8 → getD m a 0 ≡ placeOf ls (forward k a))
+      → ((a : ℕ) → a < 8 → getD m (8 + a) 0 ≡ placeOf ls (backward k a)) → m ≡ linksOf ls k
+  links-are m e f b = ext-getD 0 m (linksOf ls k) (e ∙ sym links-length) (λ i h. each i (omega arith) (decLt i 8))
+    where
+      each : (i : ℕ) → i < 16 → Dec (i < 8) → getD m i 0 ≡ getD (linksOf ls k) i 0
+      each i h (yes l) = f i l ∙ sym (forward-at ls k i l)
+      each i h (no l) =
+          let s : i ≡ 8 + (i - 8) = omega arith in
+          rw s (b (i - 8) (omega arith) ∙ sym (backward-at ls k (i - 8) (omega arith)))
+
+-- ---- an index just admitted
+
+module _ (ls : List (List ℕ)) (x : List ℕ) where
+  abbrev behind : ℕ → ℕ
+  behind a = cond (ltb 1 (level x a)) (placeOf ls (backward x a)) none
+
+  pub new-length : length (newLinks ls x) ≡ 16
+  unfolding newLinks
+  new-length = length-append (replicate 8 none) (tab 8 behind) ∙ ap (λ n. 8 + n) (length-tab 8 behind)
+
+  pub new-forward : (a : ℕ) → a < 8 → getD (newLinks ls x) a 0 ≡ none
+  unfolding newLinks
+  new-forward a h = List·getD-append (replicate 8 none) (tab 8 behind) 0 a h ∙ getD-replicate 8 a none 0 h
+
+  new-backward : (a : ℕ) → a < 8 → getD (newLinks ls x) (8 + a) 0 ≡ behind a
+  unfolding newLinks
+  new-backward a h = getD-append-add (replicate 8 none) (tab 8 behind) a 0 ∙ getD-tab 8 behind a 0 h
+
+  pub new-above : (a : ℕ) → a < 8 → 1 < level x a → getD (newLinks ls x) (8 + a) 0 ≡ placeOf ls (backward x a)
+  new-above a h l = new-backward a h ∙ rw (lt-ltb 1 (level x a) l)
+
+  pub new-none : (a : ℕ) → a < 8 → level x a ≤ 1 → getD (newLinks ls x) (8 + a) 0 ≡ none
+  new-none a h l = new-backward a h ∙ rw (le-ltb 1 (level x a) l)
+
+  -- each backward link is none or one of the places
+  pub new-bounded : (a : ℕ) → a < 8 → (getD (newLinks ls x) (8 + a) 0 ≡ none) ⊎ (getD (newLinks ls x) (8 + a) 0 < length ls)
+  new-bounded a h = subst (λ q. (q ≡ none) ⊎ (q < length ls)) (sym (new-backward a h)) (step (ltb 1 (level x a)))
+    where
+      step : (t : Bool) → (cond t (placeOf ls (backward x a)) none ≡ none) ⊎ (cond t (placeOf ls (backward x a)) none < length ls)
+      step true = place-bounded (backward x a) ls
+      step false = inl refl
