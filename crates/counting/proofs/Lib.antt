@@ -1,0 +1,3 @@
+-- The laws, lowest first.
+pub mod Tallies
+pub mod Heads

@@ -1,0 +1,94 @@
+// Result on an area that is known to be sound. The public call is that of the crate `calls`.
+ghost use mathlib.Core.Path.{_≡_};
+ghost use Prim.Native.Nat.{ℕ, _*_, _<_, _≤_};
+ghost use lib.ListN.{length};
+ghost use Rattle.grid.specs.Index.{level};
+ghost use Rattle.area.specs.Records.{heldIn};
+ghost use Rattle.quadrature.specs.Readings.{recordAt};
+ghost use Rattle.area.specs.Encoding.{areaOf};
+ghost use Rattle.machine.specs.Log.{machineOf};
+ghost use Rattle.machine.specs.Counts.{countOf, cappedAxes, ceilingCount, countsOf};
+ghost use Rattle.writing.specs.Heads.{headsOf};
+ghost use Rattle.writing.specs.Settled.{Settled};
+ghost use Rattle.counting.specs.Answer.{countsIn};
+
+pub struct Counts {
+    pub old: u32,
+    pub active: u32,
+    pub wanted: u32,
+    pub reserved: u32,
+    pub pending: u64,
+    pub mean: i64,
+    pub ceiling: u32,
+}
+
+// How many held records have a state.
+fn state_count(held: usize, state: u32, cells: &[u32]) -> u32
+    requires { ⌜ (held * 27 ≤ length (now cells)) × (held ≤ 512) ⌝ }
+    ensures { λ r. ⌜ r ≡ countOf state (headsOf (heldIn (now (cells .entry)) held)) ⌝ }
+{
+    let mut count: u32 = 0;
+    let mut place: usize = 0;
+    while place < held {
+        if area::state_at(cells, place) == state {
+            count += 1;
+        }
+        place += 1;
+    }
+    count
+}
+
+// Along how many axes the forward neighbour of an index passes a ceiling.
+fn capped_axes(axes: usize, levels: [u32; 8]) -> u32
+    requires { ⌜ (axes ≤ 8) × ((a : ℕ) → a < 8 → level levels a ≤ 8) ⌝ }
+    ensures { λ r. ⌜ (r ≡ cappedAxes axes levels) × (r ≤ 8) ⌝ }
+{
+    let mut count: u32 = 0;
+    let mut axis: usize = 0;
+    while axis < axes {
+        if !grid::within_ceilings(grid::forward_neighbour(levels, axis)) {
+            count += 1;
+        }
+        axis += 1;
+    }
+    count
+}
+
+// The number of pairs of an old index and an axis whose forward neighbour passes a ceiling.
+fn ceiling_count(axes: usize, held: usize, cells: &[u32]) -> u32
+    requires { ⌜ (held * 27 ≤ length (now cells)) × (held ≤ 512) × (axes ≤ 8) ⌝ }
+    requires { ⌜ ((p a : ℕ) → p < held → a < 8 → level (recordAt (heldIn (now cells) held) p .levels) a ≤ 8) ⌝ }
+    ensures { λ r. ⌜ r ≡ ceilingCount axes (headsOf (heldIn (now (cells .entry)) held)) ⌝ }
+{
+    let mut count: u32 = 0;
+    let mut place: usize = 0;
+    while place < held {
+        if area::state_at(cells, place) == area::OLD {
+            count += capped_axes(axes, area::levels_at(cells, place));
+        }
+        place += 1;
+    }
+    count
+}
+
+// The counts of an area.
+pub fn result(job: area::JobRecord, cells: &[u32], store: &[i32]) -> Counts
+    requires { ⌜ Settled (areaOf job (now cells) (now store)) ⌝ }
+    ensures { λ r. ⌜ countsIn r ≡ countsOf (machineOf (areaOf job (now (cells .entry)) (now (store .entry)))) ⌝ }
+{
+    let axes = job.axes as usize;
+    let held = job.held as usize;
+    let old = state_count(held, area::OLD, cells);
+    let active = state_count(held, area::ACTIVE, cells);
+    let wanted = state_count(held, area::WANTED, cells);
+    let ceiling = ceiling_count(axes, held, cells);
+    Counts {
+        old,
+        active,
+        wanted,
+        reserved: job.reserved,
+        pending: job.pending,
+        mean: job.mean,
+        ceiling,
+    }
+}

@@ -1,0 +1,206 @@
+-- A delivery on storage: what the code leaves is the area with the machine's delivery written into it.
+-- The idea: the area after the delivery is sound, so the delivered index is ready there, and the difference that is worked from the
+-- cells and the store is that of the entries.
+-- Assumes nothing.
+use mathlib.Core.Path.{_≡_, sym, ap, _∙_, subst}
+use mathlib.Core.Bool.{true}
+use mathlib.Core.List.{List, [], _∷_}
+use Prim.Native.Nat.{ℕ, zero, suc, _+_, _*_, _^_, _<_, _≤_}
+use native.Mathlib.Omega.{arith}
+use lib.IntN.{ℤ, pos, natAbs, _+ℤ_}
+use lib.ListN.{length, getD}
+use lib.Seq.{sets, getD-take, length-take-le, getD-set-same}
+use Rattle.grid.specs.Block.{blockSize}
+use Rattle.grid.specs.Difference.{scaledDifference}
+use Rattle.grid.specs.Terms.{IsReading}
+use Rattle.area.specs.declared.IndexRecord.{IndexRecord}
+use Rattle.area.specs.declared.JobRecord.{JobRecord}
+use Rattle.area.specs.Records.{Run, recordsOf, runOf, stored, heldIn, blank}
+use Rattle.area.specs.Entry.{readingIn}
+use Rattle.area.specs.Encoding.{Area, areaOf, heldOf, entriesOf}
+use Rattle.area.proofs.Records.{length-recordsOf, indicator-in}
+use Rattle.quadrature.specs.Readings.{recordAt, fetched}
+use Rattle.quadrature.specs.Ready.{Ready, AllReady}
+use Rattle.quadrature.proofs.Facts.{entry-facts}
+use Rattle.soundness.specs.Sound.{Sound}
+use Rattle.soundness.proofs.Exactly.{reads-and, reads-le, reads-eq-true}
+use Rattle.soundness.proofs.Gives.{sound-ready}
+use Rattle.soundness.proofs.Facts.{sound-facts}
+use Rattle.encoding.proofs.Facts.{range-facts}
+use Rattle.machine.specs.Log.{Machine, machineOf, written, firstWanted, wantedIndex}
+use Rattle.machine.specs.Steps.{deliverAt, deliver}
+use Rattle.machine.specs.Areas.{deliverOn}
+use Rattle.machine.specs.Causes.{inRange}
+use Rattle.machine.specs.Facts.{SoundMachine}
+use Rattle.machine.proofs.Facts.{step-facts}
+use Rattle.writing.specs.Changes.{restated}
+use Rattle.writing.specs.Settled.{Settled}
+use Rattle.writing.proofs.Areas.{held-is, held-record, levels-is}
+use Rattle.writing.proofs.Facts.{write-facts}
+use Rattle.writing.proofs.After.{machine-sound, written-sound, written-long, written-entries, written-settled}
+
+-- readings in range, one by one
+each-in-range : (xs : List ℤ) → inRange xs ≡ true → (n : ℕ) → n < length xs → IsReading (getD xs n (pos 0))
+unfolding inRange
+each-in-range [] e n h = absurd (omega arith)
+each-in-range (x ∷ xs) e zero h = reads-and _ _ (reads-le (natAbs x) 1048576) (reads-eq-true (inRange xs)) .sure e .0
+each-in-range (x ∷ xs) e (suc n) h = each-in-range xs (reads-and _ _ (reads-le (natAbs x) 1048576) (reads-eq-true (inRange xs)) .sure e .1) n (omega arith)
+
+module _ (j : JobRecord) (c : List ℕ) (s : List ℤ) (rs : List ℤ) (i : ℕ) where
+  abbrev a : Area
+  a = areaOf j c s
+
+  abbrev place : ℕ
+  place = firstWanted (entriesOf a)
+
+  module _ (settled : Settled a) (wanted : place < j .held) (whole : length rs ≡ blockSize (wantedIndex (entriesOf a))) (range : inRange rs ≡ true) where
+    pub held-there : j .held * 27 ≤ length c
+    held-there = omega (arith, settled .sound .held-lent, length-recordsOf c)
+
+    entries-count : length (entriesOf a) ≡ j .held
+    entries-count = sym (held-is a settled)
+
+    wanted-there : place < length (entriesOf a)
+    wanted-there = omega (arith, entries-count)
+
+    levels-are : wantedIndex (entriesOf a) ≡ recordAt (recordsOf c) place .levels
+    levels-are = levels-is a settled place wanted-there
+
+    -- the block lies in the store
+    pub block-there : recordAt (recordsOf c) place .first + length rs ≤ length s
+    block-there =
+        let inside : place < length (heldOf a) = omega (arith, length-take-le (j .held) (recordsOf c) (settled .sound .held-lent)) in
+        let first = ap (λ (r : IndexRecord). r .first) (held-record a settled place wanted-there) in
+        let levels = ap (λ (r : IndexRecord). blockSize (r .levels)) (held-record a settled place wanted-there) in
+        omega (arith, range-facts .block a (settled .sound) place inside, first, levels, whole, ap blockSize levels-are, settled .lent .store)
+
+    -- ---- after
+    abbrev after : Machine
+    after = deliver (machineOf a) rs i
+
+    after-sound : SoundMachine after
+    unfolding machineOf
+    after-sound = step-facts .deliver (machineOf a) rs i (machine-sound a settled) wanted-there whole (each-in-range rs range)
+
+    abbrev b : Area
+    b = written a after
+
+    changed : b ≡ record {
+      job = record {
+        axes = j .axes;
+        threshold = j .threshold;
+        budget = j .budget;
+        held = j .held;
+        reserved = j .reserved;
+        pending = j .pending + i;
+        mean = after .mean;
+      };
+      run = stored (runOf c) place (restated (recordAt (recordsOf c) place) 1 i);
+      store = sets s (recordAt (recordsOf c) place .first) rs;
+    }
+    changed = write-facts .deliver a rs i settled wanted-there whole
+
+    b-room : b .job .budget ≤ length (b .store)
+    b-room = written-long a after after-sound (settled .lent .records) (deliver-budget) .store
+      where
+        deliver-budget : after .log .budget ≤ length s
+        deliver-budget = unfold deliver in unfold machineOf in settled .lent .store
+
+    -- the sums stay in their types
+    pub pending-fits : ((n : ℕ) → getD c n 0 < 2 ^ 32) → i < 2 ^ 32 → j .pending + i < 2 ^ 64
+    pending-fits words h =
+        let small = range-facts .pending a (settled .sound) (λ p l.
+        let e = length-take-le (j .held) (recordsOf c) (settled .sound .held-lent) in
+        let here : p * 27 + 27 ≤ length c = omega (arith, e, held-there) in
+        omega (arith, words (p * 27 + 9), indicator-in c p here, ap (λ (r : IndexRecord). r .indicator) (getD-take (j .held) (recordsOf c) p blank (omega (arith, e))))) in
+        omega arith
+
+    pub mean-fits : natAbs (j .mean) + 2 ^ 40 ≤ 2 ^ 62
+    mean-fits = omega (arith, range-facts .mean a (settled .sound))
+
+    -- ---- what the code leaves
+    module _ (c₁ : List ℕ) (s₁ : List ℤ) (run : runOf c₁ ≡ stored (runOf c) place (restated (recordAt (recordsOf c) place) 1 i)) (store : s₁ ≡ sets s (recordAt (recordsOf c) place .first) rs) where
+      run-is : b .run ≡ runOf c₁
+      run-is = ap (λ (x : Area). x .run) changed ∙ sym run
+
+      records-are₁ : b .run .records ≡ recordsOf c₁
+      records-are₁ = ap (λ (u : Run). u .records) run-is
+
+      store-is₁ : b .store ≡ s₁
+      store-is₁ = ap (λ (x : Area). x .store) changed ∙ sym store
+
+      -- the delivered record
+      here : recordAt (recordsOf c₁) place ≡ restated (recordAt (recordsOf c) place) 1 i
+      here =
+          ap (λ (u : Run). recordAt (u .records) place) run
+          ∙ getD-set-same (recordsOf c) place (restated (recordAt (recordsOf c) place) 1 i) blank (omega (arith, settled .sound .held-lent))
+
+      here-levels : recordAt (recordsOf c₁) place .levels ≡ wantedIndex (entriesOf a)
+      unfolding restated
+      here-levels = ap (λ (r : IndexRecord). r .levels) here ∙ sym levels-are
+
+      here-state : recordAt (recordsOf c₁) place .state ≡ 1
+      unfolding restated
+      here-state = ap (λ (r : IndexRecord). r .state) here
+
+      all-ready : AllReady (b .job .axes) (b .job .held) (b .run .records) (b .store)
+      all-ready = sound-facts .all-ready b (written-sound a after after-sound) b-room
+
+      pub ready : Ready (j .axes) (recordsOf c₁) s₁ (recordAt (recordsOf c₁) place .levels)
+      ready =
+          subst (λ (x : Area). AllReady (x .job .axes) (x .job .held) (recordsOf c₁) s₁) changed
+          (subst (λ x. AllReady (b .job .axes) (b .job .held) (recordsOf c₁) x) store-is₁ (subst (λ x. AllReady (b .job .axes) (b .job .held) x (b .store)) records-are₁ all-ready))
+          .ready place wanted (omega (arith, here-state))
+
+      -- the area that the cells and the store hold with the job record of b is b
+      abbrev b₁ : Area
+      b₁ = areaOf (b .job) c₁ s₁
+
+      same-area : b₁ ≡ b
+      same-area = λ x. record { job = b .job; run = sym run-is x; store = sym store-is₁ x }
+
+      sound₁ : Sound b₁
+      sound₁ = subst Sound (sym same-area) (written-sound a after after-sound)
+
+      held-is₁ : b .job .held ≡ j .held
+      held-is₁ = ap (λ (x : Area). x .job .held) changed
+
+      ready-held : Ready (b .job .axes) (heldIn c₁ (b .job .held)) s₁ (recordAt (recordsOf c₁) place .levels)
+      unfolding heldIn
+      ready-held =
+          let h : place < b .job .held = omega (arith, held-is₁, wanted) in
+          let e : recordAt (heldOf b₁) place ≡ recordAt (recordsOf c₁) place = getD-take (b .job .held) (recordsOf c₁) place blank h in
+          sound-ready b₁ sound₁ (subst (λ x. b .job .budget ≤ length x) store-is₁ b-room) (recordAt (recordsOf c₁) place .levels) place
+          (record { place = omega (arith, h, length-take-le (b .job .held) (recordsOf c₁) (sound₁ .held-lent)); same = ap (λ (r : IndexRecord). r .levels) e })
+          (subst (λ (r : IndexRecord). 1 ≤ r .state) (sym e) (omega (arith, here-state)))
+
+      entries₁ : entriesOf b₁ ≡ deliverAt (entriesOf a) place rs i
+      unfolding deliver machineOf
+      entries₁ = ap entriesOf same-area ∙ written-entries a after after-sound
+
+      pub difference-is : scaledDifference (recordAt (recordsOf c₁) place .levels) (fetched (recordsOf c₁) s₁)
+          ≡ scaledDifference (wantedIndex (entriesOf a)) (readingIn (deliverAt (entriesOf a) place rs i))
+      difference-is =
+          entry-facts (b .job) c₁ s₁ .difference (b .job .axes) (recordAt (recordsOf c₁) place .levels) ready-held
+          ∙ ap (λ k. scaledDifference k (readingIn (entriesOf b₁))) here-levels
+          ∙ ap (λ es. scaledDifference (wantedIndex (entriesOf a)) (readingIn es)) entries₁
+
+      -- so the job record with the difference added makes the area that was to be written
+      pub area-is : (m : ℤ) → m ≡ j .mean +ℤ scaledDifference (wantedIndex (entriesOf a)) (readingIn (deliverAt (entriesOf a) place rs i))
+          → areaOf (record { axes = j .axes; threshold = j .threshold; budget = j .budget; held = j .held; reserved = j .reserved; pending = j .pending + i; mean = m }) c₁ s₁ ≡ deliverOn a rs i
+      unfolding deliverOn deliver machineOf
+      area-is m e =
+          (λ x.
+          record {
+            job = record { axes = j .axes; threshold = j .threshold; budget = j .budget; held = j .held; reserved = j .reserved; pending = j .pending + i; mean = e x };
+            run = run x;
+            store = store x;
+          })
+          ∙ sym changed
+
+      pub settled-after : (j₁ : JobRecord) → areaOf j₁ c₁ s₁ ≡ deliverOn a rs i → Settled (areaOf j₁ c₁ s₁)
+      unfolding deliverOn
+      settled-after j₁ e = written-settled a after after-sound (settled .lent .records) budget-there j₁ c₁ s₁ e
+        where
+          budget-there : after .log .budget ≤ length s
+          budget-there = unfold deliver in unfold machineOf in settled .lent .store

@@ -1,0 +1,3 @@
+-- The laws, lowest first.
+pub mod Wanted
+pub mod Delivering

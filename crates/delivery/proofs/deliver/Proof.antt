@@ -1,0 +1,153 @@
+-- `delivery::deliver` meets its contract: the block is stored, the record restated, and the difference worked from what is then there. Assumes nothing.
+use borrow.Author.Needs.{needs, sfits-of}
+use mathlib.Core.Path.{_≡_, refl, sym, ap, _∙_, subst}
+use mathlib.Core.Bool.{true}
+use mathlib.Core.List.{List}
+use Prim.Native.Nat.{ℕ, _+_, _*_, _^_, _<_, _≤_}
+use native.Mathlib.Nat.{le-trans}
+use native.Mathlib.Omega.{arith}
+use denote.Ref.{now}
+use lib.IntN.{ℤ, natAbs, _+ℤ_}
+use lib.ListN.{length}
+use lib.Seq.{sets}
+use mir.Syntax.{w64}
+use mir.Val.{toZ, ofZ}
+use Rattle.sums.proofs.Words.{sum-fits, sum-is}
+use Rattle.sums.proofs.Sizes.{abs-add}
+use Rattle.grid.specs.Block.{blockSize}
+use Rattle.grid.specs.Difference.{scaledDifference}
+use Rattle.area.specs.declared.JobRecord.{JobRecord}
+use Rattle.area.specs.Records.{recordsOf, runOf, stored}
+use Rattle.area.specs.Entry.{readingIn}
+use Rattle.area.specs.Encoding.{areaOf, entriesOf}
+use Rattle.quadrature.specs.Readings.{recordAt, fetched}
+use Rattle.quadrature.specs.Ready.{Ready}
+use Rattle.machine.specs.Log.{firstWanted, wantedIndex}
+use Rattle.machine.specs.Steps.{deliverAt}
+use Rattle.machine.specs.Areas.{deliverOn}
+use Rattle.machine.specs.Causes.{inRange}
+use Rattle.writing.specs.Changes.{restated}
+use Rattle.writing.specs.Settled.{Settled}
+use Rattle.delivery.proofs.Delivering.{held-there, block-there, pending-fits, mean-fits, ready, difference-is, area-is, settled-after}
+use Rattle.delivery.proofs.deliver.Statement.{statement}
+use Rattle.delivery.proofs.deliver.Tie as tie
+
+-- the laws at a place that is known to be the first wanted
+module _ (j : JobRecord) (c : List ℕ) (s rs : List ℤ) (i place : ℕ) (settled : Settled (areaOf j c s)) (is : place ≡ firstWanted (entriesOf (areaOf j c s))) (wanted : place < j .held)
+    (whole : length rs ≡ blockSize (wantedIndex (entriesOf (areaOf j c s)))) (range : inRange rs ≡ true) where
+  wanted-first : firstWanted (entriesOf (areaOf j c s)) < j .held
+  wanted-first = omega (arith, is, wanted)
+
+  room : place * 27 + 27 ≤ length c
+  room = omega (arith, held-there j c s rs i settled wanted-first whole range, wanted)
+
+  block-room : (f : ℕ) → f ≡ recordAt (recordsOf c) place .first → f + length rs ≤ length s
+  block-room f e = rw (e, is) (block-there j c s rs i settled wanted-first whole range)
+
+  module _ (c₁ : List ℕ) (s₁ : List ℤ) (f : ℕ) (first : f ≡ recordAt (recordsOf c) place .first)
+      (run : runOf c₁ ≡ stored (runOf c) place (restated (recordAt (recordsOf c) place) 1 i)) (store : s₁ ≡ sets s f rs) where
+    run-first : runOf c₁ ≡ stored (runOf c) (firstWanted (entriesOf (areaOf j c s))) (restated (recordAt (recordsOf c) (firstWanted (entriesOf (areaOf j c s)))) 1 i)
+    run-first = run ∙ ap (λ p. stored (runOf c) p (restated (recordAt (recordsOf c) p) 1 i)) is
+
+    store-first : s₁ ≡ sets s (recordAt (recordsOf c) (firstWanted (entriesOf (areaOf j c s))) .first) rs
+    store-first = store ∙ ap (λ x. sets s x rs) (first ∙ ap (λ p. recordAt (recordsOf c) p .first) is)
+
+    ready-at : (k : List ℕ) → k ≡ recordAt (recordsOf c₁) place .levels → Ready (j .axes) (recordsOf c₁) s₁ k
+    ready-at k e =
+        subst (Ready (j .axes) (recordsOf c₁) s₁) (ap (λ p. recordAt (recordsOf c₁) p .levels) (sym is) ∙ sym e)
+        (ready j c s rs i settled wanted-first whole range c₁ s₁ run-first store-first)
+
+    difference-at : (k : List ℕ) (x : ℤ) → k ≡ recordAt (recordsOf c₁) place .levels → x ≡ scaledDifference k (fetched (recordsOf c₁) s₁)
+        → x ≡ scaledDifference (wantedIndex (entriesOf (areaOf j c s))) (readingIn (deliverAt (entriesOf (areaOf j c s)) (firstWanted (entriesOf (areaOf j c s))) rs i))
+    difference-at k x e d =
+        d ∙ ap (λ l. scaledDifference l (fetched (recordsOf c₁) s₁)) (e ∙ ap (λ p. recordAt (recordsOf c₁) p .levels) is)
+        ∙ difference-is j c s rs i settled wanted-first whole range c₁ s₁ run-first store-first
+
+    abbrev JobAfter : ℤ → JobRecord
+    JobAfter m = record { axes = j .axes; threshold = j .threshold; budget = j .budget; held = j .held; reserved = j .reserved; pending = j .pending + i; mean = m }
+
+    area-and-settled : (m : ℤ) → m ≡ j .mean +ℤ scaledDifference (wantedIndex (entriesOf (areaOf j c s))) (readingIn (deliverAt (entriesOf (areaOf j c s)) (firstWanted (entriesOf (areaOf j c s))) rs i))
+        → (areaOf (JobAfter m) c₁ s₁ ≡ deliverOn (areaOf j c s) rs i) × Settled (areaOf (JobAfter m) c₁ s₁)
+    area-and-settled m e =
+        let is-area = area-is j c s rs i settled wanted-first whole range c₁ s₁ run-first store-first m e in
+        (is-area, settled-after j c s rs i settled wanted-first whole range c₁ s₁ run-first store-first (JobAfter m) is-area)
+
+    mean-small : (x : ℤ) → natAbs x ≤ 2 ^ 40 → natAbs (j .mean +ℤ x) ≤ 2 ^ 62
+    mean-small x h = le-trans (abs-add (j .mean) x) (omega (arith, h, mean-fits j c s rs i settled wanted-first whole range))
+
+cast-axes : tie.Need-cast-axes
+cast-axes c = search needs
+
+first-at-requires : tie.Need-first-at-requires
+first-at-requires c κs = let s = c .before .before .before in room (s .args .job) (now (s .args .cells)) (now (s .args .store)) (now (s .args .readings)) (s .args .indicator) (s .args .place) (s .pre .0 .0) (s .pre .0 .1) (s .pre .0 .2) (s .pre .1 .0) (s .pre .1 .1)
+
+cast-first : tie.Need-cast-first
+cast-first c = search needs
+
+put-readings-requires : tie.Need-put-readings-requires
+put-readings-requires c κs =
+    let s = c .before .before .before .before .before in
+    block-room (s .args .job) (now (s .args .cells)) (now (s .args .store)) (now (s .args .readings)) (s .args .indicator) (s .args .place) (s .pre .0 .0) (s .pre .0 .1) (s .pre .0 .2) (s .pre .1 .0) (s .pre .1 .1)
+    (c .before .first-at .result) (c .before .first-at .ensures)
+
+restate-requires : tie.Need-restate-requires
+restate-requires c κs = let s = c .before .before .before .before .before .before .before .before in room (s .args .job) (now (s .args .cells)) (now (s .args .store)) (now (s .args .readings)) (s .args .indicator) (s .args .place) (s .pre .0 .0) (s .pre .0 .1) (s .pre .0 .2) (s .pre .1 .0) (s .pre .1 .1)
+
+levels-at-requires : tie.Need-levels-at-requires
+levels-at-requires c κs =
+    let s = c .before .before .before .before .before .before .before .before .before .before .before .before in
+    omega (arith, c .before .before .before .restate .kept .1 .1 .1 .0, room (s .args .job) (now (s .args .cells)) (now (s .args .store)) (now (s .args .readings)) (s .args .indicator) (s .args .place) (s .pre .0 .0) (s .pre .0 .1) (s .pre .0 .2) (s .pre .1 .0) (s .pre .1 .1))
+
+scaled-difference-requires : tie.Need-scaled-difference-requires
+scaled-difference-requires c κs =
+    let s = c .before .before .before .before .before .before .before .before .before .before .before .before .before .before .before in
+    ready-at (s .args .job) (now (s .args .cells)) (now (s .args .store)) (now (s .args .readings)) (s .args .indicator) (s .args .place) (s .pre .0 .0) (s .pre .0 .1) (s .pre .0 .2) (s .pre .1 .0) (s .pre .1 .1)
+    (c .before .before .before .before .before .before .restate .last .1 .1 .1 .0) (c .before .before .before .before .before .before .before .before .before .put-readings .last .1 .1 .0) (c .before .before .before .before .before .before .before .before .before .before .before .first-at .result) (c .before .before .before .before .before .before .before .before .before .before .before .first-at .ensures) (c .before .before .before .before .before .before .restate .ensures) (c .before .before .before .before .before .before .before .before .before .put-readings .ensures)
+    (c .before .before .levels-at .result) (c .before .before .levels-at .ensures)
+
+add-t26 : tie.Need-add-t26
+add-t26 c =
+    let s = c .before .before .before .before .before .before .before .before .before .before .before .before .before .before .before .before .before in
+    omega (arith, pending-fits (s .args .job) (now (s .args .cells)) (now (s .args .store)) (now (s .args .readings)) (s .args .indicator) (s .pre .0 .0) (omega (arith, s .pre .0 .1, s .pre .0 .2)) (s .pre .1 .0) (s .pre .1 .1) (λ n. omega (arith, c .before .before .before .before .before .before .before .before .before .before .before .before .before .before .before .before .slice-known .given n)) (omega (arith, s .fits .indicator)))
+
+add-t27 : tie.Need-add-t27
+add-t27 c =
+    let s = c .before .before .before .before .before .before .before .before .before .before .before .before .before .before .before .before .before .before .before in
+    let x = c .before .before .before .scaled-difference .result in
+    let m = s .args .job .mean in
+    sum-fits m x (m +ℤ x) (sfits-of (c .struct-told .given .1 .1 .1 .1 .1 .1 .0 .1)) (sfits-of (c .before .before .before .scaled-difference .ok)) refl
+    (mean-small (s .args .job) (now (s .args .cells)) (now (s .args .store)) (now (s .args .readings)) (s .args .indicator) (s .args .place) (s .pre .0 .0) (s .pre .0 .1) (s .pre .0 .2) (s .pre .1 .0) (s .pre .1 .1) (c .before .before .before .before .before .before .before .before .before .before .restate .last .1 .1 .1 .0) (c .before .before .before .before .before .before .before .before .before .before .before .before .before .put-readings .last .1 .1 .0) (c .before .before .before .before .before .before .before .before .before .before .before .before .before .before .before .first-at .result) (c .before .before .before .before .before .before .before .before .before .before .before .before .before .before .before .first-at .ensures) (c .before .before .before .before .before .before .before .before .before .before .restate .ensures) (c .before .before .before .before .before .before .before .before .before .before .before .before .before .put-readings .ensures) x (c .before .before .before .scaled-difference .ensures .1))
+
+same-length : tie.Need-same-length
+same-length c = search needs
+
+same-length-2 : tie.Need-same-length-2
+same-length-2 c = search needs
+
+returns : tie.Need-returns
+returns c =
+    let s = c .before .before .before .before .before .before .before .before .before .before .before .before .before .before .before .before .before .before .before in
+    let x = c .before .before .before .scaled-difference .result in
+    let m = s .args .job .mean in
+    let sum =
+    sum-is m x (m +ℤ x) (sfits-of (c .struct-told .given .1 .1 .1 .1 .1 .1 .0 .1)) (sfits-of (c .before .before .before .scaled-difference .ok)) refl
+    (mean-small (s .args .job) (now (s .args .cells)) (now (s .args .store)) (now (s .args .readings)) (s .args .indicator) (s .args .place) (s .pre .0 .0) (s .pre .0 .1) (s .pre .0 .2) (s .pre .1 .0) (s .pre .1 .1) (c .before .before .before .before .before .before .before .before .before .before .restate .last .1 .1 .1 .0) (c .before .before .before .before .before .before .before .before .before .before .before .before .before .put-readings .last .1 .1 .0) (c .before .before .before .before .before .before .before .before .before .before .before .before .before .before .before .first-at .result) (c .before .before .before .before .before .before .before .before .before .before .before .before .before .before .before .first-at .ensures) (c .before .before .before .before .before .before .before .before .before .before .restate .ensures) (c .before .before .before .before .before .before .before .before .before .before .before .before .before .put-readings .ensures) x (c .before .before .before .scaled-difference .ensures .1)) in
+    let difference = difference-at (s .args .job) (now (s .args .cells)) (now (s .args .store)) (now (s .args .readings)) (s .args .indicator) (s .args .place) (s .pre .0 .0) (s .pre .0 .1) (s .pre .0 .2) (s .pre .1 .0) (s .pre .1 .1) (c .before .before .before .before .before .before .before .before .before .before .restate .last .1 .1 .1 .0) (c .before .before .before .before .before .before .before .before .before .before .before .before .before .put-readings .last .1 .1 .0) (c .before .before .before .before .before .before .before .before .before .before .before .before .before .before .before .first-at .result) (c .before .before .before .before .before .before .before .before .before .before .before .before .before .before .before .first-at .ensures) (c .before .before .before .before .before .before .before .before .before .before .restate .ensures) (c .before .before .before .before .before .before .before .before .before .before .before .before .before .put-readings .ensures) (c .before .before .before .before .before .before .levels-at .result) x (c .before .before .before .before .before .before .levels-at .ensures) (c .before .before .before .scaled-difference .ensures .0) in
+    area-and-settled (s .args .job) (now (s .args .cells)) (now (s .args .store)) (now (s .args .readings)) (s .args .indicator) (s .args .place) (s .pre .0 .0) (s .pre .0 .1) (s .pre .0 .2) (s .pre .1 .0) (s .pre .1 .1) (c .before .before .before .before .before .before .before .before .before .before .restate .last .1 .1 .1 .0) (c .before .before .before .before .before .before .before .before .before .before .before .before .before .put-readings .last .1 .1 .0) (c .before .before .before .before .before .before .before .before .before .before .before .before .before .before .before .first-at .result) (c .before .before .before .before .before .before .before .before .before .before .before .before .before .before .before .first-at .ensures) (c .before .before .before .before .before .before .before .before .before .before .restate .ensures) (c .before .before .before .before .before .before .before .before .before .before .before .before .before .put-readings .ensures) (toZ w64 (ofZ w64 (toZ w64 (ofZ w64 m) +ℤ toZ w64 (ofZ w64 x)))) (sum ∙ ap (λ d. m +ℤ d) difference)
+
+pub deliver-spec : {M : Type 1} → statement M
+deliver-spec =
+    tie.close
+    (tie.spec
+    cast-axes
+    first-at-requires
+    cast-first
+    put-readings-requires
+    restate-requires
+    levels-at-requires
+    scaled-difference-requires
+    add-t26
+    add-t27
+    same-length
+    same-length-2
+    returns)

@@ -1,0 +1,129 @@
+// Start, point and deliver as the calls do them once nothing refuses: deliver asks for a settled area, the others for room and ranges.
+// The public calls are those of the crate `calls`.
+ghost use mathlib.Core.Path.{_≡_};
+ghost use mathlib.Core.Bool.{true};
+ghost use mathlib.Core.List.{_++_};
+ghost use Prim.Native.Nat.{_+_, _*_, _<_, _≤_};
+ghost use lib.IntN.{pos};
+ghost use lib.ListN.{length, take, drop};
+ghost use lib.Seq.{sets};
+ghost use Rattle.grid.specs.Index.{Within};
+ghost use Rattle.grid.specs.Block.{blockSize, pointOf};
+ghost use Rattle.area.specs.Records.{recordsOf, runOf, stored, heldIn};
+ghost use Rattle.area.specs.Encoding.{areaOf, entriesOf};
+ghost use Rattle.quadrature.specs.Readings.{recordAt};
+ghost use Rattle.machine.specs.Log.{firstWanted, wantedIndex};
+ghost use Rattle.machine.specs.Areas.{deliverOn};
+ghost use Rattle.machine.specs.Causes.{inRange};
+ghost use Rattle.writing.specs.Changes.{rootRecord};
+ghost use Rattle.writing.specs.Heads.{headsOf};
+ghost use Rattle.writing.specs.Settled.{Settled};
+
+// Writes the root's record, wanted, and gives the job record of a job that was just started.
+pub fn start(axes: u32, threshold: u64, budget: u32, cells: &mut [u32]) -> area::JobRecord
+    requires { ⌜ 27 ≤ length (now cells) ⌝ }
+    ensures job { λ r. ⌜ r ≡ record { axes = axes; threshold = threshold; budget = budget; held = 1; reserved = 1; pending = 0; mean = pos 0 } ⌝ }
+    ensures run { λ r. ⌜ runOf (now (cells .exit)) ≡ stored (runOf (now (cells .entry))) 0 rootRecord ⌝ }
+{
+    let root = area::IndexRecord {
+        levels: [1u32; 8],
+        state: area::WANTED,
+        indicator: 0,
+        first: 0,
+        links: [area::NONE; 16],
+    };
+    area::store(cells, 0, root);
+    area::JobRecord {
+        axes,
+        threshold,
+        budget,
+        held: 1,
+        reserved: 1,
+        pending: 0,
+        mean: 0,
+    }
+}
+
+// The place of the first wanted record, `held` if none is wanted.
+pub fn first_wanted(held: usize, cells: &[u32]) -> usize
+    requires { ⌜ held * 27 ≤ length (now cells) ⌝ }
+    ensures { λ r. ⌜ r ≡ firstWanted (headsOf (heldIn (now (cells .entry)) held)) ⌝ }
+{
+    let mut place: usize = 0;
+    while place < held {
+        if area::state_at(cells, place) == area::WANTED {
+            return place;
+        }
+        place += 1;
+    }
+    held
+}
+
+// Writes the first positions of a point; later bytes stay.
+fn put_point(axes: usize, point: [u8; 8], buffer: &mut [u8])
+    requires { ⌜ (axes ≤ 8) × (axes ≤ length (now buffer)) ⌝ }
+    ensures { λ r. ⌜ now (buffer .exit) ≡ take axes point ++ drop axes (now (buffer .entry)) ⌝ }
+{
+    let mut axis: usize = 0;
+    while axis < axes {
+        buffer[axis] = point[axis];
+        axis += 1;
+    }
+}
+
+// Writes the positions of the n-th point of the block at a place.
+pub fn point(axes: usize, place: usize, n: usize, cells: &[u32], buffer: &mut [u8])
+    requires { ⌜ (place * 27 + 27 ≤ length (now cells)) × (axes ≤ 8) × (axes ≤ length (now buffer)) ⌝ }
+    requires { ⌜ Within (recordAt (recordsOf (now cells)) place .levels) × (n < blockSize (recordAt (recordsOf (now cells)) place .levels)) ⌝ }
+    ensures { λ r. ⌜ now (buffer .exit) ≡ take axes (pointOf (recordAt (recordsOf (now (cells .entry))) place .levels) n) ++ drop axes (now (buffer .entry)) ⌝ }
+{
+    put_point(
+        axes,
+        grid::point_of(area::levels_at(cells, place), n),
+        buffer,
+    );
+}
+
+// Stores readings from `first` on; the others stay.
+fn put_readings(first: usize, readings: &[i32], store: &mut [i32])
+    requires { ⌜ first + length (now readings) ≤ length (now store) ⌝ }
+    ensures { λ r. ⌜ now (store .exit) ≡ sets (now (store .entry)) first (now (readings .entry)) ⌝ }
+{
+    let count = readings.len();
+    let mut n: usize = 0;
+    while n < count {
+        store[first + n] = readings[n];
+        n += 1;
+    }
+}
+
+// Delivers the first wanted block, which is that at `place`.
+pub fn deliver(
+    job: area::JobRecord,
+    place: usize,
+    readings: &[i32],
+    indicator: u32,
+    cells: &mut [u32],
+    store: &mut [i32],
+) -> area::JobRecord
+    requires { ⌜ Settled (areaOf job (now cells) (now store)) × (place ≡ firstWanted (entriesOf (areaOf job (now cells) (now store)))) × (place < job .held) ⌝ }
+    requires { ⌜ (length (now readings) ≡ blockSize (wantedIndex (entriesOf (areaOf job (now cells) (now store))))) × (inRange (now readings) ≡ true) ⌝ }
+    ensures is { λ r. ⌜ areaOf r (now (cells .exit)) (now (store .exit)) ≡ deliverOn (areaOf job (now (cells .entry)) (now (store .entry))) (now (readings .entry)) indicator ⌝ }
+    ensures settled { λ r. ⌜ Settled (areaOf r (now (cells .exit)) (now (store .exit))) ⌝ }
+{
+    let axes = job.axes as usize;
+    let first = area::first_at(cells, place) as usize;
+    put_readings(first, readings, store);
+    writing::restate(place, area::ACTIVE, indicator, cells);
+    let levels = area::levels_at(cells, place);
+    let difference = quadrature::scaled_difference(axes, levels, cells, store);
+    area::JobRecord {
+        axes: job.axes,
+        threshold: job.threshold,
+        budget: job.budget,
+        held: job.held,
+        reserved: job.reserved,
+        pending: job.pending + indicator as u64,
+        mean: job.mean + difference,
+    }
+}

@@ -1,0 +1,273 @@
+-- Refining a place of a settled area: what the scans may ask, what they find, and what the change comes to.
+-- The idea: the scans see entries without readings, and no search looks at those; the marked axes are the admitted ones, so the counts
+-- decide as the refined entries do, and the records written are theirs.
+-- Assumes nothing.
+use mathlib.Core.Path.{_≡_, sym, ap, ap₂, _∙_, subst}
+use mathlib.Core.Bool.{Bool, true, false}
+use mathlib.Core.List.{List}
+use Prim.Native.Nat.{ℕ, _+_, _*_, _-_, _<_, _≤_}
+use native.Mathlib.Omega.{arith}
+use borrow.Author.Tests.{le-leb, lt-leb}
+use lib.IntN.{ℤ}
+use lib.ListN.{length, getD, set}
+use Rattle.grid.specs.Index.{level, Within, forward}
+use Rattle.area.specs.declared.JobRecord.{JobRecord}
+use Rattle.area.specs.declared.IndexRecord.{IndexRecord}
+use Rattle.area.specs.Records.{Run, recordsOf, runOf, stored, heldIn}
+use Rattle.area.specs.Entry.{Entry, reservedBy}
+use Rattle.area.specs.Encoding.{Area, areaOf, entriesOf}
+use Rattle.area.proofs.Records.{length-recordsOf}
+use Rattle.quadrature.specs.Readings.{recordAt}
+use Rattle.quadrature.proofs.Held.{held-length, held-record}
+use Rattle.soundness.specs.Held.{levelsAt, stateAt}
+use Rattle.machine.specs.Log.{Machine, firstWanted, machineOf, written, withEntries}
+use Rattle.machine.specs.Promote.{retire, admits, admittedAxes, refine, fits, spent, promoted, promoteAt}
+use Rattle.machine.specs.Areas.{changedBy, refineOn}
+use Rattle.machine.specs.Facts.{SoundMachine}
+use Rattle.machine.proofs.Old.{reads-admits}
+use Rattle.machine.proofs.Facts.{step-facts}
+use Rattle.writing.specs.Changes.{restated, appendedAll, sizesOf}
+use Rattle.writing.specs.Heads.{headsOf}
+use Rattle.writing.specs.Settled.{Settled}
+use Rattle.writing.proofs.Unread.{heads-are, alike-retire, alike-axes}
+use Rattle.writing.proofs.Areas.{held-is, state-is}
+use Rattle.writing.proofs.Refine.{refined-held, refined-reserved, indicator-within}
+use Rattle.writing.proofs.Facts.{write-facts}
+use Rattle.writing.proofs.After.{machine-sound, written-settled}
+use Rattle.promotion.specs.Marks.{marksOf, markedAxes, Searchable, MarkedWithin}
+use Rattle.promotion.specs.Outcomes.{outcomeOf, promotionOf}
+use Rattle.promotion.specs.declared.Outcome.the-variants.{Spent, Promoted}
+use Rattle.promotion.proofs.Marks.{marked-passes, marked-are}
+
+-- ---- a settled area
+
+-- the held entries as the scans see them
+abbrev headsIn : JobRecord → List ℕ → List Entry
+headsIn job c = headsOf (heldIn c (job .held))
+
+module _ (job : JobRecord) (c : List ℕ) (store : List ℤ) (r : Settled (areaOf job c store)) where
+  pub room : job .held * 27 ≤ length c
+  room = omega (arith, r .sound .held-lent, length-recordsOf c)
+
+  long : 512 * 27 ≤ length c
+  long = omega (arith, r .lent .records, length-recordsOf c)
+
+  few-axes : job .axes ≤ 8
+  few-axes = r .sound .structure .axes .1
+
+  searchable : Searchable (heldIn c (job .held))
+  unfolding heldIn
+  searchable =
+      let s = r .sound .structure in
+      record {
+        few = s .count .1;
+        different = s .different;
+        eight = λ p h. s .index p h .eight;
+        low = λ p a h l. s .index p h .ceilings .high a (omega (arith, s .index p h .eight));
+      }
+
+-- ---- refining an active place, where nothing is wanted
+
+pub record Refinable (job : JobRecord) (c : List ℕ) (store : List ℤ) (p : ℕ) : Type 0 where
+  pub settled : Settled (areaOf job c store)
+  pub idle : length (entriesOf (areaOf job c store)) ≤ firstWanted (entriesOf (areaOf job c store))
+  pub place : p < job .held
+  pub active : stateAt (recordsOf c) p ≡ 1
+
+pub refinable : (job : JobRecord) (c : List ℕ) (store : List ℤ) (p : ℕ)
+    → Settled (areaOf job c store) × (length (entriesOf (areaOf job c store)) ≤ firstWanted (entriesOf (areaOf job c store)))
+    → (p < job .held) × (stateAt (recordsOf c) p ≡ 1)
+    → Refinable job c store p
+refinable job c store p r h = record { settled = r .0; idle = r .1; place = h .0; active = h .1 }
+
+-- its levels as they are read, and the marks that the scan answers with
+pub record Scanned (job : JobRecord) (c : List ℕ) (p : ℕ) (levels marks : List ℕ) : Type 0 where
+  pub levels-are : levels ≡ levelsAt (recordsOf c) p
+  pub marks-are : marks ≡ marksOf (job .axes) (admits (job .axes) (retire (headsIn job c) p) (levelsAt (heldIn c (job .held)) p))
+
+-- how many are marked, and the sizes of their blocks together
+pub record Counted (job : JobRecord) (levels marks : List ℕ) (count sizes : ℕ) : Type 0 where
+  pub count-is : count ≡ length (markedAxes (job .axes) marks)
+  pub sizes-are : sizes ≡ sizesOf levels (markedAxes (job .axes) marks)
+
+-- the cells after the place is restated, and after the marked are appended
+pub record Changed (job : JobRecord) (c : List ℕ) (p : ℕ) (levels marks : List ℕ) (indicator : ℕ) (c₁ c₂ : List ℕ) : Type 0 where
+  pub indicator-is : indicator ≡ recordAt (recordsOf c) p .indicator
+  pub restated-is : runOf c₁ ≡ stored (runOf c) p (restated (recordAt (recordsOf c) p) 2 indicator)
+  pub appended-is : runOf c₂ ≡ record { records = appendedAll (recordsOf c₁) (job .held) (job .reserved) levels (markedAxes (job .axes) marks); rest = runOf c₁ .rest }
+
+module _ {job : JobRecord} {c : List ℕ} {store : List ℤ} {p : ℕ} (t : Refinable job c store p) where
+  abbrev area : Area
+  area = areaOf job c store
+
+  abbrev es : List Entry
+  es = entriesOf area
+
+  abbrev k : List ℕ
+  k = levelsAt (recordsOf c) p
+
+  abbrev refined : List Entry
+  refined = refine (job .axes) es p
+
+  -- the axes along which it admits
+  abbrev axes : List ℕ
+  axes = admittedAxes (job .axes) (retire es p) k
+
+  -- the state after it
+  abbrev after : Machine
+  after = record { log = withEntries (machineOf area .log) refined; mean = job .mean }
+
+  -- ---- what the scans ask
+
+  pub place-inside : p * 27 + 27 ≤ length c
+  place-inside = omega (arith, room job c store (t .settled), t .place)
+
+  pub scan-asks : (job .axes ≤ 8) × (job .held * 27 ≤ length c) × (p < job .held) × Searchable (heldIn c (job .held))
+  scan-asks = (few-axes job c store (t .settled), room job c store (t .settled), t .place, searchable job c store (t .settled))
+
+  -- ---- the answers
+
+  spent-answer : fits (job .budget) refined ≡ false → refineOn area p ≡ record { outcome = spent; area = area }
+  unfolding refineOn promoteAt changedBy machineOf
+  spent-answer e = rw e
+
+  promoted-answer : fits (job .budget) refined ≡ true → refineOn area p ≡ record { outcome = promoted; area = written area after }
+  unfolding refineOn promoteAt changedBy machineOf
+  promoted-answer e = rw e
+
+  after-sound : fits (job .budget) refined ≡ true → SoundMachine after
+  unfolding machineOf
+  after-sound e =
+      step-facts .refine (job .axes) (job .budget) (job .mean) es p (machine-sound area (t .settled)) (t .idle) inside (state-is area (t .settled) p inside ∙ t .active) e
+    where
+      inside : p < length es
+      inside = omega (arith, held-is area (t .settled), t .place)
+
+  -- the indicator is part of the pending error
+  pub indicator-pending : (i : ℕ) → i ≡ recordAt (recordsOf c) p .indicator → i ≤ job .pending
+  indicator-pending i e = omega (arith, indicator-within area (t .settled) p (t .place) (t .active))
+
+  -- ---- what the scans find
+
+  module _ {levels marks : List ℕ} (u : Scanned job c p levels marks) where
+    -- what the scan marks by
+    abbrev scanned : ℕ → Bool
+    scanned = admits (job .axes) (retire (headsIn job c) p) (levelsAt (heldIn c (job .held)) p)
+
+    levels-same : levelsAt (heldIn c (job .held)) p ≡ k
+    levels-same = ap (λ (x : IndexRecord). x .levels) (held-record c (job .held) (room job c store (t .settled)) p (t .place))
+
+    levels-low : (a : ℕ) → a < 8 → level levels a ≤ 8
+    levels-low a l =
+        subst (λ x. level x a ≤ 8) (levels-same ∙ sym (u .levels-are))
+        (searchable job c store (t .settled) .low p a (omega (arith, t .place, held-length c (job .held) (room job c store (t .settled)))) l)
+
+    marked-axes : markedAxes (job .axes) marks ≡ axes
+    unfolding admittedAxes
+    marked-axes =
+        ap (markedAxes (job .axes)) (u .marks-are)
+        ∙ marked-are (job .axes) scanned (few-axes job c store (t .settled))
+        ∙ ap (admittedAxes (job .axes) (retire (headsIn job c) p)) levels-same
+        ∙ alike-axes (retire (headsIn job c) p) (retire es p) (alike-retire (headsIn job c) es (heads-are job c store) p) (job .axes) k
+
+    marked-within : MarkedWithin (job .axes) levels marks
+    marked-within a l e =
+        subst (λ x. Within (forward x a)) (levels-same ∙ sym (u .levels-are))
+        (reads-admits (job .axes) (retire (headsIn job c) p) (levelsAt (heldIn c (job .held)) p) a .sure
+        (marked-passes (job .axes) scanned (few-axes job c store (t .settled)) a l (ap (λ x. getD x a 0) (sym (u .marks-are)) ∙ e)) .ceilings)
+
+    pub marks-ask : (job .axes ≤ 8) × MarkedWithin (job .axes) levels marks × ((a : ℕ) → a < 8 → level levels a ≤ 8)
+    marks-ask = (few-axes job c store (t .settled), marked-within, levels-low)
+
+    module _ {count sizes : ℕ} (v : Counted job levels marks count sizes) where
+      count-admitted : count ≡ length axes
+      count-admitted = v .count-is ∙ ap length marked-axes
+
+      sizes-admitted : sizes ≡ sizesOf k axes
+      sizes-admitted = v .sizes-are ∙ ap₂ sizesOf (u .levels-are) marked-axes
+
+      held-refined : length refined ≡ job .held + count
+      held-refined = refined-held area (t .settled) p (t .place) (t .active) ∙ ap (λ n. job .held + n) (sym count-admitted)
+
+      reserved-refined : reservedBy refined ≡ job .reserved + sizes
+      reserved-refined = refined-reserved area (t .settled) p (t .place) (t .active) ∙ ap (λ n. job .reserved + n) (sym sizes-admitted)
+
+      -- ---- spent
+
+      pub too-many : 512 < job .held + count → promotionOf (record { outcome = Spent; job = job }) c store ≡ refineOn area p
+      unfolding fits outcomeOf
+      too-many l = sym (spent-answer (rw (lt-leb (length refined) 512 (omega (arith, held-refined)))))
+
+      pub too-large : job .held + count ≤ 512 → job .budget < job .reserved + sizes → promotionOf (record { outcome = Spent; job = job }) c store ≡ refineOn area p
+      unfolding fits outcomeOf
+      too-large f l =
+          sym
+          (spent-answer
+          (rw (le-leb (length refined) 512 (omega (arith, held-refined)), lt-leb (reservedBy refined) (job .budget) (omega (arith, reserved-refined)))))
+
+      -- ---- promoted
+
+      pub append-asks : (n : ℕ) → n ≡ length c → job .held + count ≤ 512 → job .reserved + sizes ≤ job .budget
+          → ((job .held + length (markedAxes (job .axes) marks)) * 27 ≤ n) × (job .held + length (markedAxes (job .axes) marks) ≤ 512)
+          × (job .reserved + sizesOf levels (markedAxes (job .axes) marks) ≤ 8192)
+      append-asks n e few within = (
+        omega (arith, v .count-is, long job c store (t .settled)),
+        omega (arith, v .count-is),
+        omega (arith, v .sizes-are, t .settled .sound .structure .budget .1),
+      )
+
+      module _ (few : job .held + count ≤ 512) (within : job .reserved + sizes ≤ job .budget) {indicator : ℕ} {c₁ c₂ : List ℕ} (w : Changed job c p levels marks indicator c₁ c₂)
+          (mean : ℤ) (mean-is : mean ≡ job .mean) where
+        abbrev jobAfter : JobRecord
+        jobAfter =
+            record {
+              axes = job .axes;
+              threshold = job .threshold;
+              budget = job .budget;
+              held = job .held + count;
+              reserved = job .reserved + sizes;
+              pending = job .pending - indicator;
+              mean = mean;
+            }
+
+        fit : fits (job .budget) refined ≡ true
+        unfolding fits
+        fit = rw (le-leb (length refined) 512 (omega (arith, held-refined)), le-leb (reservedBy refined) (job .budget) (omega (arith, reserved-refined)))
+
+        run-is : runOf c₂ ≡ record {
+          records = appendedAll (set (recordsOf c) p (restated (recordAt (recordsOf c) p) 2 (recordAt (recordsOf c) p .indicator))) (job .held) (job .reserved) k axes;
+          rest = runOf c .rest;
+        }
+        run-is =
+            w .appended-is
+            ∙ ap (λ (x : Run). record { records = appendedAll (x .records) (job .held) (job .reserved) levels (markedAxes (job .axes) marks); rest = x .rest }) (w .restated-is)
+            ∙ (λ i. record {
+              records = appendedAll (set (recordsOf c) p (restated (recordAt (recordsOf c) p) 2 (w .indicator-is i))) (job .held) (job .reserved) (u .levels-are i) (marked-axes i);
+              rest = runOf c .rest;
+            })
+
+        after-written : areaOf jobAfter c₂ store ≡ written area after
+        after-written =
+            (λ i. record {
+              job = record {
+                axes = job .axes;
+                threshold = job .threshold;
+                budget = job .budget;
+                held = job .held + count-admitted i;
+                reserved = job .reserved + sizes-admitted i;
+                pending = job .pending - w .indicator-is i;
+                mean = mean-is i;
+              };
+              run = run-is i;
+              store = store;
+            })
+            ∙ sym (write-facts .refine area p (t .settled) (t .idle) (t .place) (t .active) fit)
+
+        pub promoted-is : promotionOf (record { outcome = Promoted; job = jobAfter }) c₂ store ≡ refineOn area p
+        unfolding outcomeOf
+        promoted-is = ap (λ (x : Area). record { outcome = promoted; area = x }) after-written ∙ sym (promoted-answer fit)
+
+        pub promoted-settled : Settled (areaOf jobAfter c₂ store)
+        unfolding machineOf
+        promoted-settled =
+            written-settled area after (after-sound fit) (t .settled .lent .records) (t .settled .lent .store) jobAfter c₂ store after-written

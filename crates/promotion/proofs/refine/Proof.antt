@@ -1,0 +1,178 @@
+-- `promotion::refine` meets its contract: the marked axes are the admitted ones, their counts decide whether it is spent, and the records written are those of the refined entries. Assumes nothing.
+use borrow.Author.Needs.{needs, sfits-of}
+use mathlib.Core.Path.{_≡_}
+use denote.Ref.{now}
+use lib.ListN.{length}
+use mir.Syntax.{w64}
+use mir.Val.{toZ, ofZ}
+use Rattle.sums.proofs.Words.{back}
+use Rattle.promotion.proofs.Refining.{refinable, place-inside, scan-asks, indicator-pending, Scanned, marks-ask, Counted, too-many, too-large, append-asks, Changed, promoted-is, promoted-settled}
+use Rattle.promotion.proofs.refine.Statement.{statement}
+use Rattle.promotion.proofs.refine.Tie as tie
+
+cast-axes : tie.Need-cast-axes
+cast-axes c = search needs
+
+cast-held : tie.Need-cast-held
+cast-held c = search needs
+
+cast-reserved : tie.Need-cast-reserved
+cast-reserved c = search needs
+
+cast-budget : tie.Need-cast-budget
+cast-budget c = search needs
+
+levels-at-requires : tie.Need-levels-at-requires
+levels-at-requires c κs =
+    let s = c .before .before .before .before .before .before in
+    place-inside (refinable (s .args .job) (now (s .args .cells)) (now (s .args .store)) (s .args .place) (s .pre .0) (s .pre .1))
+
+admitted-requires : tie.Need-admitted-requires
+admitted-requires c κs =
+    let s = c .before .before .before .before .before .before .before .before in
+    scan-asks (refinable (s .args .job) (now (s .args .cells)) (now (s .args .store)) (s .args .place) (s .pre .0) (s .pre .1))
+
+marked-count-requires : tie.Need-marked-count-requires
+marked-count-requires c κs = search needs
+
+marked-sizes-requires : tie.Need-marked-sizes-requires
+marked-sizes-requires c κs =
+    let s = c .before .before .before .before .before .before .before .before .before .before in
+    let t = refinable (s .args .job) (now (s .args .cells)) (now (s .args .store)) (s .args .place) (s .pre .0) (s .pre .1) in
+    let l = c .before .before .before .levels-at in
+    let m = c .before .admitted in
+    let u : Scanned (s .args .job) (now (s .args .cells)) (s .args .place) (l .result) (m .result) = record { levels-are = l .ensures; marks-are = m .ensures } in
+    marks-ask t u
+
+add-if1 : tie.Need-add-if1
+add-if1 c = search needs
+
+same-length : tie.Need-same-length
+same-length c = search needs
+
+returns : tie.Need-returns
+returns c =
+    let s = c .before .before .before .before .before .before .before .before .before .before .before .before in
+    let t = refinable (s .args .job) (now (s .args .cells)) (now (s .args .store)) (s .args .place) (s .pre .0) (s .pre .1) in
+    let l = c .before .before .before .before .before .levels-at in
+    let m = c .before .before .before .admitted in
+    let u : Scanned (s .args .job) (now (s .args .cells)) (s .args .place) (l .result) (m .result) = record { levels-are = l .ensures; marks-are = m .ensures } in
+    let n = c .before .before .marked-count in
+    let z = c .before .marked-sizes in
+    let v : Counted (s .args .job) (l .result) (m .result) (n .result) (z .result) = record { count-is = n .ensures .0; sizes-are = z .ensures .0 } in
+    (too-many t u v (c .if1 .taken), s .pre .0 .0)
+
+add-if2 : tie.Need-add-if2
+add-if2 c = search needs
+
+same-length-2 : tie.Need-same-length-2
+same-length-2 c = search needs
+
+returns-2 : tie.Need-returns-2
+returns-2 c =
+    let s = c .before .before .before .before .before .before .before .before .before .before .before .before .before in
+    let t = refinable (s .args .job) (now (s .args .cells)) (now (s .args .store)) (s .args .place) (s .pre .0) (s .pre .1) in
+    let l = c .before .before .before .before .before .before .levels-at in
+    let m = c .before .before .before .before .admitted in
+    let u : Scanned (s .args .job) (now (s .args .cells)) (s .args .place) (l .result) (m .result) = record { levels-are = l .ensures; marks-are = m .ensures } in
+    let n = c .before .before .before .marked-count in
+    let z = c .before .before .marked-sizes in
+    let v : Counted (s .args .job) (l .result) (m .result) (n .result) (z .result) = record { count-is = n .ensures .0; sizes-are = z .ensures .0 } in
+    (too-large t u v (c .before .if1 .left) (c .if2 .taken), s .pre .0 .0)
+
+indicator-at-requires : tie.Need-indicator-at-requires
+indicator-at-requires c κs =
+    let s = c .before .before .before .before .before .before .before .before .before .before .before .before .before .before in
+    place-inside (refinable (s .args .job) (now (s .args .cells)) (now (s .args .store)) (s .args .place) (s .pre .0) (s .pre .1))
+
+restate-requires : tie.Need-restate-requires
+restate-requires c κs =
+    let s = c .before .before .before .before .before .before .before .before .before .before .before .before .before .before .before .before in
+    place-inside (refinable (s .args .job) (now (s .args .cells)) (now (s .args .store)) (s .args .place) (s .pre .0) (s .pre .1))
+
+append-marked-requires : tie.Need-append-marked-requires
+append-marked-requires c κs =
+    let s = c .before .before .before .before .before .before .before .before .before .before .before .before .before .before .before .before .before .before .before .before in
+    let t = refinable (s .args .job) (now (s .args .cells)) (now (s .args .store)) (s .args .place) (s .pre .0) (s .pre .1) in
+    let l = c .before .before .before .before .before .before .before .before .before .before .before .before .before .levels-at in
+    let m = c .before .before .before .before .before .before .before .before .before .before .before .admitted in
+    let u : Scanned (s .args .job) (now (s .args .cells)) (s .args .place) (l .result) (m .result) = record { levels-are = l .ensures; marks-are = m .ensures } in
+    let n = c .before .before .before .before .before .before .before .before .before .before .marked-count in
+    let z = c .before .before .before .before .before .before .before .before .before .marked-sizes in
+    let v : Counted (s .args .job) (l .result) (m .result) (n .result) (z .result) = record { count-is = n .ensures .0; sizes-are = z .ensures .0 } in
+    let e = c .before .before .before .restate in
+    (marks-ask t u, append-asks t u v (length (e .last .1 .1 .1 .0)) (e .kept .1 .1 .1 .0) (c .before .before .before .before .before .before .before .before .if1 .left) (c .before .before .before .before .before .before .before .if2 .left))
+
+add-t19 : tie.Need-add-t19
+add-t19 c = search needs
+
+cast-t30 : tie.Need-cast-t30
+cast-t30 c = search needs
+
+add-t31 : tie.Need-add-t31
+add-t31 c = search needs
+
+cast-t32 : tie.Need-cast-t32
+cast-t32 c = search needs
+
+cast-t33 : tie.Need-cast-t33
+cast-t33 c = search needs
+
+sub-t34 : tie.Need-sub-t34
+sub-t34 c =
+    let s = c .before .before .before .before .before .before .before .before .before .before .before .before .before .before .before .before .before .before .before .before .before .before .before .before in
+    let i = c .before .before .before .before .before .before .before .before .before .indicator-at in
+    indicator-pending (refinable (s .args .job) (now (s .args .cells)) (now (s .args .store)) (s .args .place) (s .pre .0) (s .pre .1)) (i .result) (i .ensures)
+
+same-length-3 : tie.Need-same-length-3
+same-length-3 c = search needs
+
+returns-3 : tie.Need-returns-3
+returns-3 c =
+    let s = c .before .before .before .before .before .before .before .before .before .before .before .before .before .before .before .before .before .before .before .before .before .before .before .before .before in
+    let t = refinable (s .args .job) (now (s .args .cells)) (now (s .args .store)) (s .args .place) (s .pre .0) (s .pre .1) in
+    let l = c .before .before .before .before .before .before .before .before .before .before .before .before .before .before .before .before .before .before .levels-at in
+    let m = c .before .before .before .before .before .before .before .before .before .before .before .before .before .before .before .before .admitted in
+    let u : Scanned (s .args .job) (now (s .args .cells)) (s .args .place) (l .result) (m .result) = record { levels-are = l .ensures; marks-are = m .ensures } in
+    let n = c .before .before .before .before .before .before .before .before .before .before .before .before .before .before .before .marked-count in
+    let z = c .before .before .before .before .before .before .before .before .before .before .before .before .before .before .marked-sizes in
+    let v : Counted (s .args .job) (l .result) (m .result) (n .result) (z .result) = record { count-is = n .ensures .0; sizes-are = z .ensures .0 } in
+    let few = c .before .before .before .before .before .before .before .before .before .before .before .before .before .if1 .left in
+    let within = c .before .before .before .before .before .before .before .before .before .before .before .before .if2 .left in
+    let i = c .before .before .before .before .before .before .before .before .before .before .indicator-at in
+    let e = c .before .before .before .before .before .before .before .before .restate in
+    let f = c .before .before .before .before .append-marked in
+    let w : Changed (s .args .job) (now (s .args .cells)) (s .args .place) (l .result) (m .result) (i .result) (e .last .1 .1 .1 .0) (f .last .1 .1 .1 .1 .1 .0) = record { indicator-is = i .ensures; restated-is = e .ensures; appended-is = f .ensures } in
+    let mean = toZ w64 (ofZ w64 (s .args .job .mean)) in
+    let mean-is : mean ≡ s .args .job .mean = back (s .args .job .mean) (sfits-of (c .struct-told .given .1 .1 .1 .1 .1 .1 .0 .1)) in
+    (promoted-is t u v few within w mean mean-is, promoted-settled t u v few within w mean mean-is)
+
+pub refine-spec : {M : Type 1} → statement M
+refine-spec =
+    tie.close
+    (tie.spec
+    cast-axes
+    cast-held
+    cast-reserved
+    cast-budget
+    levels-at-requires
+    admitted-requires
+    marked-count-requires
+    marked-sizes-requires
+    add-if1
+    same-length
+    returns
+    add-if2
+    same-length-2
+    returns-2
+    indicator-at-requires
+    restate-requires
+    append-marked-requires
+    add-t19
+    cast-t30
+    add-t31
+    cast-t32
+    cast-t33
+    sub-t34
+    same-length-3
+    returns-3)

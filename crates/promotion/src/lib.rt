@@ -1,0 +1,218 @@
+// Promote on an area that is known to be sound: selecting a place, and refining it. The public call is that of the crate `calls`.
+ghost use mathlib.Core.Path.{_≡_};
+ghost use Prim.Native.Nat.{ℕ, _+_, _*_, _<_, _≤_};
+ghost use lib.ListN.{length, getD};
+ghost use Rattle.grid.specs.Index.{level};
+ghost use Rattle.area.specs.Records.{recordsOf, runOf, heldIn};
+ghost use Rattle.area.specs.Encoding.{areaOf, entriesOf};
+ghost use Rattle.quadrature.specs.Readings.{recordAt};
+ghost use Rattle.machine.specs.Log.{firstWanted};
+ghost use Rattle.machine.specs.Areas.{refineOn, promoteOn};
+ghost use Rattle.machine.specs.Promote.{selected, retire, isOld, admits};
+ghost use Rattle.writing.specs.Changes.{appendedAll, sizesOf};
+ghost use Rattle.writing.specs.Heads.{headsOf};
+ghost use Rattle.writing.specs.Settled.{Settled};
+ghost use Rattle.promotion.specs.Outcomes.{promotionOf};
+ghost use Rattle.promotion.specs.Marks.{marksOf, markedAxes, Searchable, MarkedWithin};
+
+pub enum Outcome {
+    Met,
+    Spent,
+    Promoted,
+}
+
+pub struct Promotion {
+    pub outcome: Outcome,
+    pub job: area::JobRecord,
+}
+
+// The active place of largest indicator, the lowest among equals. It goes from the last place down, so that an equal one at a
+// lower place takes over.
+pub fn select(held: usize, cells: &[u32]) -> usize
+    requires { ⌜ held * 27 ≤ length (now cells) ⌝ }
+    ensures { λ r. ⌜ r ≡ selected (headsOf (heldIn (now (cells .entry)) held)) ⌝ }
+{
+    let mut best = held;
+    let mut largest: u32 = 0;
+    let mut place = held;
+    while 0 < place {
+        place -= 1;
+        if area::state_at(cells, place) == area::ACTIVE {
+            let indicator = area::indicator_at(cells, place);
+            if largest <= indicator {
+                largest = indicator;
+                best = place;
+            }
+        }
+    }
+    best
+}
+
+// Whether an index is held and old; the place that is refined counts as old.
+fn is_old(held: usize, refined: usize, levels: [u32; 8], cells: &[u32]) -> bool
+    requires { ⌜ (held * 27 ≤ length (now cells)) × (refined < held) × Searchable (heldIn (now cells) held) ⌝ }
+    ensures { λ r. ⌜ r ≡ isOld (retire (headsOf (heldIn (now (cells .entry)) held)) refined) levels ⌝ }
+{
+    match area::lookup(cells, held, levels) {
+        area::Found::At(place) => {
+            if place == refined {
+                true
+            } else {
+                area::state_at(cells, place) == area::OLD
+            }
+        }
+        area::Found::Nothing => false,
+    }
+}
+
+// Marks the axes along which the place that is refined has a forward neighbour to admit: within the ceilings, all its backward
+// neighbours old. The scan leaves a neighbour for the next axis at the first that is not.
+fn admitted(axes: usize, held: usize, refined: usize, cells: &[u32]) -> [u32; 8]
+    requires { ⌜ (axes ≤ 8) × (held * 27 ≤ length (now cells)) × (refined < held) × Searchable (heldIn (now cells) held) ⌝ }
+    ensures { λ r. ⌜ r ≡ marksOf axes (admits axes (retire (headsOf (heldIn (now (cells .entry)) held)) refined) (recordAt (heldIn (now (cells .entry)) held) refined .levels)) ⌝ }
+{
+    let levels = area::levels_at(cells, refined);
+    let mut marks = [0u32; 8];
+    'axes: for axis in 0..axes {
+        let neighbour = grid::forward_neighbour(levels, axis);
+        if !grid::within_ceilings(neighbour) {
+            continue 'axes;
+        }
+        for other in 0..axes {
+            if 1 < neighbour[other] {
+                if !is_old(
+                    held,
+                    refined,
+                    grid::backward_neighbour(neighbour, other),
+                    cells,
+                ) {
+                    continue 'axes;
+                }
+            }
+        }
+        marks[axis] = 1;
+    }
+    marks
+}
+
+// How many axes are marked.
+fn marked_count(axes: usize, marks: [u32; 8]) -> usize
+    requires { ⌜ axes ≤ 8 ⌝ }
+    ensures { λ r. ⌜ (r ≡ length (markedAxes axes marks)) × (r ≤ 8) ⌝ }
+{
+    let mut count: usize = 0;
+    let mut axis: usize = 0;
+    while axis < axes {
+        if marks[axis] == 1 {
+            count += 1;
+        }
+        axis += 1;
+    }
+    count
+}
+
+// The sizes of the blocks of the marked forward neighbours, together.
+fn marked_sizes(axes: usize, levels: [u32; 8], marks: [u32; 8]) -> usize
+    requires { ⌜ (axes ≤ 8) × MarkedWithin axes levels marks × ((a : ℕ) → a < 8 → level levels a ≤ 8) ⌝ }
+    ensures { λ r. ⌜ (r ≡ sizesOf levels (markedAxes axes marks)) × (r ≤ 65536) ⌝ }
+{
+    let mut sum: usize = 0;
+    let mut axis: usize = 0;
+    while axis < axes {
+        if marks[axis] == 1 {
+            sum += grid::block_size(grid::forward_neighbour(levels, axis));
+        }
+        axis += 1;
+    }
+    sum
+}
+
+// Appends the marked forward neighbours in axis order, wanted, to the held, their blocks from `first` on.
+fn append_marked(
+    axes: usize,
+    held: usize,
+    first: usize,
+    levels: [u32; 8],
+    marks: [u32; 8],
+    cells: &mut [u32],
+)
+    requires { ⌜ (axes ≤ 8) × MarkedWithin axes levels marks × ((a : ℕ) → a < 8 → level levels a ≤ 8) ⌝ }
+    requires { ⌜ ((held + length (markedAxes axes marks)) * 27 ≤ length (now cells)) × (held + length (markedAxes axes marks) ≤ 512) × (first + sizesOf levels (markedAxes axes marks) ≤ 8192) ⌝ }
+    ensures { λ r. ⌜ runOf (now (cells .exit)) ≡ record { records = appendedAll (recordsOf (now (cells .entry))) held first levels (markedAxes axes marks); rest = runOf (now (cells .entry)) .rest } ⌝ }
+{
+    let mut count = held;
+    let mut next = first;
+    let mut axis: usize = 0;
+    while axis < axes {
+        if marks[axis] == 1 {
+            let neighbour = grid::forward_neighbour(levels, axis);
+            let size = grid::block_size(neighbour);
+            writing::append(count, next, neighbour, cells);
+            count += 1;
+            next += size;
+        }
+        axis += 1;
+    }
+}
+
+// Refines an active place, unless that is spent.
+pub fn refine(job: area::JobRecord, place: usize, cells: &mut [u32], store: &[i32]) -> Promotion
+    requires { ⌜ Settled (areaOf job (now cells) (now store)) × (length (entriesOf (areaOf job (now cells) (now store))) ≤ firstWanted (entriesOf (areaOf job (now cells) (now store)))) ⌝ }
+    requires { ⌜ (place < job .held) × (recordAt (recordsOf (now cells)) place .state ≡ 1) ⌝ }
+    ensures is { λ r. ⌜ promotionOf r (now (cells .exit)) (now (store .entry)) ≡ refineOn (areaOf job (now (cells .entry)) (now (store .entry))) place ⌝ }
+    ensures settled { λ r. ⌜ Settled (areaOf (r .job) (now (cells .exit)) (now (store .entry))) ⌝ }
+{
+    let axes = job.axes as usize;
+    let held = job.held as usize;
+    let reserved = job.reserved as usize;
+    let budget = job.budget as usize;
+    let levels = area::levels_at(cells, place);
+    let marks = admitted(axes, held, place, cells);
+    let count = marked_count(axes, marks);
+    let sizes = marked_sizes(axes, levels, marks);
+    if 512 < held + count {
+        return Promotion {
+            outcome: Outcome::Spent,
+            job,
+        };
+    }
+    if budget < reserved + sizes {
+        return Promotion {
+            outcome: Outcome::Spent,
+            job,
+        };
+    }
+    let indicator = area::indicator_at(cells, place);
+    writing::restate(place, area::OLD, indicator, cells);
+    append_marked(axes, held, reserved, levels, marks, cells);
+    let after = area::JobRecord {
+        axes: job.axes,
+        threshold: job.threshold,
+        budget: job.budget,
+        held: (held + count) as u32,
+        reserved: (reserved + sizes) as u32,
+        pending: job.pending - indicator as u64,
+        mean: job.mean,
+    };
+    Promotion {
+        outcome: Outcome::Promoted,
+        job: after,
+    }
+}
+
+// Promotes: met, or the selected place refined, unless that is spent.
+pub fn promote(job: area::JobRecord, cells: &mut [u32], store: &[i32]) -> Promotion
+    requires { ⌜ Settled (areaOf job (now cells) (now store)) × (length (entriesOf (areaOf job (now cells) (now store))) ≤ firstWanted (entriesOf (areaOf job (now cells) (now store)))) ⌝ }
+    ensures is { λ r. ⌜ promotionOf r (now (cells .exit)) (now (store .entry)) ≡ promoteOn (areaOf job (now (cells .entry)) (now (store .entry))) ⌝ }
+    ensures settled { λ r. ⌜ Settled (areaOf (r .job) (now (cells .exit)) (now (store .entry))) ⌝ }
+{
+    if job.pending <= job.threshold {
+        return Promotion {
+            outcome: Outcome::Met,
+            job,
+        };
+    }
+    let held = job.held as usize;
+    let place = select(held, cells);
+    refine(job, place, cells, store)
+}
