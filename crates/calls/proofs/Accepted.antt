@@ -1,0 +1,111 @@
+-- What holds where no cause refuses a call.
+-- The idea: each test of the list failed.
+-- Assumes nothing.
+use mathlib.Core.Path.{_≡_, refl}
+use mathlib.Core.Bool.{Bool, true, false, not, _&&_}
+use mathlib.Core.List.{List, [], _∷_}
+use Prim.Native.Nat.{ℕ, suc, _<_, _≤_}
+use native.Mathlib.Omega.{arith}
+use borrow.Author.Tests.{not-false, eqb-true, ltb-true, ltb-false, leb-true, leb-false}
+use lib.Dec.{leb, ltb, eqb}
+use lib.IntN.{ℤ}
+use lib.ListN.{length}
+use Rattle.grid.specs.Block.{blockSize}
+use Rattle.soundness.proofs.Exactly.{reads-and, reads-le}
+use Rattle.machine.specs.Log.{Log, firstWanted, anyWanted, wantedIndex}
+use Rattle.machine.specs.Causes.{Cause, Lengths, cause, firstCause, short, inRange, startCauses, pointCauses, deliverCauses, promoteCauses, resultCauses}
+
+-- no test of the list refuses
+pub record Missed (t : Bool) (cs : List Cause) : Type 0 where
+  pub here : t ≡ false
+  pub later : firstCause cs ≡ 0
+
+pub missed : (t : Bool) (n : ℕ) (cs : List Cause) → firstCause (cause t (suc n) ∷ cs) ≡ 0 → Missed t cs
+unfolding firstCause
+missed true n cs e = absurd (omega (arith, e))
+missed false n cs e = record { here = refl; later = e }
+
+both : (m n b : ℕ) → not (leb m n && leb n b) ≡ false → (m ≤ n) × (n ≤ b)
+both m n b e = reads-and _ _ (reads-le m n) (reads-le n b) .sure (not-false (leb m n && leb n b) e)
+
+pub record Startable (z : Lengths) (d b : ℕ) : Type 0 where
+  pub axes : (1 ≤ d) × (d ≤ 8)
+  pub budget : (1 ≤ b) × (b ≤ 8192)
+  pub records : 512 ≤ z .records
+  pub readings : b ≤ z .readings
+
+pub startable : (z : Lengths) (d b : ℕ) → firstCause (startCauses z d b) ≡ 0 → Startable z d b
+unfolding startCauses short
+startable z d b e =
+    let one = missed _ 0 _ e in
+    let two = missed _ 1 _ (one .later) in
+    let three = missed _ 2 _ (two .later) in
+    let long = reads-and _ _ (reads-le 512 (z .records)) (reads-le b (z .readings)) .sure (not-false (leb 512 (z .records) && leb b (z .readings)) (three .here)) in
+    record { axes = both 1 d 8 (one .here); budget = both 1 b 8192 (two .here); records = long .0; readings = long .1 }
+
+module _ (z : Lengths) (sound : Bool) (l : Log) where
+  abbrev common : ℕ
+  common = firstCause (resultCauses z sound l)
+
+  -- the first two tests alone
+  first-two : (cs : List Cause) → short z (l .budget) ≡ false → not sound ≡ false → common ≡ 0
+  unfolding resultCauses firstCause
+  first-two cs e f = rw (e, f)
+
+  wanted-is : not (anyWanted (l .entries)) ≡ false → firstWanted (l .entries) < length (l .entries)
+  unfolding anyWanted
+  wanted-is e = ltb-true (firstWanted (l .entries)) (length (l .entries)) (not-false (ltb (firstWanted (l .entries)) (length (l .entries))) e)
+
+  pub record Promotable : Type 0 where
+    pub clear : common ≡ 0
+    pub free : length (l .entries) ≤ firstWanted (l .entries)
+
+  pub promotable : firstCause (promoteCauses z sound l) ≡ 0 → Promotable
+  unfolding promoteCauses anyWanted
+  promotable e =
+      let one = missed _ 2 _ e in
+      let two = missed _ 3 _ (one .later) in
+      let three = missed _ 5 _ (two .later) in
+      record { clear = first-two [] (one .here) (two .here); free = ltb-false (firstWanted (l .entries)) (length (l .entries)) (three .here) }
+
+  pub record Deliverable (rs : List ℤ) : Type 0 where
+    pub clear : common ≡ 0
+    pub wanted : firstWanted (l .entries) < length (l .entries)
+    pub whole : length rs ≡ blockSize (wantedIndex (l .entries))
+    pub range : inRange rs ≡ true
+
+  pub deliverable : (rs : List ℤ) → firstCause (deliverCauses z sound l rs) ≡ 0 → Deliverable rs
+  unfolding deliverCauses
+  deliverable rs e =
+      let one = missed _ 2 _ e in
+      let two = missed _ 3 _ (one .later) in
+      let three = missed _ 4 _ (two .later) in
+      let four = missed _ 6 _ (three .later) in
+      let five = missed _ 7 _ (four .later) in
+      record {
+        clear = first-two [] (one .here) (two .here);
+        wanted = wanted-is (three .here);
+        whole = eqb-true (length rs) (blockSize (wantedIndex (l .entries))) (not-false (eqb (length rs) (blockSize (wantedIndex (l .entries)))) (four .here));
+        range = not-false (inRange rs) (five .here);
+      }
+
+  pub record Pointable (n w : ℕ) : Type 0 where
+    pub clear : common ≡ 0
+    pub room : l .axes ≤ w
+    pub wanted : firstWanted (l .entries) < length (l .entries)
+    pub inside : n < blockSize (wantedIndex (l .entries))
+
+  pub pointable : (n w : ℕ) → firstCause (pointCauses z sound l n w) ≡ 0 → Pointable n w
+  unfolding pointCauses
+  pointable n w e =
+      let one = missed _ 2 _ e in
+      let buffer = missed _ 2 _ (one .later) in
+      let two = missed _ 3 _ (buffer .later) in
+      let three = missed _ 4 _ (two .later) in
+      let four = missed _ 8 _ (three .later) in
+      record {
+        clear = first-two [] (one .here) (two .here);
+        room = leb-true (l .axes) w (not-false (leb (l .axes) w) (buffer .here));
+        wanted = wanted-is (three .here);
+        inside = leb-false (blockSize (wantedIndex (l .entries))) n (four .here);
+      }

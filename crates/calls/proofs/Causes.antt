@@ -1,0 +1,156 @@
+-- The causes of each call, test by test, as the code asks them.
+-- Assumes nothing.
+use mathlib.Core.Path.{_≡_, refl, sym, ap, _∙_}
+use mathlib.Core.Bool.{Bool, true, false, not}
+use mathlib.Core.List.{List, [], _∷_}
+use Prim.Native.Nat.{ℕ, _<_, _≤_}
+use borrow.Author.Tests.{eq-eqb, ne-eqb, le-leb, lt-leb, lt-ltb, le-ltb}
+use lib.Dec.{leb}
+use lib.IntN.{ℤ}
+use lib.ListN.{length}
+use Rattle.grid.specs.Block.{blockSize}
+use Rattle.machine.specs.Log.{Log, firstWanted, anyWanted, wantedIndex}
+use Rattle.machine.specs.Causes.{Lengths, cause, firstCause, short, inRange, startCauses, pointCauses, deliverCauses, promoteCauses, resultCauses}
+use Rattle.calls.proofs.Tests.{hit, miss, end, Clear, clear, refusing, passing, out-low, out-high, inside}
+
+-- ---- start
+module _ (z : Lengths) (d b : ℕ) where
+  pub start-axes-low : d < 1 → firstCause (startCauses z d b) ≡ 1
+  unfolding startCauses
+  start-axes-low h = hit _ 1 _ (out-low d 8 h)
+
+  pub start-axes-high : 1 ≤ d → 8 < d → firstCause (startCauses z d b) ≡ 1
+  unfolding startCauses
+  start-axes-high l h = hit _ 1 _ (out-high d 8 l h)
+
+  module _ (low : 1 ≤ d) (high : d ≤ 8) where
+    pub start-budget-low : b < 1 → firstCause (startCauses z d b) ≡ 2
+    unfolding startCauses
+    start-budget-low h = miss _ 1 _ (inside d 8 low high) ∙ hit _ 2 _ (out-low b 8192 h)
+
+    pub start-budget-high : 1 ≤ b → 8192 < b → firstCause (startCauses z d b) ≡ 2
+    unfolding startCauses
+    start-budget-high l h = miss _ 1 _ (inside d 8 low high) ∙ hit _ 2 _ (out-high b 8192 l h)
+
+    module _ (some : 1 ≤ b) (most : b ≤ 8192) where
+      pub start-short : short z b ≡ true → firstCause (startCauses z d b) ≡ 3
+      unfolding startCauses
+      start-short e = miss _ 1 _ (inside d 8 low high) ∙ (miss _ 2 _ (inside b 8192 some most) ∙ hit _ 3 _ e)
+
+      pub start-fits : short z b ≡ false → firstCause (startCauses z d b) ≡ 0
+      unfolding startCauses
+      start-fits e = miss _ 1 _ (inside d 8 low high) ∙ (miss _ 2 _ (inside b 8192 some most) ∙ (miss _ 3 _ e ∙ end))
+
+-- ---- storage and area, which every later call asks first
+module _ (z : Lengths) (sound : Bool) (l : Log) where
+  abbrev pub common : ℕ
+  common = firstCause (resultCauses z sound l)
+
+  pub common-short : short z (l .budget) ≡ true → common ≡ 3
+  unfolding resultCauses
+  common-short e = hit _ 3 _ e
+
+  pub common-unsound : short z (l .budget) ≡ false → sound ≡ false → common ≡ 4
+  unfolding resultCauses
+  common-unsound e f = miss _ 3 _ e ∙ hit _ 4 _ (ap not f)
+
+  pub common-none : short z (l .budget) ≡ false → sound ≡ true → common ≡ 0
+  unfolding resultCauses
+  common-none e f = miss _ 3 _ e ∙ (miss _ 4 _ (ap not f) ∙ end)
+
+  pub common-clear : common ≡ 0 → Clear (short z (l .budget)) (not sound)
+  unfolding resultCauses
+  common-clear e = clear _ _ e
+
+  -- ---- promote
+  pub promote-common : (common ≡ 0 → ⊥) → firstCause (promoteCauses z sound l) ≡ common
+  unfolding promoteCauses resultCauses
+  promote-common n = refusing _ _ _ n
+
+  module _ (none : common ≡ 0) where
+    pub promote-wanted : anyWanted (l .entries) ≡ true → firstCause (promoteCauses z sound l) ≡ 6
+    unfolding promoteCauses resultCauses
+    promote-wanted e = passing _ _ _ none ∙ hit _ 6 _ e
+
+    pub promote-free : anyWanted (l .entries) ≡ false → firstCause (promoteCauses z sound l) ≡ 0
+    unfolding promoteCauses resultCauses
+    promote-free e = passing _ _ _ none ∙ (miss _ 6 _ e ∙ end)
+
+  -- ---- deliver
+  module _ (rs : List ℤ) where
+    pub deliver-common : (common ≡ 0 → ⊥) → firstCause (deliverCauses z sound l rs) ≡ common
+    unfolding deliverCauses resultCauses
+    deliver-common n = refusing _ _ _ n
+
+    module _ (none : common ≡ 0) where
+      pub deliver-nothing : anyWanted (l .entries) ≡ false → firstCause (deliverCauses z sound l rs) ≡ 5
+      unfolding deliverCauses resultCauses
+      deliver-nothing e = passing _ _ _ none ∙ hit _ 5 _ (ap not e)
+
+      module _ (wanted : anyWanted (l .entries) ≡ true) where
+        pub deliver-count : (length rs ≡ blockSize (wantedIndex (l .entries)) → ⊥) → firstCause (deliverCauses z sound l rs) ≡ 7
+        unfolding deliverCauses resultCauses
+        deliver-count n = passing _ _ _ none ∙ (miss _ 5 _ (ap not wanted) ∙ hit _ 7 _ (ap not (ne-eqb (length rs) (blockSize (wantedIndex (l .entries))) n)))
+
+        module _ (whole : length rs ≡ blockSize (wantedIndex (l .entries))) where
+          after-count : firstCause (deliverCauses z sound l rs) ≡ firstCause (cause (not (inRange rs)) 8 ∷ [])
+          unfolding deliverCauses resultCauses
+          after-count = passing _ _ _ none ∙ (miss _ 5 _ (ap not wanted) ∙ miss _ 7 _ (ap not (eq-eqb (length rs) (blockSize (wantedIndex (l .entries))) whole)))
+
+          pub deliver-range : inRange rs ≡ false → firstCause (deliverCauses z sound l rs) ≡ 8
+          deliver-range e = after-count ∙ hit _ 8 _ (ap not e)
+
+          pub deliver-fits : inRange rs ≡ true → firstCause (deliverCauses z sound l rs) ≡ 0
+          deliver-fits e = after-count ∙ (miss _ 8 _ (ap not e) ∙ end)
+
+  -- ---- point
+  module _ (n w : ℕ) where
+    pub point-buffer : w < l .axes → firstCause (pointCauses z sound l n w) ≡ 3
+    unfolding pointCauses
+    point-buffer h = step (short z (l .budget)) (ap not (lt-leb (l .axes) w h))
+      where
+        step : (t : Bool) → not (leb (l .axes) w) ≡ true
+            → firstCause (cause t 3 ∷ cause (not (leb (l .axes) w)) 3 ∷ cause (not sound) 4 ∷ cause (not (anyWanted (l .entries))) 5 ∷ cause (leb (blockSize (wantedIndex (l .entries))) n) 9 ∷ []) ≡ 3
+        step true e = hit true 3 _ refl
+        step false e = miss false 3 _ refl ∙ hit _ 3 _ e
+
+    module _ (room : l .axes ≤ w) where
+      -- the buffer's row falls out
+      buffered : firstCause (pointCauses z sound l n w)
+          ≡ firstCause (cause (short z (l .budget)) 3 ∷ cause (not sound) 4 ∷ cause (not (anyWanted (l .entries))) 5 ∷ cause (leb (blockSize (wantedIndex (l .entries))) n) 9 ∷ [])
+      unfolding pointCauses
+      buffered = step (short z (l .budget)) (ap not (le-leb (l .axes) w room))
+        where
+          step : (t : Bool) → not (leb (l .axes) w) ≡ false
+              → firstCause (cause t 3 ∷ cause (not (leb (l .axes) w)) 3 ∷ cause (not sound) 4 ∷ cause (not (anyWanted (l .entries))) 5 ∷ cause (leb (blockSize (wantedIndex (l .entries))) n) 9 ∷ [])
+              ≡ firstCause (cause t 3 ∷ cause (not sound) 4 ∷ cause (not (anyWanted (l .entries))) 5 ∷ cause (leb (blockSize (wantedIndex (l .entries))) n) 9 ∷ [])
+          step true e = hit true 3 _ refl ∙ sym (hit true 3 _ refl)
+          step false e = miss false 3 _ refl ∙ (miss _ 3 _ e ∙ sym (miss false 3 _ refl))
+
+      pub point-common : (common ≡ 0 → ⊥) → firstCause (pointCauses z sound l n w) ≡ common
+      unfolding resultCauses
+      point-common f = buffered ∙ refusing _ _ _ f
+
+      module _ (none : common ≡ 0) where
+        pub point-nothing : anyWanted (l .entries) ≡ false → firstCause (pointCauses z sound l n w) ≡ 5
+        unfolding resultCauses
+        point-nothing e = buffered ∙ (passing _ _ _ none ∙ hit _ 5 _ (ap not e))
+
+        module _ (wanted : anyWanted (l .entries) ≡ true) where
+          pub point-past : blockSize (wantedIndex (l .entries)) ≤ n → firstCause (pointCauses z sound l n w) ≡ 9
+          unfolding resultCauses
+          point-past h = buffered ∙ (passing _ _ _ none ∙ (miss _ 5 _ (ap not wanted) ∙ hit _ 9 _ (le-leb (blockSize (wantedIndex (l .entries))) n h)))
+
+          pub point-fits : n < blockSize (wantedIndex (l .entries)) → firstCause (pointCauses z sound l n w) ≡ 0
+          unfolding resultCauses
+          point-fits h = buffered ∙ (passing _ _ _ none ∙ (miss _ 5 _ (ap not wanted) ∙ (miss _ 9 _ (lt-leb (blockSize (wantedIndex (l .entries))) n h) ∙ end)))
+
+-- ---- wanted or not
+module _ (l : Log) where
+  pub wanted-yes : firstWanted (l .entries) < length (l .entries) → anyWanted (l .entries) ≡ true
+  unfolding anyWanted
+  wanted-yes h = lt-ltb (firstWanted (l .entries)) (length (l .entries)) h
+
+  pub wanted-no : length (l .entries) ≤ firstWanted (l .entries) → anyWanted (l .entries) ≡ false
+  unfolding anyWanted
+  wanted-no h = le-ltb (firstWanted (l .entries)) (length (l .entries)) h

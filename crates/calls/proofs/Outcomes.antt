@@ -1,0 +1,86 @@
+-- Promote on an area leaves the area itself, or the selected place refined; and either holds the machine's next state.
+-- The idea: split the tests that the definition asks, with the answers kept.
+-- Assumes nothing.
+use mathlib.Core.Path.{_≡_, refl, sym, ap, subst}
+use mathlib.Core.Logic.{_⊎_, inl, inr}
+use mathlib.Core.Bool.{Bool, true, false, cond}
+use Prim.Native.Nat.{ℕ}
+use native.Mathlib.Omega.{arith}
+use Rattle.area.specs.Encoding.{Area, entriesOf}
+use Rattle.machine.specs.Log.{Log, Machine, machineOf, written, withEntries}
+use Rattle.machine.specs.Promote.{Outcome, met, spent, promoted, selected, isMet, fits, refine, Promotion, promoteAt, promote}
+use Rattle.machine.specs.Steps.{promoteStep}
+use Rattle.machine.specs.Areas.{AreaPromotion, changedBy, refineOn, promoteOn}
+use Rattle.machine.proofs.Promotes.{promote-by}
+
+-- ---- refined where the pending error is above the threshold and it fits
+
+module _ (a : Area) where
+  abbrev pub grownLog : ℕ → Log
+  grownLog p = withEntries (machineOf a .log) (refine (a .job .axes) (entriesOf a) p)
+
+  abbrev pub grown : ℕ → Area
+  grown p = written a (record { log = grownLog p; mean = a .job .mean })
+
+  abbrev chosen : Bool → ℕ → Promotion
+  chosen t p = cond t (record { outcome = promoted; log = grownLog p }) (record { outcome = spent; log = machineOf a .log })
+
+  module _ (P : Area → Type 0) (same : P a) where
+    refine-ways : (p : ℕ) → (fits (a .job .budget) (refine (a .job .axes) (entriesOf a) p) ≡ true → P (grown p)) → P (refineOn a p .area)
+    unfolding refineOn promoteAt changedBy machineOf
+    refine-ways p more = step (fits (a .job .budget) (refine (a .job .axes) (entriesOf a) p)) refl
+      where
+        step : (t : Bool) → fits (a .job .budget) (refine (a .job .axes) (entriesOf a) p) ≡ t
+            → P (changedBy (chosen t p .outcome) a (written a (record { log = chosen t p .log; mean = a .job .mean })))
+        step true e = more e
+        step false e = same
+
+    pub outcome-ways : ((isMet (machineOf a .log) ≡ true → ⊥) → fits (a .job .budget) (refine (a .job .axes) (entriesOf a) (selected (entriesOf a))) ≡ true
+        → P (grown (selected (entriesOf a)))) → P (promoteOn a .area)
+    outcome-ways more = subst (λ (x : AreaPromotion). P (x .area)) (sym (promote-by a)) (step (isMet (machineOf a .log)) refl)
+      where
+        step : (t : Bool) → isMet (machineOf a .log) ≡ t → P (cond t (record { outcome = met; area = a }) (refineOn a (selected (entriesOf a))) .area)
+        step true e = same
+        step false e = refine-ways (selected (entriesOf a)) (more (λ f. let z : _≡_ {A = ℕ} 0 1 = cc in omega arith))
+
+-- ---- what isn't a promotion changes nothing
+
+abbrev given : Log → Bool → Bool → Promotion
+given l t u =
+    cond t (record { outcome = met; log = l })
+    (cond u (record { outcome = promoted; log = withEntries l (refine (l .axes) (l .entries) (selected (l .entries))) }) (record { outcome = spent; log = l }))
+
+same-log : (l : Log) → (promote l .outcome ≡ promoted → ⊥) → promote l .log ≡ l
+unfolding promote promoteAt
+same-log l = step (isMet l) (fits (l .budget) (refine (l .axes) (l .entries) (selected (l .entries))))
+  where
+    step : (t u : Bool) → (given l t u .outcome ≡ promoted → ⊥) → given l t u .log ≡ l
+    step true u n = refl
+    step false true n = absurd (n refl)
+    step false false n = refl
+
+module _ (a : Area) where
+  idle : (promote (machineOf a .log) .outcome ≡ promoted → ⊥) → machineOf a ≡ promoteStep (machineOf a)
+  unfolding promoteStep
+  idle n = sym (ap {B = Machine} (λ l. record { log = l; mean = machineOf a .mean }) (same-log (machineOf a .log) n))
+
+  -- so the area left holds the next state, if what is written into it does
+  pub promoted-holds : machineOf (written a (promoteStep (machineOf a))) ≡ promoteStep (machineOf a) → machineOf (promoteOn a .area) ≡ promoteStep (machineOf a)
+  unfolding promoteOn changedBy
+  promoted-holds e = step (promote (machineOf a .log) .outcome) idle
+    where
+      step : (o : Outcome) → ((o ≡ promoted → ⊥) → machineOf a ≡ promoteStep (machineOf a))
+          → machineOf (changedBy o a (written a (promoteStep (machineOf a)))) ≡ promoteStep (machineOf a)
+      step met f = f (λ x. let z : _≡_ {A = ℕ} 0 1 = cc in omega arith)
+      step spent f = f (λ x. let z : _≡_ {A = ℕ} 0 1 = cc in omega arith)
+      step promoted f = e
+
+  pub idle-area : (promoteOn a .outcome ≡ met) ⊎ (promoteOn a .outcome ≡ spent) → promoteOn a .area ≡ a
+  unfolding promoteOn changedBy
+  idle-area = step (promote (machineOf a .log) .outcome)
+    where
+      step : (o : Outcome) → (o ≡ met) ⊎ (o ≡ spent) → changedBy o a (written a (promoteStep (machineOf a))) ≡ a
+      step met h = refl
+      step spent h = refl
+      step promoted (inl e) = let z : _≡_ {A = ℕ} 0 1 = cc in absurd (omega arith)
+      step promoted (inr e) = let z : _≡_ {A = ℕ} 0 1 = cc in absurd (omega arith)

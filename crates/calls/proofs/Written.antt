@@ -1,0 +1,67 @@
+-- An area with a state written into it: it is settled and holds that state, and what lies past its last record is as it was.
+-- The idea: a record made of an entry has the entry's eight levels, and sixteen links as two lists of eight.
+-- Assumes nothing.
+use mathlib.Core.Path.{_≡_, refl, sym, ap, ap₂, _∙_, subst}
+use mathlib.Core.List.{List}
+use Prim.Native.Nat.{ℕ, _+_, _<_, _≤_}
+use native.Mathlib.Omega.{arith}
+use lib.ListN.{length, drop, length-append}
+use lib.Seq.{take-at, drop-at}
+use Rattle.sums.specs.Lists.{tab}
+use Rattle.sums.proofs.Lists.{length-tab}
+use Rattle.grid.specs.Index.{forward, backward}
+use Rattle.area.specs.declared.IndexRecord.{IndexRecord}
+use Rattle.area.specs.Entry.{Entry, indicesOf}
+use Rattle.area.specs.Encoding.{Area, heldOf, placeOf, linksOf, encoded, recordsFor, runWith, jobWith}
+use Rattle.encoding.specs.Entries.{entryAt}
+use Rattle.encoding.specs.Encodes.{Formed}
+use Rattle.encoding.proofs.Places.{record-at, records-length}
+use Rattle.machine.specs.Log.{Machine, machineOf, written, withEntries}
+use Rattle.machine.specs.Facts.{SoundMachine}
+use Rattle.writing.specs.Settled.{Settled}
+use Rattle.writing.proofs.After.{written-sound, written-long, written-entries}
+use Rattle.calls.specs.Replies.{lengthsOf}
+use Rattle.calls.specs.Facts.{PastUnchanged}
+
+links-length : (ls : List (List ℕ)) (k : List ℕ) → length (linksOf ls k) ≡ 16
+unfolding linksOf
+links-length ls k =
+    length-append (tab 8 (λ a. placeOf ls (forward k a))) (tab 8 (λ a. placeOf ls (backward k a)))
+    ∙ ap₂ _+_ (length-tab 8 (λ a. placeOf ls (forward k a))) (length-tab 8 (λ a. placeOf ls (backward k a)))
+
+module _ (a : Area) (m : Machine) where
+  abbrev es : List Entry
+  es = m .log .entries
+
+  held-records : heldOf (written a m) ≡ recordsFor es
+  unfolding written jobWith runWith
+  held-records = take-at (recordsFor es) (drop (length es) (a .run .records)) (length es) (records-length es)
+
+  pub written-past : PastUnchanged a (written a m)
+  unfolding written jobWith runWith
+  written-past =
+      record {
+        records = drop-at (recordsFor es) (drop (length es) (a .run .records)) (length es) (records-length es);
+        rest = refl;
+      }
+
+  module _ (v : SoundMachine m) where
+    formed-records : Formed (recordsFor es)
+    unfolding encoded
+    formed-records p h =
+        let l : p < length es = omega (arith, h, records-length es) in (
+          ap (λ (r : IndexRecord). length (r .levels)) (record-at es p l) ∙ v .index p l .eight,
+          ap (λ (r : IndexRecord). length (r .links)) (record-at es p l) ∙ links-length (indicesOf es) (entryAt es p .levels),
+        )
+
+    pub written-settled : 512 ≤ length (a .run .records) → m .log .budget ≤ length (a .store) → Settled (written a m)
+    written-settled long room =
+        record { sound = written-sound a m v; lent = written-long a m v long room; formed = subst Formed (sym held-records) formed-records }
+
+    pub written-state : machineOf (written a m) ≡ m
+    unfolding machineOf written jobWith
+    written-state = ap {B = Machine} (λ x. record { log = withEntries (m .log) x; mean = m .mean }) (written-entries a m v)
+
+-- the lengths of two areas
+pub same-lengths : (a b : Area) → length (b .run .records) ≡ length (a .run .records) → length (b .store) ≡ length (a .store) → lengthsOf b ≡ lengthsOf a
+same-lengths a b e f i = record { records = e i; readings = f i }

@@ -1,0 +1,65 @@
+-- What holds of every call: an accepted one leaves a sound area that holds the machine's next state, a refused one keeps everything, and
+-- nothing is written but what the scope document says.
+use mathlib.Core.Path.{_≡_}
+use mathlib.Core.Logic.{_⊎_}
+use mathlib.Core.List.{List, [], _∷_, List·Memᴰ}
+use Prim.Native.Nat.{ℕ, _+_, _<_, _≤_}
+use lib.IntN.{ℤ, pos}
+use lib.ListN.{length, getD, drop}
+use Rattle.area.specs.Encoding.{Area, heldOf, entriesOf}
+use Rattle.quadrature.specs.Readings.{recordAt}
+use Rattle.encoding.specs.Encodes.{Formed}
+use Rattle.machine.specs.Log.{machineOf, firstWanted}
+use Rattle.machine.specs.Promote.{Outcome, met, spent}
+use Rattle.machine.specs.Steps.{started, deliver, promoteStep}
+use Rattle.writing.specs.Settled.{Settled}
+use Rattle.calls.specs.Replies.{refused, accepted, promotion, lengthsOf}
+use Rattle.calls.specs.Calls.{startCall, pointCall, deliverCall, promoteCall, resultCall}
+
+-- Records past the last then held, and the cells past the last record, are as they were.
+pub record PastUnchanged (a b : Area) : Type 0 where
+  pub records : drop (b .job .held) (b .run .records) ≡ drop (b .job .held) (a .run .records)
+  pub rest : b .run .rest ≡ a .run .rest
+
+pub record CallFacts : Type 0 where
+  -- an accepted call leaves a settled area: sound, in storage that is long enough, its records formed; and what it holds is the
+  -- machine's next state
+  pub start-settles : (a : Area) (d t b : ℕ) → startCall a d t b .reply ≡ accepted → Settled (startCall a d t b .area)
+  pub start-state : (a : Area) (d t b : ℕ) → startCall a d t b .reply ≡ accepted → machineOf (startCall a d t b .area) ≡ started d t b
+  pub deliver-settles : (a : Area) (rs : List ℤ) (i : ℕ) → Formed (heldOf a) → deliverCall a rs i .reply ≡ accepted → Settled (deliverCall a rs i .area)
+  pub deliver-state : (a : Area) (rs : List ℤ) (i : ℕ) → Formed (heldOf a) → deliverCall a rs i .reply ≡ accepted → machineOf (deliverCall a rs i .area) ≡ deliver (machineOf a) rs i
+  pub promote-settles : (a : Area) (o : Outcome) → Formed (heldOf a) → promoteCall a .reply ≡ promotion o → Settled (promoteCall a .area)
+  pub promote-state : (a : Area) (o : Outcome) → Formed (heldOf a) → promoteCall a .reply ≡ promotion o → machineOf (promoteCall a .area) ≡ promoteStep (machineOf a)
+  -- met and spent change nothing
+  pub promote-idle : (a : Area) → (promoteCall a .reply ≡ promotion met) ⊎ (promoteCall a .reply ≡ promotion spent) → promoteCall a .area ≡ a
+  -- a refused call keeps everything, and each cause is returned by the calls of its row and no other
+  pub start-refused : (a : Area) (d t b n : ℕ) → startCall a d t b .reply ≡ refused n → (startCall a d t b .area ≡ a) × List·Memᴰ n (1 ∷ 2 ∷ 3 ∷ [])
+  pub point-refused : (a : Area) (n cause : ℕ) (buffer : List ℕ) → pointCall a n buffer .reply ≡ refused cause
+      → (pointCall a n buffer .buffer ≡ buffer) × List·Memᴰ cause (3 ∷ 4 ∷ 5 ∷ 9 ∷ [])
+  pub deliver-refused : (a : Area) (rs : List ℤ) (i n : ℕ) → deliverCall a rs i .reply ≡ refused n → (deliverCall a rs i .area ≡ a) × List·Memᴰ n (3 ∷ 4 ∷ 5 ∷ 7 ∷ 8 ∷ [])
+  pub promote-refused : (a : Area) (n : ℕ) → promoteCall a .reply ≡ refused n → (promoteCall a .area ≡ a) × List·Memᴰ n (3 ∷ 4 ∷ 6 ∷ [])
+  pub result-refused : (a : Area) (n : ℕ) → resultCall a ≡ refused n → List·Memᴰ n (3 ∷ 4 ∷ [])
+  -- the lengths of the lent storage stay
+  pub start-lengths : (a : Area) (d t b : ℕ) → lengthsOf (startCall a d t b .area) ≡ lengthsOf a
+  pub deliver-lengths : (a : Area) (rs : List ℤ) (i : ℕ) → Formed (heldOf a) → lengthsOf (deliverCall a rs i .area) ≡ lengthsOf a
+  pub promote-lengths : (a : Area) → Formed (heldOf a) → lengthsOf (promoteCall a .area) ≡ lengthsOf a
+  pub point-length : (a : Area) (n : ℕ) (buffer : List ℕ) → length (pointCall a n buffer .buffer) ≡ length buffer
+  -- later bytes of the buffer are untouched
+  pub point-later : (a : Area) (n i : ℕ) (buffer : List ℕ) → a .job .axes ≤ i → getD (pointCall a n buffer .buffer) i 0 ≡ getD buffer i 0
+  -- no call writes a record past the last then held
+  pub start-past : (a : Area) (d t b : ℕ) → PastUnchanged a (startCall a d t b .area)
+  pub deliver-past : (a : Area) (rs : List ℤ) (i : ℕ) → PastUnchanged a (deliverCall a rs i .area)
+  pub promote-past : (a : Area) → PastUnchanged a (promoteCall a .area)
+  -- or a store element outside the block being delivered; start and promote write none
+  pub start-store : (a : Area) (d t b : ℕ) → startCall a d t b .area .store ≡ a .store
+  pub promote-store : (a : Area) → Formed (heldOf a) → promoteCall a .area .store ≡ a .store
+  pub deliver-store : (a : Area) (rs : List ℤ) (i n : ℕ) → Formed (heldOf a)
+      → (n < recordAt (heldOf a) (firstWanted (entriesOf a)) .first) ⊎ (recordAt (heldOf a) (firstWanted (entriesOf a)) .first + length rs ≤ n)
+      → getD (deliverCall a rs i .area .store) n (pos 0) ≡ getD (a .store) n (pos 0)
+  -- the readings are stored from the block's first reading on
+  pub deliver-stored : (a : Area) (rs : List ℤ) (i n : ℕ) → Formed (heldOf a) → deliverCall a rs i .reply ≡ accepted → n < length rs
+      → getD (deliverCall a rs i .area .store) (recordAt (heldOf a) (firstWanted (entriesOf a)) .first + n) (pos 0) ≡ getD rs n (pos 0)
+  -- start's answer, new job record and record 0 depend on its arguments and the lengths alone
+  pub start-answer : (a c : Area) (d t b : ℕ) → lengthsOf a ≡ lengthsOf c → startCall a d t b .reply ≡ startCall c d t b .reply
+  pub start-job : (a c : Area) (d t b : ℕ) → lengthsOf a ≡ lengthsOf c → startCall a d t b .reply ≡ accepted
+      → (startCall a d t b .area .job ≡ startCall c d t b .area .job) × (recordAt (startCall a d t b .area .run .records) 0 ≡ recordAt (startCall c d t b .area .run .records) 0)

@@ -1,0 +1,4 @@
+-- The calls: what each answers and leaves, for every area and all arguments.
+pub mod Replies
+pub mod Calls
+pub mod Facts

@@ -1,0 +1,257 @@
+// The calls start, point, deliver, promote and result. Each first looks for a cause to refuse; a refused call changes nothing.
+ghost use mathlib.Core.Path.{_≡_};
+ghost use Rattle.area.specs.Encoding.{areaOf};
+ghost use Rattle.machine.specs.Causes.{firstCause, inRange, startCauses};
+ghost use Rattle.promotion.specs.Outcomes.{outcomeOf};
+ghost use Rattle.calls.specs.Replies.{promotion as outcomeReply, replyOf, resultedOf, calledOf};
+ghost use Rattle.calls.specs.Calls.{pointCause, deliverCause, promoteCause, resultCause, startCall, pointCall, deliverCall, promoteCall, resultCall};
+
+// What a call answers; `Refused` carries the number of the cause.
+pub enum Answer {
+    Refused(u32),
+    Accepted,
+    Met,
+    Spent,
+    Promoted,
+}
+
+// An answer with the job record that the call leaves.
+pub struct Answered {
+    pub answer: Answer,
+    pub job: area::JobRecord,
+}
+
+// Result's answer.
+pub enum Resulted {
+    Refused(u32),
+    Counted(counting::Counts),
+}
+
+// Whether all are readings.
+fn in_range(readings: &[i32]) -> bool
+    ensures { λ r. ⌜ r ≡ inRange (now (readings .entry)) ⌝ }
+{
+    checking::readings_fit(0, readings.len(), readings)
+}
+
+// Why start is refused; 0 if it isn't.
+fn start_cause(axes: u32, budget: u32, records: usize, readings: usize) -> u32
+    ensures { λ r. ⌜ r ≡ firstCause (startCauses (record { records = records; readings = readings }) axes budget) ⌝ }
+{
+    if axes < 1 {
+        return 1;
+    }
+    if 8 < axes {
+        return 1;
+    }
+    if budget < 1 {
+        return 2;
+    }
+    if 8192 < budget {
+        return 2;
+    }
+    if records < 512 {
+        return 3;
+    }
+    if readings < budget as usize {
+        return 3;
+    }
+    0
+}
+
+// Why the storage or the area refuses a call other than start and check; 0 if neither does.
+fn area_cause(job: area::JobRecord, cells: &[u32], store: &[i32]) -> u32
+    ensures { λ r. ⌜ r ≡ resultCause (areaOf job (now (cells .entry)) (now (store .entry))) ⌝ }
+{
+    if cells.len() / 27 < 512 {
+        return 3;
+    }
+    let budget = job.budget as usize;
+    if store.len() < budget {
+        return 3;
+    }
+    if !checking::check(job, cells, store) {
+        return 4;
+    }
+    0
+}
+
+// Why point is refused.
+fn point_cause(job: area::JobRecord, n: usize, room: usize, cells: &[u32], store: &[i32]) -> u32
+    ensures { λ r. ⌜ r ≡ pointCause (areaOf job (now (cells .entry)) (now (store .entry))) n room ⌝ }
+{
+    let axes = job.axes as usize;
+    if room < axes {
+        return 3;
+    }
+    let cause = area_cause(job, cells, store);
+    if cause != 0 {
+        return cause;
+    }
+    let held = job.held as usize;
+    let place = delivery::first_wanted(held, cells);
+    if held <= place {
+        return 5;
+    }
+    let size = grid::block_size(area::levels_at(cells, place));
+    if size <= n {
+        return 9;
+    }
+    0
+}
+
+// Why deliver is refused.
+fn deliver_cause(job: area::JobRecord, readings: &[i32], cells: &[u32], store: &[i32]) -> u32
+    ensures { λ r. ⌜ r ≡ deliverCause (areaOf job (now (cells .entry)) (now (store .entry))) (now (readings .entry)) ⌝ }
+{
+    let cause = area_cause(job, cells, store);
+    if cause != 0 {
+        return cause;
+    }
+    let held = job.held as usize;
+    let place = delivery::first_wanted(held, cells);
+    if held <= place {
+        return 5;
+    }
+    let size = grid::block_size(area::levels_at(cells, place));
+    if readings.len() != size {
+        return 7;
+    }
+    if !in_range(readings) {
+        return 8;
+    }
+    0
+}
+
+// Why promote is refused.
+fn promote_cause(job: area::JobRecord, cells: &[u32], store: &[i32]) -> u32
+    ensures { λ r. ⌜ r ≡ promoteCause (areaOf job (now (cells .entry)) (now (store .entry))) ⌝ }
+{
+    let cause = area_cause(job, cells, store);
+    if cause != 0 {
+        return cause;
+    }
+    let held = job.held as usize;
+    if delivery::first_wanted(held, cells) < held {
+        return 6;
+    }
+    0
+}
+
+// Starts a job. The old job record is taken only to hand it back on refusal.
+pub fn start(
+    job: area::JobRecord,
+    axes: u32,
+    threshold: u64,
+    budget: u32,
+    cells: &mut [u32],
+    store: &[i32],
+) -> Answered
+    ensures { λ r. ⌜ calledOf r (now (cells .exit)) (now (store .entry)) ≡ startCall (areaOf job (now (cells .entry)) (now (store .entry))) axes threshold budget ⌝ }
+{
+    let cause = start_cause(axes, budget, cells.len() / 27, store.len());
+    if cause != 0 {
+        return Answered {
+            answer: Answer::Refused(cause),
+            job,
+        };
+    }
+    let started = delivery::start(axes, threshold, budget, cells);
+    Answered {
+        answer: Answer::Accepted,
+        job: started,
+    }
+}
+
+// Writes the positions of the n-th point of the first wanted block into the buffer, later bytes untouched.
+pub fn point(
+    job: area::JobRecord,
+    n: usize,
+    cells: &[u32],
+    store: &[i32],
+    buffer: &mut [u8],
+) -> Answer
+    ensures { λ r. ⌜ record { reply = replyOf r; buffer = now (buffer .exit) } ≡ pointCall (areaOf job (now (cells .entry)) (now (store .entry))) n (now (buffer .entry)) ⌝ }
+{
+    let cause = point_cause(job, n, buffer.len(), cells, store);
+    if cause != 0 {
+        return Answer::Refused(cause);
+    }
+    let axes = job.axes as usize;
+    let place = delivery::first_wanted(job.held as usize, cells);
+    delivery::point(axes, place, n, cells, buffer);
+    Answer::Accepted
+}
+
+// Delivers the first wanted block.
+pub fn deliver(
+    job: area::JobRecord,
+    readings: &[i32],
+    indicator: u32,
+    cells: &mut [u32],
+    store: &mut [i32],
+) -> Answered
+    ensures { λ r. ⌜ calledOf r (now (cells .exit)) (now (store .exit)) ≡ deliverCall (areaOf job (now (cells .entry)) (now (store .entry))) (now (readings .entry)) indicator ⌝ }
+{
+    let cause = deliver_cause(job, readings, cells, store);
+    if cause != 0 {
+        return Answered {
+            answer: Answer::Refused(cause),
+            job,
+        };
+    }
+    let place = delivery::first_wanted(job.held as usize, cells);
+    let after = delivery::deliver(job, place, readings, indicator, cells, store);
+    Answered {
+        answer: Answer::Accepted,
+        job: after,
+    }
+}
+
+// Promotes: met, or the selected index refined, unless that is spent.
+pub fn promote(job: area::JobRecord, cells: &mut [u32], store: &[i32]) -> Answered
+    ensures { λ r. ⌜ calledOf r (now (cells .exit)) (now (store .entry)) ≡ promoteCall (areaOf job (now (cells .entry)) (now (store .entry))) ⌝ }
+{
+    let cause = promote_cause(job, cells, store);
+    if cause != 0 {
+        return Answered {
+            answer: Answer::Refused(cause),
+            job,
+        };
+    }
+    let promotion = promotion::promote(job, cells, store);
+    as_answer(promotion)
+}
+
+// A promotion as an answer.
+fn as_answer(promotion: promotion::Promotion) -> Answered
+    ensures { λ r. ⌜ (replyOf (r .answer) ≡ outcomeReply (outcomeOf (promotion .outcome))) × (r .job ≡ promotion .job) ⌝ }
+{
+    let outcome = promotion.outcome;
+    let job = promotion.job;
+    match outcome {
+        promotion::Outcome::Met => Answered {
+            answer: Answer::Met,
+            job,
+        },
+        promotion::Outcome::Spent => Answered {
+            answer: Answer::Spent,
+            job,
+        },
+        promotion::Outcome::Promoted => Answered {
+            answer: Answer::Promoted,
+            job,
+        },
+    }
+}
+
+// The counts of the area.
+pub fn result(job: area::JobRecord, cells: &[u32], store: &[i32]) -> Resulted
+    ensures { λ r. ⌜ resultedOf r ≡ resultCall (areaOf job (now (cells .entry)) (now (store .entry))) ⌝ }
+{
+    let cause = area_cause(job, cells, store);
+    if cause != 0 {
+        return Resulted::Refused(cause);
+    }
+    Resulted::Counted(counting::result(job, cells, store))
+}
