@@ -1,0 +1,3 @@
+-- Laws of two's complement.
+pub mod Complement
+pub mod Facts

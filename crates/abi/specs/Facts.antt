@@ -1,0 +1,15 @@
+-- Words and job records determine each other, so the words of a refused call's job record are as they were.
+use mathlib.Core.Path.{_≡_}
+use mathlib.Core.List.{List}
+use Prim.Native.Nat.{ℕ, _^_, _<_}
+use lib.ListN.{length}
+use mir.Syntax.{w64}
+use mir.Val.{SFits}
+use Rattle.area.specs.declared.JobRecord.{JobRecord}
+use Rattle.abi.specs.Words.{word, jobOf, wordsOf}
+
+pub record WordFacts : Type 0 where
+  -- ten 32-bit words, read as a job record and written again
+  pub words-again : (w : List ℕ) → length w ≡ 10 → ((i : ℕ) → word w i < 2 ^ 32) → wordsOf (jobOf w) ≡ w
+  -- a job record, written as words and read again
+  pub job-again : (j : JobRecord) → j .threshold < 2 ^ 64 → j .pending < 2 ^ 64 → SFits w64 (j .mean) → jobOf (wordsOf j) ≡ j
