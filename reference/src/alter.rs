@@ -3,15 +3,20 @@
 //! sound or breaks one clause alone.
 
 use crate::area::{Area, IndexRecord, ACTIVE, NONE, OLD, WANTED, WORDS};
-use crate::grid::{self, Levels, MOST_AXES, READING_LIMIT, ROOT};
+use crate::grid::{self, MOST_AXES, READING_LIMIT};
 use crate::rng::Rng;
 use crate::sums::DIFFERENCE_LIMIT;
+
+mod held;
+mod near_misses;
+
+pub use held::promote_past_limits;
 
 type Change = fn(&mut Area, &mut Rng) -> Option<String>;
 
 /// Every kind of change; each says what it did, or nothing if the area gives
 /// it no occasion.
-const CHANGES: [Change; 24] = [
+const CHANGES: [Change; 31] = [
     job_field,
     record_word,
     record_word,
@@ -25,17 +30,24 @@ const CHANGES: [Change; 24] = [
     wanted_becomes_active,
     active_becomes_wanted,
     state_of_no_kind,
-    drop_last_wanted,
-    append_copy,
-    append_past_ceiling,
-    append_beyond_axes,
+    held::drop_last_wanted,
+    held::append_copy,
+    held::append_past_ceiling,
+    held::append_beyond_axes,
     link_beyond_axes,
     exchange_places,
-    promote_past_limits,
+    held::promote_past_limits,
     budget_moved,
     axes_moved,
     reading_in_block,
     wanted_indicator,
+    first_reading,
+    near_misses::append_root,
+    near_misses::append_level_0,
+    near_misses::cross_links,
+    near_misses::forward_past_held,
+    near_misses::backward_past_held,
+    near_misses::drop_leaf,
 ];
 
 /// Alters the area in one to three places and says how.
@@ -66,7 +78,8 @@ fn axes(area: &Area) -> usize {
 
 /// A number of 32 bits that is likely to matter in place of this one.
 fn telling(area: &Area, rng: &mut Rng, was: u32) -> u32 {
-    match rng.below(10) {
+    let bit = rng.below(32);
+    match rng.below(11) {
         0 | 1 => was.wrapping_add(1),
         2 | 3 => was.wrapping_sub(1),
         4 => NONE,
@@ -74,16 +87,20 @@ fn telling(area: &Area, rng: &mut Rng, was: u32) -> u32 {
         6 => rng.pick(&[8, 9, 511, 512, 513, 8_192, 8_193, 1 << 31]),
         7 => rng.below(u64::from(area.job.held) + 2) as u32,
         8 => area.job.reserved,
+        // One bit, so that a part of the word alone is another.
+        9 => was ^ (1 << rng.pick(&[8, 16, 31, bit])),
         _ => rng.number() as u32,
     }
 }
 
 fn telling_wide(area: &Area, rng: &mut Rng, was: u64) -> u64 {
-    match rng.below(5) {
+    let bit = rng.below(64);
+    match rng.below(6) {
         0 => was.wrapping_add(1),
         1 => was.wrapping_sub(1),
         2 => 0,
         3 => u64::from(telling(area, rng, was as u32)),
+        4 => was ^ (1 << rng.pick(&[32, 63, bit])),
         _ => rng.number(),
     }
 }
@@ -167,8 +184,16 @@ fn old_indicator(area: &mut Area, rng: &mut Rng) -> Option<String> {
 
 fn wanted_indicator(area: &mut Area, rng: &mut Rng) -> Option<String> {
     let place = any_in_state(area, rng, WANTED)?;
-    area.records[place].indicator = rng.pick(&[1, u32::MAX]);
+    area.records[place].indicator = rng.pick(&[1, 1 << 16, 1 << 31, u32::MAX]);
     Some(format!("indicator of wanted {place} became {}", area.records[place].indicator))
+}
+
+fn first_reading(area: &mut Area, rng: &mut Rng) -> Option<String> {
+    let state = rng.pick(&[WANTED, ACTIVE, OLD]);
+    let place = any_in_state(area, rng, state)?;
+    let first = telling(area, rng, area.records[place].first_reading);
+    area.records[place].first_reading = first;
+    Some(format!("first reading of {place} became {first}"))
 }
 
 fn mean_within_or_at_bound(area: &mut Area, rng: &mut Rng) -> Option<String> {
@@ -182,10 +207,15 @@ fn mean_within_or_at_bound(area: &mut Area, rng: &mut Rng) -> Option<String> {
     Some(format!("mean became {} where the bound is {bound}", area.job.mean))
 }
 
-fn old_becomes_active(area: &mut Area, rng: &mut Rng) -> Option<String> {
-    let place = any_in_state(area, rng, OLD)?;
+/// Makes an old record active and carries the pending error along.
+fn make_active(area: &mut Area, place: usize) {
     area.records[place].state = ACTIVE;
     area.job.pending = area.job.pending.wrapping_add(u64::from(area.records[place].indicator));
+}
+
+fn old_becomes_active(area: &mut Area, rng: &mut Rng) -> Option<String> {
+    let place = any_in_state(area, rng, OLD)?;
+    make_active(area, place);
     Some(format!("old {place} became active, pending with it"))
 }
 
@@ -218,84 +248,6 @@ fn state_of_no_kind(area: &mut Area, rng: &mut Rng) -> Option<String> {
     }
     area.records[place].state = rng.pick(&[3, 4, 256, u32::MAX]);
     Some(format!("state of the last record became {}", area.records[place].state))
-}
-
-fn drop_last_wanted(area: &mut Area, _: &mut Rng) -> Option<String> {
-    let place = area.held().len().checked_sub(1)?;
-    let record = area.records[place];
-    if place == 0 || record.state != WANTED {
-        return None;
-    }
-    for other in &mut area.records[..place] {
-        for link in other.forward.iter_mut().chain(&mut other.backward) {
-            if *link as usize == place {
-                *link = NONE;
-            }
-        }
-    }
-    area.job.held -= 1;
-    let size = grid::block_size_of_any(&record.levels).unwrap_or(0) as u32;
-    area.job.reserved = area.job.reserved.wrapping_sub(size);
-    Some(format!("wanted {place} dropped with the links to it"))
-}
-
-/// Appends a wanted record of these levels with links both ways.
-fn append(area: &mut Area, levels: Levels) -> Option<usize> {
-    let place = area.held().len();
-    if place >= area.records.len() || place != area.job.held as usize {
-        return None;
-    }
-    let size = u32::try_from(grid::block_size_of_any(&levels)?).ok()?;
-    let mut record = IndexRecord::wanted(levels, area.job.reserved);
-    for axis in 0..axes(area) {
-        let Some(backward) = grid::backward_neighbour(&levels, axis) else {
-            continue;
-        };
-        if let Some(at) = area.held().iter().position(|held| held.levels == backward) {
-            record.backward[axis] = at as u32;
-            area.records[at].forward[axis] = place as u32;
-        }
-    }
-    area.records[place] = record;
-    area.job.held += 1;
-    area.job.reserved = area.job.reserved.wrapping_add(size);
-    Some(place)
-}
-
-fn append_copy(area: &mut Area, rng: &mut Rng) -> Option<String> {
-    let wanted = any_in_state(area, rng, WANTED)?;
-    let place = append(area, area.records[wanted].levels)?;
-    Some(format!("a second record of wanted {wanted} appended at {place}"))
-}
-
-/// A next index past a ceiling, whose backward neighbours are old if any such
-/// index can be found.
-fn append_past_ceiling(area: &mut Area, rng: &mut Rng) -> Option<String> {
-    let held = area.held();
-    let is_old = |levels: Levels| held.iter().any(|r| r.levels == levels && r.state == OLD);
-    let mut choices: Vec<Levels> = Vec::new();
-    for record in held.iter().filter(|record| record.state == OLD) {
-        for axis in 0..axes(area) {
-            let forward = grid::forward_neighbour(&record.levels, axis)?;
-            let backward = (0..axes(area)).filter_map(|a| grid::backward_neighbour(&forward, a));
-            if !grid::within_ceilings(&forward) && backward.into_iter().all(is_old) {
-                choices.push(forward);
-            }
-        }
-    }
-    if choices.is_empty() {
-        return None;
-    }
-    let levels = rng.pick(&choices);
-    let place = append(area, levels)?;
-    Some(format!("{levels:?} past a ceiling appended at {place}"))
-}
-
-fn append_beyond_axes(area: &mut Area, _: &mut Rng) -> Option<String> {
-    let mut levels = ROOT;
-    *levels.get_mut(area.job.axes as usize)? = 2;
-    let place = append(area, levels)?;
-    Some(format!("{levels:?} with a level beyond d appended at {place}"))
 }
 
 fn link_beyond_axes(area: &mut Area, rng: &mut Rng) -> Option<String> {
@@ -346,26 +298,6 @@ fn exchange_places(area: &mut Area, rng: &mut Rng) -> Option<String> {
         }
     }
     Some(format!("records {one} and {other} exchanged with all that goes by places"))
-}
-
-/// A promotion that minds neither the 512 held nor the budget.
-fn promote_past_limits(area: &mut Area, rng: &mut Rng) -> Option<String> {
-    let selected = any_in_state(area, rng, ACTIVE)?;
-    let levels = area.records[selected].levels;
-    area.records[selected].state = OLD;
-    area.job.pending = area.job.pending.wrapping_sub(u64::from(area.records[selected].indicator));
-    for axis in 0..axes(area) {
-        let Some(forward) = grid::forward_neighbour(&levels, axis) else {
-            continue;
-        };
-        let old = (0..axes(area))
-            .filter_map(|a| grid::backward_neighbour(&forward, a))
-            .all(|backward| area.held().iter().any(|r| r.levels == backward && r.state == OLD));
-        if grid::within_ceilings(&forward) && old {
-            append(area, forward);
-        }
-    }
-    Some(format!("active {selected} promoted without regard to the limits"))
 }
 
 fn budget_moved(area: &mut Area, rng: &mut Rng) -> Option<String> {

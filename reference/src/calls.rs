@@ -205,6 +205,22 @@ fn append(area: &mut Area, levels: Levels) {
     area.job.reserved += grid::block_size(&levels) as u32;
 }
 
+/// Whether the admitted would bring the held above 512, and whether they would
+/// bring the reserved readings above the budget.
+fn past_limits(area: &Area, admitted: &[Levels]) -> (bool, bool) {
+    let held = area.job.held as usize + admitted.len();
+    let sizes: u64 = admitted.iter().map(|levels| grid::block_size(levels) as u64).sum();
+    let reserved = u64::from(area.job.reserved) + sizes;
+    (held > HELD_LIMIT, reserved > u64::from(area.job.budget))
+}
+
+/// Which of the two limits made a promote answer spent, for counts of what was
+/// seen. In a sound area with an active index.
+pub fn limits_passed(area: &Area) -> (bool, bool) {
+    let selected = select(area).expect("a spent promote has selected an index");
+    past_limits(area, &admit(area, selected))
+}
+
 /// Promote: met, spent or promoted.
 pub fn promote(area: &mut Area) -> Result<Promotion, Cause> {
     refuse_storage_or_area(area)?;
@@ -216,10 +232,7 @@ pub fn promote(area: &mut Area) -> Result<Promotion, Cause> {
     }
     let selected = select(area).expect("a pending error above 0 comes from an active index");
     let admitted = admit(area, selected);
-    let held = area.job.held as usize + admitted.len();
-    let reserved = u64::from(area.job.reserved)
-        + admitted.iter().map(|levels| grid::block_size(levels) as u64).sum::<u64>();
-    if held > HELD_LIMIT || reserved > u64::from(area.job.budget) {
+    if past_limits(area, &admitted) != (false, false) {
         return Ok(Promotion::Spent);
     }
     area.records[selected].state = OLD;

@@ -5,33 +5,20 @@
 use crate::area::{Area, IndexRecord, JobRecord, WORDS};
 use crate::call::{self, Answer, Call, Lengths};
 use crate::calls::{self, Promotion};
+use crate::choice::{Block, Chooser};
 use crate::demand;
-use crate::generate::ceiling_target;
-use crate::grid::{self, BUDGET_LIMIT, READING_LIMIT};
+use crate::grid::{self, BUDGET_LIMIT};
 use crate::log::{Log, Plan};
 use crate::rng::Rng;
-use crate::style::{self, IndicatorStyle, ReadingStyle};
 use std::collections::BTreeMap;
 
 /// How often each thing was seen, by name.
 pub type Counts = BTreeMap<String, u64>;
 
-/// What the present job is meant to become.
-struct Aim {
-    axes: u32,
-    threshold: u64,
-    budget: u32,
-    indicators: IndicatorStyle,
-    readings: ReadingStyle,
-    /// How many of a hundred calls carry the job on.
-    steps: u64,
-}
-
 struct Driver {
-    rng: Rng,
+    chooser: Chooser,
     area: Area,
     log: Log,
-    aim: Aim,
     /// Set when the job is met or spent: a new one is due soon.
     ended: bool,
     log_changes: u64,
@@ -42,9 +29,9 @@ struct Driver {
 pub fn drive(seed: u64, calls: u64) -> Counts {
     let mut rng = Rng::new(seed);
     let area = garbage_area(&mut rng);
-    let aim = any_aim(&mut rng);
+    let chooser = Chooser::new(rng);
     let (log, counts) = (Log::default(), Counts::new());
-    let mut driver = Driver { rng, area, log, aim, ended: false, log_changes: 0, counts };
+    let mut driver = Driver { chooser, area, log, ended: false, log_changes: 0, counts };
     for _ in 0..calls {
         driver.step();
     }
@@ -67,39 +54,6 @@ fn garbage_area(rng: &mut Rng) -> Area {
         mean: rng.number() as i64,
     };
     Area { job, records, store }
-}
-
-fn any_aim(rng: &mut Rng) -> Aim {
-    let axes = rng.between(1, 8) as usize;
-    let readings = style::any_reading_style(rng);
-    let mut aim = Aim {
-        axes: axes as u32,
-        threshold: rng.pick(&[0, 0, 0, 1, 25, 100, 1 << 33, u64::MAX]),
-        budget: rng.between(1, 300) as u32,
-        indicators: style::any_indicator_style(rng, axes),
-        readings,
-        steps: rng.pick(&[40, 60, 80]),
-    };
-    match rng.below(900) {
-        0 => {
-            aim.axes = rng.between(5, 8) as u32;
-            aim.indicators = IndicatorStyle::SmallBlocksFirst;
-            aim.budget = BUDGET_LIMIT;
-        }
-        1 => {
-            aim.indicators = rng.pick(&[IndicatorStyle::LargeBlocksFirst, IndicatorStyle::Any]);
-            aim.budget = rng.between(6_000, 8_192) as u32;
-        }
-        2 => {
-            aim.indicators = IndicatorStyle::Toward(ceiling_target(rng, axes));
-            aim.budget = BUDGET_LIMIT;
-        }
-        _ => return aim,
-    }
-    // A job meant to grow isn't cut off by its threshold or by many asides.
-    aim.threshold = 0;
-    aim.steps = 95;
-    aim
 }
 
 impl Driver {
@@ -127,7 +81,8 @@ impl Driver {
             Call::Point { buffer, .. } => buffer,
             _ => 0,
         };
-        let buffer_before: Vec<u8> = (0..buffer_length).map(|_| self.rng.number() as u8).collect();
+        let buffer_before: Vec<u8> =
+            (0..buffer_length).map(|_| self.chooser.rng.number() as u8).collect();
         let mut buffer = buffer_before.clone();
         let answer = call::perform(&mut self.area, &call, &mut buffer);
         self.area.records.extend(records_kept);
@@ -245,7 +200,7 @@ impl Driver {
         match answer {
             Answer::Started => {
                 self.ended = false;
-                self.count(format!("jobs of {} axes", self.aim.axes));
+                self.count(format!("jobs of {} axes", self.chooser.aim.axes));
             }
             Answer::Promotion(Promotion::Met | Promotion::Spent) => self.ended = true,
             Answer::Totals(totals) => self.highest("ceiling count", u64::from(totals.ceiling)),
@@ -266,112 +221,51 @@ impl Driver {
             (_, None) => 1,
         };
         let enough = Lengths { records: 512, store: budget.min(all.store) };
-        match self.rng.below(100) {
+        match self.chooser.rng.below(100) {
             0..=9 => enough,
-            10 => Lengths { records: self.rng.pick(&[0, 1, 511, 300]), ..all },
+            10 => Lengths { records: self.chooser.rng.pick(&[0, 1, 511, 300]), ..all },
             11 if enough.store > 0 => Lengths { store: enough.store - 1, ..all },
-            12 if enough.store > 0 => Lengths { store: self.rng.place(enough.store), ..enough },
+            12 if enough.store > 0 => {
+                Lengths { store: self.chooser.rng.place(enough.store), ..enough }
+            }
             _ => all,
         }
     }
 
     fn choose(&mut self) -> Call {
+        let wanted = self.wanted();
+        let chooser = &mut self.chooser;
         if self.log.job.is_none() {
-            return if self.rng.percent(50) { self.start() } else { self.damaged_start() };
+            return if chooser.rng.percent(50) { chooser.start() } else { chooser.damaged_start() };
         }
-        if self.ended && self.rng.percent(40) {
-            self.aim = any_aim(&mut self.rng);
-            return self.start();
+        if self.ended && chooser.rng.percent(40) {
+            chooser.aim_anew();
+            return chooser.start();
         }
-        if self.rng.percent(self.aim.steps) {
-            return self.carry_on();
+        if chooser.rng.percent(chooser.aim.steps) {
+            return chooser.carry_on(wanted);
         }
-        match self.rng.below(100) {
-            0..=11 => self.point(),
-            12..=19 => self.damaged_point(),
-            20..=31 => self.damaged_deliver(),
-            32..=39 => self.carry_on(),
+        match chooser.rng.below(100) {
+            0..=11 => chooser.point(wanted),
+            12..=19 => chooser.damaged_point(wanted),
+            20..=31 => chooser.damaged_deliver(wanted),
+            32..=39 => chooser.carry_on(wanted),
             40..=49 => Call::Promote,
             50..=64 => Call::Result,
             65..=76 => Call::CrossTotal,
             77..=88 => Call::Check,
-            89..=95 => self.damaged_start(),
-            96 if self.aim.steps < 95 => {
-                self.aim = any_aim(&mut self.rng);
-                self.start()
+            89..=95 => chooser.damaged_start(),
+            96 if chooser.aim.steps < 95 => {
+                chooser.aim_anew();
+                chooser.start()
             }
-            _ => self.point(),
+            _ => chooser.point(wanted),
         }
     }
 
-    fn start(&mut self) -> Call {
-        let Aim { axes, threshold, budget, .. } = self.aim;
-        Call::Start { axes, threshold, budget }
-    }
-
-    /// A start with an argument out of range; the other may be too.
-    fn damaged_start(&mut self) -> Call {
-        let mut axes = self.aim.axes;
-        let mut budget = self.aim.budget;
-        let which = self.rng.below(3);
-        if which != 0 {
-            axes = self.rng.pick(&[0, 9, 10, 257, 1 << 16, u32::MAX]);
-        }
-        if which != 1 {
-            budget = self.rng.pick(&[0, 8_193, 8_194, 1 << 16, u32::MAX]);
-        }
-        Call::Start { axes, threshold: self.rng.number(), budget }
-    }
-
-    /// The size of the first wanted block, or of none.
-    fn wanted_size(&self) -> Option<usize> {
+    /// The log's first wanted block.
+    fn wanted(&self) -> Option<Block> {
         let job = self.log.job.as_ref()?;
-        Some(grid::block_size(&job.entries[job.first_wanted()?].levels))
-    }
-
-    fn point(&mut self) -> Call {
-        let size = self.wanted_size().unwrap_or(1) as u64;
-        let n = if self.rng.percent(30) { size - 1 } else { self.rng.below(size) };
-        Call::Point { n, buffer: self.rng.between(i64::from(self.aim.axes), 12) as usize }
-    }
-
-    fn damaged_point(&mut self) -> Call {
-        let size = self.wanted_size().unwrap_or(1) as u64;
-        let n = self.rng.pick(&[size, size + 1, 1 << 32, u64::MAX, 0]);
-        let buffer = match self.rng.percent(40) {
-            true => self.rng.place(self.aim.axes as usize),
-            false => self.rng.between(8, 12) as usize,
-        };
-        Call::Point { n, buffer }
-    }
-
-    /// The call that carries the job on: the wanted block, or a promote.
-    fn carry_on(&mut self) -> Call {
-        let job = self.log.job.as_ref().expect("a start was accepted");
-        let Some(wanted) = job.first_wanted() else {
-            return Call::Promote;
-        };
-        let levels = job.entries[wanted].levels;
-        let indicator = style::indicator(self.aim.indicators, &mut self.rng, &levels);
-        let readings = style::readings(self.aim.readings, &mut self.rng, job.axes, &levels);
-        Call::Deliver { readings, indicator }
-    }
-
-    /// A delivery with a wrong count, a reading out of range, or both; none of
-    /// it matters where no block is wanted.
-    fn damaged_deliver(&mut self) -> Call {
-        let size = self.wanted_size().unwrap_or(1);
-        let mut readings = vec![READING_LIMIT; size];
-        let which = self.rng.below(4);
-        if which != 0 {
-            let place = self.rng.place(size);
-            readings[place] =
-                self.rng.pick(&[READING_LIMIT + 1, -READING_LIMIT - 1, i32::MIN, i32::MAX]);
-        }
-        if which < 2 {
-            let other = self.rng.pick(&[0, size - 1, size + 1, 2 * size, 9_000]);
-            readings.resize(other, 0);
-        }
-        Call::Deliver { readings, indicator: self.rng.number() as u32 }
+        Some(Block { axes: job.axes, levels: job.entries[job.first_wanted()?].levels })
     }
 }

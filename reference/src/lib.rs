@@ -12,7 +12,8 @@
 //! - [`call`] and [`log`]: a list of calls and the log that foretells answers;
 //! - [`jobfile`], [`jobtext`], [`program`], [`replay`]: job files and reports;
 //! - [`rng`], [`style`], [`generate`], [`damage`], [`survey`]: job files by seed;
-//! - [`drive`] and [`demand`]: lists of calls by seed and the third demand;
+//! - [`choice`], [`drive`] and [`demand`]: lists of calls by seed and the third
+//!   demand;
 //! - [`sample`], [`alter`], [`figures`]: areas by seed, altered, with figures;
 //! - [`pump`] and [`examples`]: the example jobs.
 
@@ -20,6 +21,7 @@ pub mod alter;
 pub mod area;
 pub mod call;
 pub mod calls;
+pub mod choice;
 pub mod damage;
 pub mod demand;
 pub mod drive;

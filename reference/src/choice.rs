@@ -1,0 +1,146 @@
+//! The calls of random lists: what a job is meant to become, and calls that
+//! carry it on, stand aside from it, or are to be refused. A choice needs to
+//! know the first wanted block and no more, so that lists on any area, altered
+//! ones included, can use it.
+
+use crate::call::Call;
+use crate::generate::ceiling_target;
+use crate::grid::{self, Levels, BUDGET_LIMIT, READING_LIMIT};
+use crate::rng::Rng;
+use crate::style::{self, IndicatorStyle, ReadingStyle};
+
+/// What the present job is meant to become.
+pub struct Aim {
+    pub axes: u32,
+    pub threshold: u64,
+    pub budget: u32,
+    pub indicators: IndicatorStyle,
+    pub readings: ReadingStyle,
+    /// How many of a hundred calls carry the job on.
+    pub steps: u64,
+}
+
+/// A block to be delivered, with the number of axes of its job.
+#[derive(Clone, Copy)]
+pub struct Block {
+    pub axes: usize,
+    pub levels: Levels,
+}
+
+/// Chooses calls; they depend on the seed and on the blocks asked about.
+pub struct Chooser {
+    pub rng: Rng,
+    pub aim: Aim,
+}
+
+pub fn any_aim(rng: &mut Rng) -> Aim {
+    let axes = rng.between(1, 8) as usize;
+    let readings = style::any_reading_style(rng);
+    let mut aim = Aim {
+        axes: axes as u32,
+        threshold: rng.pick(&[0, 0, 0, 1, 25, 100, 1 << 33, u64::MAX]),
+        budget: rng.between(1, 300) as u32,
+        indicators: style::any_indicator_style(rng, axes),
+        readings,
+        steps: rng.pick(&[40, 60, 80]),
+    };
+    match rng.below(900) {
+        0 => {
+            aim.axes = rng.between(5, 8) as u32;
+            aim.indicators = IndicatorStyle::SmallBlocksFirst;
+            aim.budget = BUDGET_LIMIT;
+        }
+        1 => {
+            aim.indicators = rng.pick(&[IndicatorStyle::LargeBlocksFirst, IndicatorStyle::Any]);
+            aim.budget = rng.between(6_000, 8_192) as u32;
+        }
+        2 => {
+            aim.indicators = IndicatorStyle::Toward(ceiling_target(rng, axes));
+            aim.budget = BUDGET_LIMIT;
+        }
+        _ => return aim,
+    }
+    // A job meant to grow isn't cut off by its threshold or by many asides.
+    aim.threshold = 0;
+    aim.steps = 95;
+    aim
+}
+
+/// The size of the wanted block; 1 where none is wanted and it doesn't matter.
+fn size_of(wanted: Option<Block>) -> usize {
+    wanted.map_or(1, |block| grid::block_size(&block.levels))
+}
+
+impl Chooser {
+    pub fn new(mut rng: Rng) -> Chooser {
+        let aim = any_aim(&mut rng);
+        Chooser { rng, aim }
+    }
+
+    pub fn aim_anew(&mut self) {
+        self.aim = any_aim(&mut self.rng);
+    }
+
+    pub fn start(&self) -> Call {
+        let Aim { axes, threshold, budget, .. } = self.aim;
+        Call::Start { axes, threshold, budget }
+    }
+
+    /// A start with an argument out of range; the other may be too.
+    pub fn damaged_start(&mut self) -> Call {
+        let mut axes = self.aim.axes;
+        let mut budget = self.aim.budget;
+        let which = self.rng.below(3);
+        if which != 0 {
+            axes = self.rng.pick(&[0, 9, 10, 257, 1 << 16, u32::MAX]);
+        }
+        if which != 1 {
+            budget = self.rng.pick(&[0, 8_193, 8_194, 1 << 16, u32::MAX]);
+        }
+        Call::Start { axes, threshold: self.rng.number(), budget }
+    }
+
+    pub fn point(&mut self, wanted: Option<Block>) -> Call {
+        let size = size_of(wanted) as u64;
+        let n = if self.rng.percent(30) { size - 1 } else { self.rng.below(size) };
+        Call::Point { n, buffer: self.rng.between(i64::from(self.aim.axes), 12) as usize }
+    }
+
+    pub fn damaged_point(&mut self, wanted: Option<Block>) -> Call {
+        let size = size_of(wanted) as u64;
+        let n = self.rng.pick(&[size, size + 1, 1 << 32, u64::MAX, 0]);
+        let buffer = match self.rng.percent(40) {
+            true => self.rng.place(self.aim.axes as usize),
+            false => self.rng.between(8, 12) as usize,
+        };
+        Call::Point { n, buffer }
+    }
+
+    /// The call that carries the job on: the wanted block, or a promote.
+    pub fn carry_on(&mut self, wanted: Option<Block>) -> Call {
+        let Some(Block { axes, levels }) = wanted else {
+            return Call::Promote;
+        };
+        let indicator = style::indicator(self.aim.indicators, &mut self.rng, &levels);
+        let readings = style::readings(self.aim.readings, &mut self.rng, axes, &levels);
+        Call::Deliver { readings, indicator }
+    }
+
+    /// A delivery with a wrong count, a reading out of range, or both; none of
+    /// it matters where no block is wanted.
+    pub fn damaged_deliver(&mut self, wanted: Option<Block>) -> Call {
+        let size = size_of(wanted);
+        let mut readings = vec![READING_LIMIT; size];
+        let which = self.rng.below(4);
+        if which != 0 {
+            let place = self.rng.place(size);
+            readings[place] =
+                self.rng.pick(&[READING_LIMIT + 1, -READING_LIMIT - 1, i32::MIN, i32::MAX]);
+        }
+        if which < 2 {
+            let other = self.rng.pick(&[0, size - 1, size + 1, 2 * size, 9_000]);
+            readings.resize(other, 0);
+        }
+        Call::Deliver { readings, indicator: self.rng.number() as u32 }
+    }
+}
