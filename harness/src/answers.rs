@@ -1,0 +1,77 @@
+//! One call of a list on either side: performed by the library or by the
+//! reference, with the same slots for what it gives back, so that both sides'
+//! answers can be compared word for word.
+
+use crate::calls::{self, CountWords, OutcomeWord};
+use crate::lent::Loan;
+use reference::area::Area;
+use reference::call::{self, Answer, Call};
+use reference::calls::{Promotion, Totals};
+
+/// What a call answers at once.
+#[derive(Clone, Copy, Debug, PartialEq, Eq)]
+pub enum Said {
+    /// 0 if accepted, else the number of the cause.
+    Number(u32),
+    /// What check says of the area.
+    Sound(bool),
+}
+
+/// What a call may write besides the area. The words that it has no business
+/// with, and all of them if it is refused, must stay.
+#[derive(Clone, Debug, PartialEq, Eq)]
+pub struct Slots {
+    pub outcome: OutcomeWord,
+    pub counts: CountWords,
+    pub buffer: Vec<u8>,
+}
+
+/// Performs a call of the library.
+pub fn of_library(loan: Loan, call: &Call, slots: &mut Slots) -> Said {
+    Said::Number(match call {
+        Call::Start { axes, threshold, budget } => calls::start(loan, *axes, *threshold, *budget),
+        Call::Point { n, .. } => calls::point(loan, *n as usize, &mut slots.buffer),
+        Call::Deliver { readings, indicator } => calls::deliver(loan, readings, *indicator),
+        Call::Promote => calls::promote(loan, &mut slots.outcome),
+        Call::Result => calls::result(loan, &mut slots.counts),
+        Call::Check => return Said::Sound(calls::check_loan(&loan)),
+        Call::CrossTotal => unimplemented!("the library doesn't export the cross total"),
+    })
+}
+
+/// Performs a call of the reference, and writes its answer into the slots as
+/// the library has to.
+pub fn of_reference(area: &mut Area, call: &Call, slots: &mut Slots) -> Answer {
+    let answer = call::perform(area, call, &mut slots.buffer);
+    match &answer {
+        Answer::Promotion(promotion) => slots.outcome = [outcome_word(*promotion)],
+        Answer::Totals(totals) => slots.counts = count_words(totals),
+        _ => {}
+    }
+    answer
+}
+
+/// What the library has to say when the reference answers so.
+pub fn said(answer: &Answer) -> Said {
+    match answer {
+        Answer::Sound(sound) => Said::Sound(*sound),
+        Answer::Refused(cause) => Said::Number(cause.number()),
+        _ => Said::Number(0),
+    }
+}
+
+pub fn outcome_word(promotion: Promotion) -> u32 {
+    match promotion {
+        Promotion::Met => 0,
+        Promotion::Spent => 1,
+        Promotion::Promoted => 2,
+    }
+}
+
+pub fn count_words(totals: &Totals) -> CountWords {
+    let Totals { old, active, wanted, reserved, pending, mean, ceiling } = *totals;
+    let low = |wide: u64| wide as u32;
+    let high = |wide: u64| (wide >> 32) as u32;
+    let mean = mean as u64;
+    [low(pending), high(pending), low(mean), high(mean), old, active, wanted, reserved, ceiling]
+}

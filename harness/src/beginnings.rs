@@ -1,0 +1,118 @@
+//! Where a list of calls begins: storage full of anything, in which a job has
+//! to be started first, or an area that the reference's calls have made, some
+//! of them near a ceiling or near 512 held.
+
+use crate::material;
+use reference::area::{Area, IndexRecord, JobRecord, WORDS};
+use reference::calls::{self, Promotion};
+use reference::choice::{Aim, Chooser};
+use reference::grid::{BUDGET_LIMIT, HELD_LIMIT, MOST_AXES};
+use reference::rng::Rng;
+use reference::sample;
+use reference::style::{self, IndicatorStyle, ReadingStyle};
+use std::collections::BTreeMap;
+
+pub struct Beginning {
+    pub area: Area,
+    /// Cells past the last whole record, fewer than a record has.
+    pub rest: Vec<u32>,
+    /// How many calls the list has.
+    pub calls: u64,
+}
+
+/// Jobs near 512 held take up to a second to make, so each is made once.
+#[derive(Default)]
+pub struct Beginnings {
+    nearly_full: BTreeMap<usize, Vec<Area>>,
+}
+
+impl Beginnings {
+    /// The beginning of a list; it depends on the numbers drawn alone.
+    pub fn next(&mut self, chooser: &mut Chooser) -> Beginning {
+        let rng = &mut chooser.rng;
+        let mut calls = rng.between(30, 240) as u64;
+        let mut area = match rng.below(1_000) {
+            0..=29 => {
+                calls = rng.between(20, 80) as u64;
+                self.nearly_full(rng)
+            }
+            30..=69 => material::near_ceiling(rng),
+            70..=169 => sample::area(rng.number()),
+            _ => garbage(rng),
+        };
+        area.records.truncate(HELD_LIMIT + rng.pick(&[0, 0, 1, 3, 8]));
+        area.store.truncate(BUDGET_LIMIT as usize + rng.pick(&[0, 1, 40]));
+        let rest = (0..rng.place(WORDS)).map(|_| rng.number() as u32).collect();
+        if calls::check(&area) {
+            follow(&mut chooser.aim, &area, rng);
+        }
+        Beginning { area, rest, calls }
+    }
+
+    /// A job a few promotions before its end at 512 held, or at that end. Its
+    /// budget may be any that it hasn't passed, for the calls so far have
+    /// taken no notice of it.
+    fn nearly_full(&mut self, rng: &mut Rng) -> Area {
+        let axes = rng.between(5, MOST_AXES as i64) as usize;
+        let areas = self.nearly_full.entry(axes).or_insert_with(|| grow(axes));
+        let last = areas.len() - 1;
+        let mut area = areas[if rng.percent(40) { last } else { rng.place(areas.len()) }].clone();
+        let reserved = area.job.reserved;
+        area.job.budget = rng.pick(&[BUDGET_LIMIT, BUDGET_LIMIT, reserved, reserved + 20]);
+        area
+    }
+}
+
+/// The job goes on as it came to be.
+fn follow(aim: &mut Aim, area: &Area, rng: &mut Rng) {
+    aim.axes = area.job.axes;
+    aim.steps = rng.pick(&[60, 80, 90]);
+    aim.indicators = rng.pick(&[
+        IndicatorStyle::SmallBlocksFirst,
+        IndicatorStyle::LargeBlocksFirst,
+        IndicatorStyle::Ties,
+        IndicatorStyle::Any,
+    ]);
+}
+
+/// The last areas of a job that takes small blocks first: after each promotion
+/// from 470 held on, and before the promotion that is spent.
+fn grow(axes: usize) -> Vec<Area> {
+    let mut rng = Rng::new(axes as u64);
+    let mut area = Area::empty(HELD_LIMIT + 8, BUDGET_LIMIT as usize + 40);
+    let mut areas = Vec::new();
+    assert_eq!(calls::start(&mut area, axes as u32, 0, BUDGET_LIMIT), Ok(()));
+    loop {
+        while let Some(place) = calls::first_wanted(&area) {
+            let levels = area.records[place].levels;
+            let indicator = style::indicator(IndicatorStyle::SmallBlocksFirst, &mut rng, &levels);
+            let readings = style::readings(ReadingStyle::Any, &mut rng, axes, &levels);
+            assert_eq!(calls::deliver(&mut area, &readings, indicator), Ok(()));
+        }
+        if calls::promote(&mut area) != Ok(Promotion::Promoted) {
+            areas.push(area);
+            return areas;
+        }
+        if area.job.held >= 470 {
+            areas.push(area.clone());
+        }
+    }
+}
+
+/// Storage as it may be found: of sufficient length and full of anything.
+fn garbage(rng: &mut Rng) -> Area {
+    let mut record =
+        || IndexRecord::from_words(&std::array::from_fn::<u32, WORDS, _>(|_| rng.number() as u32));
+    let records = (0..HELD_LIMIT + 8).map(|_| record()).collect();
+    let store = (0..BUDGET_LIMIT + 40).map(|_| rng.number() as i32).collect();
+    let job = JobRecord {
+        axes: rng.below(10) as u32,
+        threshold: rng.number(),
+        budget: rng.number() as u32 >> rng.below(32),
+        held: rng.number() as u32 >> rng.below(32),
+        reserved: rng.number() as u32,
+        pending: rng.number(),
+        mean: rng.number() as i64,
+    };
+    Area { job, records, store }
+}

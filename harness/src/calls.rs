@@ -1,0 +1,143 @@
+//! The exported calls, each behind a safe function. The five that can be
+//! refused give 0 or the number of the cause. Storage that a call is lent
+//! shared must come back as it was; the functions assert that.
+
+use crate::lent::{Lent, Loan};
+use reference::area::Area;
+use std::fmt::Debug;
+use std::hint::black_box;
+
+/// Promote's word: 0 met, 1 spent, 2 promoted.
+pub type OutcomeWord = [u32; 1];
+/// Result's words: pending error and mean, the low word of each first, then
+/// old, active, wanted, reserved and ceiling.
+pub type CountWords = [u32; 9];
+
+mod exported {
+    use super::{CountWords, OutcomeWord};
+    use crate::lent::JobWords;
+
+    // Slices in these signatures are what the archive's functions take, too.
+    #[allow(improper_ctypes)]
+    extern "C" {
+        pub fn wihupya_start(
+            job: &mut JobWords,
+            axes: u32,
+            threshold: u64,
+            budget: u32,
+            cells: &mut [u32],
+            store: &[i32],
+        ) -> u32;
+
+        pub fn wihupya_point(
+            job: &JobWords,
+            n: usize,
+            cells: &[u32],
+            store: &[i32],
+            buffer: &mut [u8],
+        ) -> u32;
+
+        pub fn wihupya_deliver(
+            job: &mut JobWords,
+            readings: &[i32],
+            indicator: u32,
+            cells: &mut [u32],
+            store: &mut [i32],
+        ) -> u32;
+
+        pub fn wihupya_promote(
+            job: &mut JobWords,
+            outcome: &mut OutcomeWord,
+            cells: &mut [u32],
+            store: &[i32],
+        ) -> u32;
+
+        pub fn wihupya_result(
+            job: &JobWords,
+            counts: &mut CountWords,
+            cells: &[u32],
+            store: &[i32],
+        ) -> u32;
+
+        pub fn wihupya_check(job: &JobWords, cells: &[u32], store: &[i32]) -> bool;
+    }
+}
+
+/// Check on an area whose cells end with its last record.
+pub fn check(area: &Area) -> bool {
+    check_lent(&mut Lent::of(area))
+}
+
+/// Check on all of any job words, cells and readings.
+pub fn check_lent(lent: &mut Lent) -> bool {
+    check_loan(&lent.all())
+}
+
+// A call asks nothing of what its storage holds, nor of the lengths: that is
+// why each function below may call it on anything.
+
+pub fn check_loan(loan: &Loan) -> bool {
+    let kept = Kept::of(loan);
+    let answer = unsafe { exported::wihupya_check(loan.job, loan.cells, loan.store) };
+    kept.assert_as_it_was("check", loan);
+    answer
+}
+
+pub fn start(loan: Loan, axes: u32, threshold: u64, budget: u32) -> u32 {
+    let Loan { job, cells, store } = loan;
+    let kept = store.to_vec();
+    let number = unsafe { exported::wihupya_start(job, axes, threshold, budget, cells, store) };
+    assert_same("start", store, &kept);
+    number
+}
+
+pub fn point(loan: Loan, n: usize, buffer: &mut [u8]) -> u32 {
+    let kept = Kept::of(&loan);
+    let number = unsafe { exported::wihupya_point(loan.job, n, loan.cells, loan.store, buffer) };
+    kept.assert_as_it_was("point", &loan);
+    number
+}
+
+pub fn deliver(loan: Loan, readings: &[i32], indicator: u32) -> u32 {
+    let Loan { job, cells, store } = loan;
+    let kept = readings.to_vec();
+    let number = unsafe { exported::wihupya_deliver(job, readings, indicator, cells, store) };
+    assert_same("deliver", readings, &kept);
+    number
+}
+
+pub fn promote(loan: Loan, outcome: &mut OutcomeWord) -> u32 {
+    let Loan { job, cells, store } = loan;
+    let kept = store.to_vec();
+    let number = unsafe { exported::wihupya_promote(job, outcome, cells, store) };
+    assert_same("promote", store, &kept);
+    number
+}
+
+pub fn result(loan: Loan, counts: &mut CountWords) -> u32 {
+    let kept = Kept::of(&loan);
+    let number = unsafe { exported::wihupya_result(loan.job, counts, loan.cells, loan.store) };
+    kept.assert_as_it_was("result", &loan);
+    number
+}
+
+/// What a call was lent all shared, as it was before.
+struct Kept(Lent);
+
+impl Kept {
+    fn of(loan: &Loan) -> Kept {
+        Kept(Lent { job: *loan.job, cells: loan.cells.to_vec(), store: loan.store.to_vec() })
+    }
+
+    fn assert_as_it_was(&self, call: &str, loan: &Loan) {
+        assert_same(call, loan.job, &self.0.job);
+        assert_same(call, loan.cells, &self.0.cells);
+        assert_same(call, loan.store, &self.0.store);
+    }
+}
+
+/// The compiler may take it that shared storage doesn't change, so the
+/// comparison looks at it anew.
+fn assert_same<T: PartialEq + Debug>(call: &str, now: &[T], before: &[T]) {
+    assert!(*black_box(now) == *before, "{call} wrote into storage that it was lent shared");
+}

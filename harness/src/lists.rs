@@ -1,0 +1,213 @@
+//! Lists of calls by seed, each on one work area: accepted and refused calls,
+//! on storage lent whole or in part, with alterations of the area in between.
+
+use crate::answers::Slots;
+use crate::beginnings::{Beginning, Beginnings};
+use crate::lent::Part;
+use crate::pair::Pair;
+use crate::seen::{Circumstances, Seen};
+use reference::alter;
+use reference::area::{Area, WORDS};
+use reference::call::{Answer, Call};
+use reference::calls::{self, Promotion};
+use reference::choice::{Block, Chooser};
+use reference::grid::{self, HELD_LIMIT, MOST_AXES};
+use reference::rng::Rng;
+
+struct List {
+    chooser: Chooser,
+    pair: Pair,
+    /// Whether the area is sound, and so carries a job that can go on.
+    sound: bool,
+    /// Whether a sound area was altered since the job was started.
+    altered: bool,
+    /// The sound area from before an alteration that broke it.
+    kept: Option<Area>,
+    /// Set when the job is met or spent: a new one is due soon.
+    ended: bool,
+}
+
+/// Performs the list of a seed on both sides and gives how many calls it had;
+/// or says at which call the sides differ.
+pub fn run(seed: u64, beginnings: &mut Beginnings, seen: &mut Seen) -> Result<u64, String> {
+    let mut chooser = Chooser::new(Rng::new(seed));
+    let Beginning { area, rest, calls } = beginnings.next(&mut chooser);
+    let sound = calls::check(&area);
+    let pair = Pair::new(area, rest);
+    let mut list = List { chooser, pair, sound, altered: false, kept: None, ended: false };
+    for number in 1..=calls {
+        list.step(seen).map_err(|fault| format!("seed {seed}, call {number}: {fault}"))?;
+    }
+    Ok(calls)
+}
+
+impl List {
+    fn step(&mut self, seen: &mut Seen) -> Result<(), String> {
+        self.alter(seen);
+        let call = self.choose();
+        let part = self.lend(&call);
+        let slots = self.slots(&call);
+        let answer = self.pair.call(&call, part, &slots).map_err(|fault| {
+            format!("{} lent {part:?} of {:?}: {fault}", described(&call), self.pair.whole())
+        })?;
+        self.note(&call, part, &answer, seen);
+        Ok(())
+    }
+
+    /// Alters a sound area now and then. One that is broken by it may be put
+    /// back later, as if its owner had noticed.
+    fn alter(&mut self, seen: &mut Seen) {
+        let rng = &mut self.chooser.rng;
+        if self.sound && rng.percent(4) {
+            let before = self.pair.area().clone();
+            // Most alterations break the area, so half the time a few are tried.
+            let mut tries = rng.pick(&[1, 8]);
+            let after = loop {
+                let mut after = before.clone();
+                alter::alter(&mut after, rng);
+                tries -= 1;
+                if tries == 0 || (after != before && calls::check(&after)) {
+                    break after;
+                }
+            };
+            self.sound = calls::check(&after);
+            match self.sound {
+                true => self.altered |= after != before,
+                false => self.kept = Some(before),
+            }
+            seen.note_alteration(self.sound);
+            self.pair.replace(after);
+        } else if !self.sound && rng.percent(20) {
+            if let Some(before) = self.kept.take() {
+                self.pair.replace(before);
+                self.sound = true;
+            }
+        }
+    }
+
+    /// The first wanted block, as far as the area makes sense.
+    fn wanted(&self) -> Option<Block> {
+        let area = self.pair.area();
+        let levels = area.records[calls::first_wanted(area)?].levels;
+        let axes = MOST_AXES.min(area.job.axes as usize);
+        let fits = grid::within_ceilings(&levels) && levels[axes..].iter().all(|&l| l == 1);
+        fits.then_some(Block { axes, levels })
+    }
+
+    fn choose(&mut self) -> Call {
+        let wanted = self.wanted();
+        let chooser = &mut self.chooser;
+        let due = match (self.sound, self.ended) {
+            (false, _) => 12,
+            (true, true) => 30,
+            (true, false) => 1,
+        };
+        if chooser.rng.percent(due) {
+            chooser.aim_anew();
+            return chooser.start();
+        }
+        if self.sound && chooser.rng.percent(chooser.aim.steps) {
+            return chooser.carry_on(wanted);
+        }
+        match chooser.rng.below(100) {
+            0..=15 => chooser.point(wanted),
+            16..=25 => chooser.damaged_point(wanted),
+            26..=39 => chooser.damaged_deliver(wanted),
+            40..=51 => self.deliver_or_any(wanted),
+            52..=65 => Call::Promote,
+            66..=80 => Call::Result,
+            81..=93 => Call::Check,
+            _ => chooser.damaged_start(),
+        }
+    }
+
+    /// The wanted block, or a delivery where nothing is wanted.
+    fn deliver_or_any(&mut self, wanted: Option<Block>) -> Call {
+        match wanted {
+            Some(_) => self.chooser.carry_on(wanted),
+            None => {
+                let readings = vec![5; self.chooser.rng.pick(&[0, 1, 2, 4])];
+                Call::Deliver { readings, indicator: self.chooser.rng.number() as u32 }
+            }
+        }
+    }
+
+    /// How much to lend: mostly all there is, at times just enough or less.
+    fn lend(&mut self, call: &Call) -> Part {
+        let all = self.pair.whole();
+        let budget = match call {
+            Call::Start { budget, .. } => *budget,
+            _ => self.pair.area().job.budget,
+        };
+        let store = all.store.min(budget as usize);
+        let cells = HELD_LIMIT * WORDS;
+        let rng = &mut self.chooser.rng;
+        let short_cells = [cells - 1, cells - WORDS, 300 * WORDS, WORDS, 0];
+        let short_store = [store.saturating_sub(1), rng.place(store + 1).min(store / 2)];
+        match rng.below(100) {
+            0..=5 => Part { cells, store },
+            6..=9 => Part { cells: (cells + rng.place(WORDS)).min(all.cells), store },
+            10 | 11 => Part { cells: rng.pick(&short_cells), ..all },
+            12 | 13 => Part { store: rng.pick(&short_store), ..all },
+            14 => Part { cells: rng.pick(&short_cells), store: rng.pick(&short_store) },
+            _ => all,
+        }
+    }
+
+    /// Anything, so that a word is seen to be written or left.
+    fn slots(&mut self, call: &Call) -> Slots {
+        let rng = &mut self.chooser.rng;
+        let length = match call {
+            Call::Point { buffer, .. } => *buffer,
+            _ => 0,
+        };
+        Slots {
+            outcome: [rng.number() as u32],
+            counts: std::array::from_fn(|_| rng.number() as u32),
+            buffer: (0..length).map(|_| rng.number() as u8).collect(),
+        }
+    }
+
+    fn note(&mut self, call: &Call, part: Part, answer: &Answer, seen: &mut Seen) {
+        let altered = self.sound && self.altered;
+        match answer {
+            Answer::Started => {
+                (self.sound, self.altered, self.ended, self.kept) = (true, false, false, None);
+            }
+            Answer::Promotion(promotion) => self.ended = *promotion != Promotion::Promoted,
+            _ => {}
+        }
+        let area = self.pair.area();
+        seen.note(call, answer, &Circumstances { area, part, altered });
+    }
+}
+
+/// A call in words, with no more readings than can be read.
+fn described(call: &Call) -> String {
+    match call {
+        Call::Deliver { readings, indicator } if readings.len() > 16 => format!(
+            "Deliver {{ {} readings, the first {:?}, indicator: {indicator} }}",
+            readings.len(),
+            &readings[..16]
+        ),
+        _ => format!("{call:?}"),
+    }
+}
+
+#[cfg(test)]
+mod tests {
+    use super::*;
+
+    /// So a list that a long run names can be had again alone.
+    #[test]
+    fn a_seed_gives_the_same_list_alone_as_in_a_run() {
+        let mut used = Beginnings::default();
+        for seed in 0..60 {
+            let (mut one, mut other) = (Seen::default(), Seen::default());
+            let alone = run(seed, &mut Beginnings::default(), &mut one);
+            assert_eq!(run(seed, &mut used, &mut other), alone, "seed {seed}");
+            assert!(alone.is_ok(), "{alone:?}");
+            assert_eq!(one.to_string(), other.to_string(), "seed {seed}");
+        }
+    }
+}

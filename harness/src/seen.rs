@@ -1,0 +1,182 @@
+//! What the lists of calls have seen, and what a long run has to have seen: a
+//! comparison in which a cause is never returned says nothing of that cause.
+
+use crate::lent::Part;
+use reference::area::{Area, WORDS};
+use reference::call::{Answer, Call};
+use reference::calls::{self, Promotion};
+use reference::grid::HELD_LIMIT;
+use std::collections::BTreeMap;
+use std::fmt::{self, Display, Formatter};
+
+/// From so many calls on, everything has to be seen.
+pub const LONG_RUN: u64 = 200_000;
+
+/// Every number that a call can be refused with.
+pub const REFUSALS: [(&str, &[u32]); 5] = [
+    ("start", &[1, 2, 3]),
+    ("point", &[3, 4, 5, 9]),
+    ("deliver", &[3, 4, 5, 7, 8]),
+    ("promote", &[3, 4, 6]),
+    ("result", &[3, 4]),
+];
+
+const OUTCOMES: [&str; 6] = [
+    "met",
+    "promoted",
+    "promoted with nothing admitted",
+    "spent by the budget",
+    "spent by the limit of 512",
+    "spent by both limits",
+];
+
+/// Accepted calls on storage that is just enough, or goes on a little.
+const LENT: [&str; 5] = [
+    "lent 512 records exactly",
+    "lent a part of a record at the end",
+    "lent a store as long as the budget",
+    "lent a buffer of just d bytes",
+    "lent a buffer longer than d",
+];
+
+/// What a call was made on; the area is as the call left it.
+pub struct Circumstances<'a> {
+    pub area: &'a Area,
+    pub part: Part,
+    /// Whether the area is sound and was altered since the job was started.
+    pub altered: bool,
+}
+
+#[derive(Default)]
+pub struct Seen {
+    counts: BTreeMap<String, u64>,
+    highest: BTreeMap<&'static str, u64>,
+}
+
+impl Seen {
+    fn count(&mut self, what: impl Into<String>) {
+        *self.counts.entry(what.into()).or_insert(0) += 1;
+    }
+
+    fn number(&self, what: &str) -> u64 {
+        self.counts.get(what).copied().unwrap_or(0)
+    }
+
+    fn highest(&mut self, what: &'static str, value: u32) {
+        let slot = self.highest.entry(what).or_insert(0);
+        *slot = u64::from(value).max(*slot);
+    }
+
+    pub fn note_alteration(&mut self, sound: bool) {
+        self.count("areas altered");
+        if sound {
+            self.count("areas altered and still sound");
+        }
+    }
+
+    pub fn note(&mut self, call: &Call, answer: &Answer, on: &Circumstances) {
+        self.count("calls");
+        self.count(format!("calls of {}", call.name()));
+        match answer {
+            Answer::Refused(cause) => {
+                self.count(format!("refused {} by {}", cause.number(), call.name()));
+                return;
+            }
+            Answer::Sound(sound) => self.count(if *sound { "check yes" } else { "check no" }),
+            _ => self.note_accepted(call, on),
+        }
+        match answer {
+            Answer::Started => self.count(format!("jobs of {} axes", on.area.job.axes)),
+            Answer::Promotion(promotion) => self.note_promotion(*promotion, on.area),
+            Answer::Totals(totals) => self.highest("ceiling count", totals.ceiling),
+            _ => {}
+        }
+        if on.altered {
+            self.count("accepted calls on altered sound areas");
+        }
+    }
+
+    fn note_accepted(&mut self, call: &Call, on: &Circumstances) {
+        self.count(format!("accepted {}", call.name()));
+        self.highest("held", on.area.job.held);
+        self.highest("reserved", on.area.job.reserved);
+        let buffer = match call {
+            Call::Point { buffer, .. } => Some(*buffer),
+            _ => None,
+        };
+        let axes = on.area.job.axes as usize;
+        let so = [
+            on.part.cells / WORDS == HELD_LIMIT,
+            !on.part.cells.is_multiple_of(WORDS),
+            on.part.store == on.area.job.budget as usize,
+            buffer == Some(axes),
+            buffer > Some(axes),
+        ];
+        for (what, _) in LENT.into_iter().zip(so).filter(|(_, seen)| *seen) {
+            self.count(what);
+        }
+    }
+
+    fn note_promotion(&mut self, promotion: Promotion, area: &Area) {
+        let outcome = match promotion {
+            Promotion::Met => "met",
+            Promotion::Promoted if calls::first_wanted(area).is_none() => {
+                self.count("promoted with nothing admitted");
+                "promoted"
+            }
+            Promotion::Promoted => "promoted",
+            // The area is as it was, so the limits can still be asked for.
+            Promotion::Spent => match calls::limits_passed(area) {
+                (true, true) => "spent by both limits",
+                (true, false) => "spent by the limit of 512",
+                _ => "spent by the budget",
+            },
+        };
+        self.count(outcome);
+    }
+
+    /// What a long run has to see and this one didn't.
+    pub fn missing(&self) -> Vec<String> {
+        let mut due: Vec<String> = OUTCOMES.iter().chain(&LENT).map(|s| s.to_string()).collect();
+        for (call, numbers) in REFUSALS {
+            due.push(format!("accepted {call}"));
+            due.extend(numbers.iter().map(|number| format!("refused {number} by {call}")));
+        }
+        due.extend((1..=8).map(|axes| format!("jobs of {axes} axes")));
+        due.extend(
+            ["check yes", "check no", "accepted calls on altered sound areas"].map(Into::into),
+        );
+        due.retain(|what| self.number(what) == 0);
+        if self.highest.get("held") != Some(&(HELD_LIMIT as u64)) {
+            due.push("512 held".to_string());
+        }
+        if self.highest.get("ceiling count").is_none_or(|&count| count == 0) {
+            due.push("a ceiling".to_string());
+        }
+        due
+    }
+}
+
+impl Display for Seen {
+    fn fmt(&self, out: &mut Formatter) -> fmt::Result {
+        for (what, count) in &self.counts {
+            writeln!(out, "{what}: {count}")?;
+        }
+        for (what, value) in &self.highest {
+            writeln!(out, "highest {what}: {value}")?;
+        }
+        Ok(())
+    }
+}
+
+#[cfg(test)]
+mod tests {
+    use super::*;
+
+    #[test]
+    fn a_run_that_saw_nothing_lacks_everything() {
+        let refusals: usize = REFUSALS.iter().map(|(_, numbers)| 1 + numbers.len()).sum();
+        let due = OUTCOMES.len() + LENT.len() + refusals + 8 + 3 + 2;
+        assert_eq!(Seen::default().missing().len(), due);
+    }
+}

@@ -1,0 +1,213 @@
+//! The boundary cases that are executed, the example job by calls, and each
+//! cause of a refusal in its own case: its number, and that everything lent is
+//! as it was.
+
+mod support;
+
+use harness::calls;
+use harness::lent::{Lent, Part};
+use reference::area::WORDS;
+use reference::call::Call;
+use support::*;
+
+#[test]
+fn before_the_first_delivery_the_scaled_mean_is_0() {
+    for axes in 1..=8 {
+        let mut lent = started(axes, 40, 64);
+        assert!(calls::check_lent(&mut lent));
+        assert_eq!(counts(&mut lent), [0, 0, 0, 0, 0, 0, 1, 1, 0]);
+    }
+}
+
+#[test]
+fn a_threshold_equal_to_the_pending_error_is_met() {
+    let mut equal = started(2, 7, 64);
+    deliver(&mut equal, &[5], 7);
+    let before = equal.clone();
+    assert_eq!(promote(&mut equal), MET);
+    assert!(equal == before, "met changes nothing");
+    let mut below = started(2, 6, 64);
+    deliver(&mut below, &[5], 7);
+    assert_eq!(promote(&mut below), PROMOTED);
+}
+
+#[test]
+fn with_two_axes_a_budget_of_4_is_spent_at_the_first_promotion() {
+    let mut lent = started(2, 0, 4);
+    deliver(&mut lent, &[5], 1);
+    let before = lent.clone();
+    assert_eq!(promote(&mut lent), SPENT);
+    assert!(lent == before, "spent changes nothing");
+}
+
+#[test]
+fn with_two_axes_a_budget_of_5_is_not_spent_at_the_first_promotion() {
+    let mut lent = started(2, 0, 5);
+    deliver(&mut lent, &[5], 1);
+    assert_eq!(promote(&mut lent), PROMOTED);
+    assert_eq!(counts(&mut lent)[4..], [1, 0, 2, 5, 0]);
+}
+
+#[test]
+fn the_example_job_is_met_with_its_counts_and_scaled_mean() {
+    let entries: [(u32, &[i32]); 4] =
+        [(100, &[4_160]), (50, &[64, 16_448]), (0, &[4_096, 4_224]), (10, &[1_088, 9_280])];
+    let mut entries = entries.into_iter();
+    let mut lent = started(2, 40, 64);
+    let outcome = loop {
+        let wanted = counts(&mut lent)[6];
+        if wanted > 0 {
+            let (indicator, readings) = entries.next().expect("an entry for each wanted block");
+            let asked: Vec<i32> = (0..readings.len()).map(|n| stroke_at(&mut lent, n)).collect();
+            assert_eq!(asked, readings);
+            deliver(&mut lent, readings, indicator);
+        } else {
+            match promote(&mut lent) {
+                PROMOTED => {}
+                outcome => break outcome,
+            }
+        }
+    };
+    assert_eq!(outcome, MET);
+    assert_eq!(entries.next(), None);
+    let mean = 5_972_688_896u64;
+    assert_eq!(counts(&mut lent), [10, 0, mean as u32, (mean >> 32) as u32, 2, 2, 0, 7, 0]);
+    assert!(calls::check_lent(&mut lent));
+}
+
+/// The example's readings are x squared plus y at the points asked for.
+fn stroke_at(lent: &mut Lent, n: usize) -> i32 {
+    let mut position = [0u8; 2];
+    assert_eq!(calls::point(lent.all(), n, &mut position), 0);
+    i32::from(position[0]).pow(2) + i32::from(position[1])
+}
+
+#[test]
+fn cause_1_a_start_with_other_than_1_to_8_axes() {
+    let mut lent = wanting_two();
+    for axes in [0, 9, u32::MAX] {
+        refused(&mut lent, &start(axes, 64), 1);
+    }
+    for axes in [1, 8] {
+        accepted(&lent, &start(axes, 64));
+    }
+}
+
+#[test]
+fn cause_2_a_start_with_a_budget_other_than_1_to_8192() {
+    let mut lent = wanting_two();
+    lent.store.resize(8_192, 0);
+    for budget in [0, 8_193, u32::MAX] {
+        refused(&mut lent, &start(2, budget), 2);
+    }
+    for budget in [1, 8_192] {
+        accepted(&lent, &start(2, budget));
+    }
+}
+
+/// Each call that can be refused, in an area in which it is accepted.
+fn each_call() -> Vec<(Lent, Call)> {
+    vec![
+        (wanting_two(), start(2, 64)),
+        (wanting_two(), point(0)),
+        (wanting_two(), delivery(&[64, 16_448])),
+        (wanting_nothing(), Call::Promote),
+        (wanting_two(), Call::Result),
+    ]
+}
+
+#[test]
+fn cause_3_fewer_than_512_records() {
+    for (mut lent, call) in each_call() {
+        let part = short_of_records(&lent);
+        refused_in(&mut lent, part, &call, 3);
+        refused_in(&mut lent, Part { cells: 0, ..part }, &call, 3);
+        accepted_in(&lent, Part { cells: RECORDS * WORDS, ..part }, &call);
+    }
+}
+
+#[test]
+fn cause_3_a_store_under_the_budget() {
+    for (mut lent, call) in each_call() {
+        let part = short_of_readings(&lent, 64);
+        refused_in(&mut lent, part, &call, 3);
+        refused_in(&mut lent, Part { store: 0, ..part }, &call, 3);
+        accepted_in(&lent, Part { store: 64, ..part }, &call);
+    }
+}
+
+#[test]
+fn cause_3_for_start_goes_by_the_budget_it_is_given() {
+    let mut lent = wanting_two();
+    let whole = lent.whole();
+    refused_in(&mut lent, Part { store: 69, ..whole }, &start(2, 70), 3);
+    accepted_in(&lent, Part { store: 3, ..whole }, &start(2, 3));
+}
+
+#[test]
+fn cause_3_a_point_buffer_shorter_than_the_axes() {
+    let mut lent = wanting_two();
+    for buffer in [0, 1] {
+        refused(&mut lent, &Call::Point { n: 0, buffer }, 3);
+    }
+    accepted(&lent, &Call::Point { n: 0, buffer: 2 });
+}
+
+#[test]
+fn check_says_no_to_short_storage() {
+    let mut lent = wanting_two();
+    for part in [short_of_records(&lent), short_of_readings(&lent, 64)] {
+        assert!(!calls::check_loan(&lent.part(part)));
+    }
+    let enough = Part { cells: RECORDS * WORDS, store: 64 };
+    assert!(calls::check_loan(&lent.part(enough)));
+}
+
+#[test]
+fn cause_4_an_area_that_is_not_sound_for_every_call_but_start_and_check() {
+    for (lent, call) in each_call().into_iter().skip(1) {
+        refused(&mut altered(lent), &call, 4);
+    }
+    accepted(&altered(wanting_two()), &start(2, 64));
+}
+
+#[test]
+fn cause_5_point_and_deliver_where_no_block_is_wanted() {
+    let mut lent = wanting_nothing();
+    refused(&mut lent, &point(0), 5);
+    refused(&mut lent, &delivery(&[1, 2]), 5);
+}
+
+#[test]
+fn cause_6_promote_while_a_block_is_wanted() {
+    refused(&mut started(2, 0, 64), &Call::Promote, 6);
+    refused(&mut wanting_two(), &Call::Promote, 6);
+}
+
+#[test]
+fn cause_7_a_reading_count_that_is_not_the_blocks() {
+    let mut lent = wanting_two();
+    for readings in [&[][..], &[1], &[1, 2, 3]] {
+        refused(&mut lent, &delivery(readings), 7);
+    }
+    accepted(&lent, &delivery(&[1, 2]));
+}
+
+#[test]
+fn cause_8_a_reading_out_of_range() {
+    let mut lent = wanting_two();
+    for reading in [1_048_577, -1_048_577, i32::MAX, i32::MIN] {
+        refused(&mut lent, &delivery(&[reading, 0]), 8);
+        refused(&mut lent, &delivery(&[0, reading]), 8);
+    }
+    accepted(&lent, &delivery(&[1_048_576, -1_048_576]));
+}
+
+#[test]
+fn cause_9_a_point_number_not_below_the_blocks_size() {
+    let mut lent = wanting_two();
+    for n in [2, 3, 1 << 32, u64::MAX] {
+        refused(&mut lent, &point(n), 9);
+    }
+    accepted(&lent, &point(1));
+}

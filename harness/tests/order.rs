@@ -1,0 +1,104 @@
+//! Where two causes hold at once, the earlier row of the table is returned, and
+//! everything lent is as it was.
+
+mod support;
+
+use harness::lent::{Lent, Part};
+use reference::call::Call;
+use support::*;
+
+/// One reading too many, and one of them out of range.
+const TOO_MANY_AND_TOO_LARGE: [i32; 3] = [0, 1_048_577, 0];
+
+fn nothing_lent() -> Part {
+    Part { cells: 0, store: 0 }
+}
+
+#[test]
+fn the_axes_come_before_the_budget() {
+    refused(&mut wanting_two(), &start(9, 0), 1);
+}
+
+#[test]
+fn the_axes_come_before_the_storage() {
+    refused_in(&mut wanting_two(), nothing_lent(), &start(0, 64), 1);
+}
+
+#[test]
+fn the_budget_comes_before_the_storage() {
+    refused_in(&mut wanting_two(), nothing_lent(), &start(2, 8_193), 2);
+}
+
+#[test]
+fn the_storage_comes_before_the_area() {
+    for call in [point(0), delivery(&[1, 2]), Call::Promote, Call::Result] {
+        let mut lent = altered(wanting_two());
+        for part in [short_of_records(&lent), short_of_readings(&lent, 64)] {
+            refused_in(&mut lent, part, &call, 3);
+        }
+    }
+}
+
+#[test]
+fn the_point_buffer_comes_before_the_area() {
+    refused(&mut altered(wanting_two()), &Call::Point { n: 0, buffer: 1 }, 3);
+}
+
+/// Short storage, and a later cause as well.
+fn storage_before(mut lent: Lent, call: &Call, later: u32) {
+    refused(&mut lent, call, later);
+    for part in [short_of_records(&lent), short_of_readings(&lent, 64)] {
+        refused_in(&mut lent, part, call, 3);
+    }
+}
+
+#[test]
+fn the_storage_comes_before_what_is_wanted_and_before_the_arguments() {
+    storage_before(wanting_nothing(), &point(0), 5);
+    storage_before(wanting_nothing(), &delivery(&[1, 2]), 5);
+    storage_before(wanting_two(), &Call::Promote, 6);
+    storage_before(wanting_two(), &delivery(&[1]), 7);
+    storage_before(wanting_two(), &delivery(&[1_048_577, 0]), 8);
+    storage_before(wanting_two(), &point(2), 9);
+}
+
+#[test]
+fn the_point_buffer_comes_before_what_is_wanted_and_before_the_point_number() {
+    refused(&mut wanting_nothing(), &Call::Point { n: 0, buffer: 1 }, 3);
+    refused(&mut wanting_two(), &Call::Point { n: 2, buffer: 1 }, 3);
+}
+
+/// An area that is not sound, and a later cause as well.
+fn area_before(mut lent: Lent, call: &Call, later: u32) {
+    refused(&mut lent, call, later);
+    refused(&mut altered(lent), call, 4);
+}
+
+#[test]
+fn the_area_comes_before_what_is_wanted_and_before_the_arguments() {
+    area_before(wanting_nothing(), &point(0), 5);
+    area_before(wanting_nothing(), &delivery(&[1, 2]), 5);
+    area_before(wanting_two(), &Call::Promote, 6);
+    area_before(wanting_two(), &delivery(&[1]), 7);
+    area_before(wanting_two(), &delivery(&[1_048_577, 0]), 8);
+    area_before(wanting_two(), &point(2), 9);
+}
+
+#[test]
+fn that_no_block_is_wanted_comes_before_the_arguments() {
+    refused(&mut wanting_nothing(), &delivery(&[]), 5);
+    refused(&mut wanting_nothing(), &delivery(&TOO_MANY_AND_TOO_LARGE), 5);
+    refused(&mut wanting_nothing(), &point(u64::MAX), 5);
+}
+
+#[test]
+fn that_a_block_is_wanted_comes_before_met() {
+    // Nothing is pending before the first delivery, so it would be met.
+    refused(&mut started(2, 0, 64), &Call::Promote, 6);
+}
+
+#[test]
+fn the_reading_count_comes_before_the_range() {
+    refused(&mut wanting_two(), &delivery(&TOO_MANY_AND_TOO_LARGE), 7);
+    refused(&mut wanting_two(), &delivery(&[1_048_577]), 7);
+}

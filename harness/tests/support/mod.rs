@@ -1,0 +1,125 @@
+//! Storage to run named cases in, and calls on it that must be accepted or
+//! refused.
+
+// Each file of tests uses its own part of this.
+#![allow(dead_code)]
+
+use harness::answers::{self, Said, Slots};
+use harness::calls::{self, CountWords};
+use harness::lent::{Lent, Part};
+use reference::area::WORDS;
+use reference::call::Call;
+
+pub const MET: u32 = 0;
+pub const SPENT: u32 = 1;
+pub const PROMOTED: u32 = 2;
+pub const RECORDS: usize = 512;
+/// The place of the pending error's low word in the job words.
+pub const PENDING: usize = 2;
+const MARK: u32 = 0xa5a5_a5a5;
+
+/// Storage full of marks: 512 records, a part of another, a store of 100.
+pub fn storage() -> Lent {
+    let cells = vec![MARK; RECORDS * WORDS + 5];
+    Lent { job: [MARK; 10], cells, store: vec![MARK as i32; 100] }
+}
+
+pub fn started(axes: u32, threshold: u64, budget: u32) -> Lent {
+    let mut lent = storage();
+    assert_eq!(calls::start(lent.all(), axes, threshold, budget), 0);
+    lent
+}
+
+pub fn deliver(lent: &mut Lent, readings: &[i32], indicator: u32) {
+    assert_eq!(calls::deliver(lent.all(), readings, indicator), 0);
+}
+
+pub fn promote(lent: &mut Lent) -> u32 {
+    let mut outcome = [MARK];
+    assert_eq!(calls::promote(lent.all(), &mut outcome), 0);
+    outcome[0]
+}
+
+pub fn counts(lent: &mut Lent) -> CountWords {
+    let mut counts = [MARK; 9];
+    assert_eq!(calls::result(lent.all(), &mut counts), 0);
+    counts
+}
+
+/// A job of two axes, budget 64 and threshold 0 that wants (2,1) and (1,2): two
+/// readings each.
+pub fn wanting_two() -> Lent {
+    let mut lent = started(2, 0, 64);
+    deliver(&mut lent, &[4_160], 100);
+    assert_eq!(promote(&mut lent), PROMOTED);
+    lent
+}
+
+/// The same job when both have come and nothing is wanted.
+pub fn wanting_nothing() -> Lent {
+    let mut lent = wanting_two();
+    deliver(&mut lent, &[64, 16_448], 50);
+    deliver(&mut lent, &[4_096, 4_224], 0);
+    lent
+}
+
+/// The same storage with a pending error that isn't the active sum.
+pub fn altered(mut lent: Lent) -> Lent {
+    lent.job[PENDING] ^= 1;
+    assert!(!calls::check_lent(&mut lent));
+    lent
+}
+
+/// All cells but those that make the 512th record whole.
+pub fn short_of_records(lent: &Lent) -> Part {
+    Part { cells: RECORDS * WORDS - 1, ..lent.whole() }
+}
+
+/// A store one short of a budget.
+pub fn short_of_readings(lent: &Lent, budget: usize) -> Part {
+    Part { store: budget - 1, ..lent.whole() }
+}
+
+pub fn start(axes: u32, budget: u32) -> Call {
+    Call::Start { axes, threshold: 7, budget }
+}
+
+pub fn point(n: u64) -> Call {
+    Call::Point { n, buffer: 8 }
+}
+
+pub fn delivery(readings: &[i32]) -> Call {
+    Call::Deliver { readings: readings.to_vec(), indicator: 9 }
+}
+
+fn perform(lent: &mut Lent, part: Part, call: &Call) -> (Said, Slots, Slots) {
+    let length = if let Call::Point { buffer, .. } = call { *buffer } else { 0 };
+    let before = Slots { outcome: [MARK], counts: [MARK; 9], buffer: vec![0xa5; length] };
+    let mut after = before.clone();
+    let said = answers::of_library(lent.part(part), call, &mut after);
+    (said, before, after)
+}
+
+/// The call is refused with this number, and all that was lent is as it was.
+pub fn refused_in(lent: &mut Lent, part: Part, call: &Call, number: u32) {
+    let area = lent.clone();
+    let (said, before, after) = perform(lent, part, call);
+    assert_eq!(said, Said::Number(number), "{call:?}");
+    assert_eq!(after, before, "{call:?} wrote into what it gives back");
+    assert!(*lent == area, "{call:?} wrote into the area");
+}
+
+pub fn refused(lent: &mut Lent, call: &Call, number: u32) {
+    refused_in(lent, lent.whole(), call, number);
+}
+
+/// The call is accepted in a copy of the storage, so that the next case finds
+/// it as it was.
+pub fn accepted_in(lent: &Lent, part: Part, call: &Call) {
+    let (said, ..) = perform(&mut lent.clone(), part, call);
+    assert_eq!(said, Said::Number(0), "{call:?}");
+}
+
+pub fn accepted(lent: &Lent, call: &Call) {
+    accepted_in(lent, lent.whole(), call);
+}
