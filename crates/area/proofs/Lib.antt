@@ -1,6 +1,7 @@
 -- The laws, lowest first.
 pub mod Slices
 pub mod Records
+pub mod Cells
 pub mod Lookups
 pub mod Founds
 pub mod Facts

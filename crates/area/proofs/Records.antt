@@ -2,15 +2,16 @@
 -- The idea: a record at place p is read from the cells past 27·p; 27 words written there replace that record and no other.
 -- Assumes nothing.
 use mathlib.Core.Path.{_≡_, refl, ap, sym, _∙_}
-use mathlib.Core.List.{List, [], _∷_, _++_}
+use mathlib.Core.List.{List, _∷_, _++_, append-assoc}
 use Prim.Native.Nat.{ℕ, zero, suc, _+_, _≤_, _<_, _-_, _*_, _/_}
 use native.Mathlib.Nat.{add-assoc}
 use native.Mathlib.Omega.{arith}
 use lib.ListN.{length, getD, take, drop, set, length-drop, length-append, take-append-drop, List·getD-append}
 use lib.Seq.{take-all, drop-append-add, drop-cons, length-take-le, getD-drop, getD-take, sets, sets-eq, length-sets, take-add, drop-drop, take-at, drop-at, take-append-le, drop-append-le, getD-append-add}
 use Rattle.area.specs.declared.IndexRecord.{IndexRecord}
-use Rattle.area.specs.Records.{recordOf, records, recordsOf, Run, blank, runOf, stored}
-use Rattle.area.proofs.Slices.{sets-append, sets-past, drop-sets}
+use Rattle.area.specs.Records.{recordOf, records, recordsOf, recordCells, cellsFor, cellsOf, blank, runOf, stored}
+use Rattle.sums.proofs.Lists.{sets-append}
+use Rattle.area.proofs.Slices.{sets-past, drop-sets}
 
 -- ---- records from cells
 
@@ -88,7 +89,7 @@ module _ (c : List ℕ) (p : ℕ) (h : p * 27 + 27 ≤ length c) where
 -- ---- one record written
 
 -- a record is read from its 27 words
-record-front : (xs t : List ℕ) → 27 ≤ length xs → recordOf (xs ++ t) ≡ recordOf xs
+pub record-front : (xs t : List ℕ) → 27 ≤ length xs → recordOf (xs ++ t) ≡ recordOf xs
 unfolding recordOf
 record-front xs t h =
     let h8 : 8 ≤ length xs = omega arith in
@@ -137,12 +138,8 @@ run-stored c p ws h hw =
     let k : p < length c / 27 = omega arith in
     rw (length-sets c (p * 27) ws, records-sets (length c / 27) c p ws k (omega arith) hw, drop-sets (length c / 27 * 27) c (p * 27) ws (omega arith))
 
--- the words of a record
-unfoldable pub wordsOf : IndexRecord → List ℕ
-wordsOf r = r .levels ++ (r .state ∷ r .indicator ∷ r .first ∷ r .links)
-
-pub record-words : (r : IndexRecord) → length (r .levels) ≡ 8 → length (r .links) ≡ 16 → recordOf (wordsOf r) ≡ r
-unfolding recordOf wordsOf
+pub record-words : (r : IndexRecord) → length (r .levels) ≡ 8 → length (r .links) ≡ 16 → recordOf (recordCells r) ≡ r
+unfolding recordOf recordCells
 record-words r hl hk =
     let t : List ℕ = r .state ∷ r .indicator ∷ r .first ∷ r .links in
     let a8 : getD (r .levels ++ t) 8 0 ≡ r .state = rw hl at (getD-append-add (r .levels) t 0 0) in
@@ -155,42 +152,38 @@ record-words r hl hk =
 pub run-pieces : (c : List ℕ) (p : ℕ) (r : IndexRecord) → p * 27 + 27 ≤ length c → length (r .levels) ≡ 8 → length (r .links) ≡ 16
     → runOf (sets (set (set (set (sets c (p * 27) (r .levels)) (p * 27 + 8) (r .state)) (p * 27 + 9) (r .indicator)) (p * 27 + 10) (r .first)) (p * 27 + 11) (r .links))
     ≡ stored (runOf c) p r
-unfolding wordsOf
+unfolding recordCells
 run-pieces c p r h hl hk =
     let b = p * 27 in
     let t : List ℕ = r .state ∷ r .indicator ∷ r .first ∷ r .links in
-    let hw : length (wordsOf r) ≡ 27 = rw (length-append (r .levels) t, hl, hk) in
-    let e : sets c b (wordsOf r) ≡ sets (sets c b (r .levels)) (b + 8) t = rw hl at (sets-append c b (r .levels) t) in
+    let hw : length (recordCells r) ≡ 27 = rw (length-append (r .levels) t, hl, hk) in
+    let e : sets c b (recordCells r) ≡ sets (sets c b (r .levels)) (b + 8) t = rw hl at (sets-append c b (r .levels) t) in
     let e9 : suc (b + 8) ≡ b + 9 = omega arith in
     let e10 : suc (b + 9) ≡ b + 10 = omega arith in
     let e11 : suc (b + 10) ≡ b + 11 = omega arith in
     let f : sets (sets c b (r .levels)) (b + 8) t ≡ sets (set (set (set (sets c b (r .levels)) (b + 8) (r .state)) (b + 9) (r .indicator)) (b + 10) (r .first)) (b + 11) (r .links) = rw (e9, e10, e11) in
-    rw (← f, ← e, run-stored c p (wordsOf r) h hw, record-words r hl hk)
+    rw (← f, ← e, run-stored c p (recordCells r) h hw, record-words r hl hk)
 
 -- ---- cells from records back
 
-words-back : (c : List ℕ) → 27 ≤ length c → wordsOf (recordOf c) ≡ take 27 c
-unfolding wordsOf recordOf
+words-back : (c : List ℕ) → 27 ≤ length c → recordCells (recordOf c) ≡ take 27 c
+unfolding recordCells recordOf
 words-back c h =
     rw (take-add 8 19 c, drop-cons c 8 0 (omega arith), drop-cons c 9 0 (omega arith), drop-cons c 10 0 (omega arith))
 
--- the cells of a list of records, and then the rest
-pub cellsOf : List IndexRecord → List ℕ → List ℕ
-cellsOf [] rest = rest
-cellsOf (r ∷ rs) rest = wordsOf r ++ cellsOf rs rest
-
-cells-back : (n : ℕ) (c : List ℕ) → n * 27 ≤ length c → cellsOf (records n c) (drop (n * 27) c) ≡ c
-unfolding cellsOf records
+cells-back : (n : ℕ) (c : List ℕ) → n * 27 ≤ length c → cellsFor (records n c) ++ drop (n * 27) c ≡ c
+unfolding cellsFor records
 cells-back zero c h = refl
 cells-back (suc n) c h =
     let e : suc n * 27 ≡ 27 + n * 27 = omega arith in
     let hd : length (drop 27 c) ≡ length c - 27 = length-drop 27 c in
-    rw (e, ← drop-drop (n * 27) 27 c, cells-back n (drop 27 c) (omega arith), words-back c (omega arith)) (take-append-drop 27 c)
+    append-assoc (recordCells (recordOf c)) (cellsFor (records n (drop 27 c))) (drop (suc n * 27) c)
+    ∙ rw (e, ← drop-drop (n * 27) 27 c, cells-back n (drop 27 c) (omega arith), words-back c (omega arith)) (take-append-drop 27 c)
 
-whole : (c : List ℕ) → cellsOf (runOf c .records) (runOf c .rest) ≡ c
-unfolding recordsOf
+pub whole : (c : List ℕ) → cellsOf (runOf c) ≡ c
+unfolding recordsOf cellsOf
 whole c = cells-back (length c / 27) c (omega arith)
 
 -- the records and the rest determine the cells
 pub run-determines : (c d : List ℕ) → runOf c ≡ runOf d → c ≡ d
-run-determines c d e = sym (whole c) ∙ ap (λ (u : Run). cellsOf (u .records) (u .rest)) e ∙ whole d
+run-determines c d e = sym (whole c) ∙ ap cellsOf e ∙ whole d

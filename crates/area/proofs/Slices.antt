@@ -4,7 +4,7 @@
 use mathlib.Core.Path.{_≡_, refl, _∙_}
 use mathlib.Core.List.{List, [], _∷_, _++_, append-assoc}
 use Prim.Native.Nat.{ℕ, suc, _+_, _≤_, _<_, _-_}
-use native.Mathlib.Nat.{le-of-lt, add-zero, add-suc, suc-add, add-assoc}
+use native.Mathlib.Nat.{le-of-lt, add-suc, suc-add, add-assoc}
 use native.Mathlib.Numerals.{add-one}
 use native.Mathlib.Omega.{arith}
 use lib.ListN.{length, getD, take, drop, set, length-drop}
@@ -19,17 +19,6 @@ module _ {A : Type 0} where
       let hl : length (take i (drop b s)) ≡ i = length-take-le i (drop b s) (le-of-lt h) in
       rw (← getD-drop b s i d, drop-cons z i d hz, set-at (take i (drop b s)) _ _ _ i hl, add-one i, take-suc (drop b s) i d h)
       (rw append-snoc)
-
-  pub sets-append : (l : List A) (i : ℕ) (xs ys : List A) → sets l i (xs ++ ys) ≡ sets (sets l i xs) (i + length xs) ys
-  sets-append l i [] ys = rw (add-zero i)
-  sets-append l i (a ∷ xs) ys = sets-append (set l i a) (suc i) xs ys ∙ rw (suc-add i (length xs), ← add-suc i (length xs))
-
-  -- one more element is written
-  pub sets-step : (l : List A) (at : ℕ) (xs : List A) (j : ℕ) (z : A) → j < length xs
-      → set (sets l at (take j xs)) (at + j) (getD xs j z) ≡ sets l at (take (j + 1) xs)
-  sets-step l at xs j z h =
-      let hl : length (take j xs) ≡ j = length-take-le j xs (le-of-lt h) in
-      rw (add-one j, take-suc xs j z h, sets-append l at (take j xs) (getD xs j z ∷ []), hl)
 
   -- what is written past the first n elements
   pub sets-past : (n : ℕ) (l : List A) (i : ℕ) (vs : List A) → n + (i + length vs) ≤ length l

@@ -1,6 +1,6 @@
 -- The records that a lent slice of cells holds; a cell is one 32-bit word. A record is 27 cells: levels of axes 1 to 8; state; indicator; first reading;
 -- forward links of axes 1 to 8; backward links of axes 1 to 8.
-use mathlib.Core.List.{List, [], _∷_, map}
+use mathlib.Core.List.{List, [], _∷_, _++_, map}
 use Prim.Native.Nat.{ℕ, zero, suc, _*_, _/_}
 use lib.ListN.{length, getD, set, take, drop}
 use Rattle.area.specs.declared.IndexRecord.{IndexRecord}
@@ -26,6 +26,17 @@ pub record Run : Type 0 where
 
 abbrev pub runOf : List ℕ → Run
 runOf c = record { records = recordsOf c; rest = drop (length c / 27 * 27) c }
+
+-- The way back: the cells of a record, of a list of records, and of a run.
+unfoldable pub recordCells : IndexRecord → List ℕ
+recordCells r = r .levels ++ (r .state ∷ r .indicator ∷ r .first ∷ r .links)
+
+unfoldable pub cellsFor : List IndexRecord → List ℕ
+cellsFor [] = []
+cellsFor (r ∷ rs) = recordCells r ++ cellsFor rs
+
+unfoldable pub cellsOf : Run → List ℕ
+cellsOf u = cellsFor (u .records) ++ u .rest
 
 -- One record replaced.
 abbrev pub stored : Run → ℕ → IndexRecord → Run

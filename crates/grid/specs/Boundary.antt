@@ -20,7 +20,7 @@ unfoldable pub pair : ℕ → ℕ → List ℕ
 pair k l = k ∷ l ∷ 1 ∷ 1 ∷ 1 ∷ 1 ∷ 1 ∷ 1 ∷ []
 
 -- The document's file with 2 axes: its entries in order, each with the index whose block it delivers. That the algorithm wants
--- these blocks in this order is run, not stated here.
+-- these blocks in this order is a case about calls (crate `history`, specs/Excluded.antt).
 pub record Delivery : Type 0 where
   pub levels : List ℕ
   pub readings : List ℤ

@@ -37,7 +37,8 @@ raisedOn (k ∷ ks) (false ∷ S) = k ∷ raisedOn ks S
 raisedOn (k ∷ ks) (true ∷ S) = suc k ∷ raisedOn ks S
 
 -- The *combination coefficient* of an index: over every subset of the axes, +1 for an even and −1 for an odd subset when the
--- index raised by one on that subset is delivered. J lists the delivered indices.
+-- index raised by one on that subset is delivered. J lists the delivered indices. Here the subsets are of all eight axes: raised beyond
+-- the job's axes no index is delivered, so those add nothing (`LevelOneFacts.coefficient-same`).
 unfoldable pub coefficient : List (List ℕ) → List ℕ → ℤ
 coefficient J k = sumOf (subsets (length k)) (λ S. cond (isIn J (raisedOn k S)) (sign S) (pos 0))
 

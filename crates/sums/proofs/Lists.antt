@@ -1,11 +1,14 @@
--- Lists that are given by place: their length and their elements.
+-- Lists that are given by place: their length and their elements. Lists that are laid over another from a place on.
 -- Assumes nothing.
-use mathlib.Core.Path.{_≡_, refl, ap}
-use mathlib.Core.List.{List·Memᴰ, List·Memᴰ·not-nil, List·Memᴰ·cases-cons, List·Memᴰ·head, List·Memᴰ·tail}
+use mathlib.Core.Path.{_≡_, refl, ap, _∙_}
+use mathlib.Core.List.{List, [], _∷_, _++_, List·Memᴰ, List·Memᴰ·not-nil, List·Memᴰ·cases-cons, List·Memᴰ·head, List·Memᴰ·tail}
 use mathlib.Core.Logic.{_⊎_, ⊎-elim}
-use Prim.Native.Nat.{ℕ, zero, suc, _<_}
+use Prim.Native.Nat.{ℕ, zero, suc, _+_, _<_}
+use native.Mathlib.Nat.{le-of-lt, add-zero, add-suc, suc-add}
+use native.Mathlib.Numerals.{add-one}
 use native.Mathlib.Omega.{arith}
-use lib.ListN.{length, getD}
+use lib.ListN.{length, getD, take, set}
+use lib.Seq.{take-suc, length-take-le, sets}
 use Rattle.sums.specs.Lists.{tab}
 
 module _ {A : Type 0} where
@@ -34,3 +37,16 @@ module _ {A : Type 0} where
     where
       later : (i : ℕ) × (i < n) × (x ≡ f (suc i)) → (i : ℕ) × (i < suc n) × (x ≡ f i)
       later (i, h, e) = (suc i, omega arith, e)
+
+  -- ---- laid over another list
+
+  pub sets-append : (l : List A) (i : ℕ) (xs ys : List A) → sets l i (xs ++ ys) ≡ sets (sets l i xs) (i + length xs) ys
+  sets-append l i [] ys = rw (add-zero i)
+  sets-append l i (a ∷ xs) ys = sets-append (set l i a) (suc i) xs ys ∙ rw (suc-add i (length xs), ← add-suc i (length xs))
+
+  -- one more element is written
+  pub sets-step : (l : List A) (at : ℕ) (xs : List A) (j : ℕ) (z : A) → j < length xs
+      → set (sets l at (take j xs)) (at + j) (getD xs j z) ≡ sets l at (take (j + 1) xs)
+  sets-step l at xs j z h =
+      let hl : length (take j xs) ≡ j = length-take-le j xs (le-of-lt h) in
+      rw (add-one j, take-suc xs j z h, sets-append l at (take j xs) (getD xs j z ∷ []), hl)

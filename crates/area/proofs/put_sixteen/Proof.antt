@@ -1,6 +1,6 @@
 -- `area::put_sixteen` meets its contract: the part of the list that is passed is written, and no other cell has changed. Assumes nothing.
 use lib.Seq.{sets, take-all}
-use Rattle.area.proofs.Slices.{sets-step}
+use Rattle.sums.proofs.Lists.{sets-step}
 use borrow.Author.Needs.{needs}
 use native.Mathlib.Omega.{arith}
 use mathlib.Core.Path.{_≡_, refl, _∙_}
