@@ -5,6 +5,7 @@ pub mod Old
 pub mod Selected
 pub mod Sets
 pub mod Appends
+pub mod Readings
 pub mod Clauses
 pub mod Ranges
 pub mod Started
@@ -13,3 +14,4 @@ pub mod Admitted
 pub mod Refined
 pub mod Facts
 pub mod Promotes
+pub mod Means

@@ -27,7 +27,7 @@ pub record Lengths : Type 0 where
   pub records : ℕ
   pub readings : ℕ
 
--- Records under 512, or reading store under the budget.
+-- Records under 512, or reading store under the budget: start's own in start, and the log's in every other call.
 unfoldable pub short : Lengths → ℕ → Bool
 short z b = not (leb 512 (z .records) && leb b (z .readings))
 

@@ -7,3 +7,4 @@ pub mod Areas
 pub mod Causes
 pub mod Counts
 pub mod Facts
+pub mod Means
