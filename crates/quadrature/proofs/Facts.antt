@@ -3,10 +3,13 @@
 use mathlib.Core.Path.{_≡_, ap, _∙_}
 use mathlib.Core.List.{List, List·Memᴰ}
 use Prim.Native.Nat.{ℕ}
-use lib.IntN.{ℤ}
+use lib.IntN.{ℤ, _*ℤ_}
 use lib.ListN.{take}
 use Rattle.sums.proofs.Sums.{sumOf-cong-in}
 use Rattle.grid.specs.Difference.{scaledDifference, scaledMean}
+use Rattle.grid.specs.Tensor.{tensorRule}
+use Rattle.grid.specs.Coefficient.{coefficient}
+use Rattle.grid.specs.Cross.{crossTotal}
 use Rattle.grid.specs.Terms.{Agree}
 use Rattle.grid.proofs.Facts.{difference-facts}
 use Rattle.area.specs.declared.JobRecord.{JobRecord}
@@ -45,6 +48,19 @@ module _ (j : JobRecord) (c : List ℕ) (s : List ℤ) where
       sumOf-cong-in (deliveredIn (heldIn c (j .held))) (λ k. scaledDifference k (fetched (recordsOf c) s)) (λ k. scaledDifference k (readingIn (entriesOf (areaOf j c s)))) (λ k m. difference-same d k (w k m))
       ∙ ap (λ J. scaledMean J (readingIn (entriesOf (areaOf j c s)))) delivered-entries
 
+  tensor-same : (d : ℕ) (k : List ℕ) → Ready d (heldIn c (j .held)) s k
+      → tensorRule k (fetched (recordsOf c) s) ≡ tensorRule k (readingIn (entriesOf (areaOf j c s)))
+  tensor-same d k w = difference-facts .tensor-only k (fetched (recordsOf c) s) (readingIn (entriesOf (areaOf j c s))) (agree d k w)
+
+  cross-same : (d : ℕ) → ((k : List ℕ) → List·Memᴰ k (deliveredIn (heldIn c (j .held))) → Ready d (heldIn c (j .held)) s k)
+      → crossTotal (deliveredIn (heldIn c (j .held))) (fetched (recordsOf c) s)
+      ≡ crossTotal (deliveredOf (entriesOf (areaOf j c s))) (readingIn (entriesOf (areaOf j c s)))
+  unfolding crossTotal
+  cross-same d w =
+      let J = deliveredIn (heldIn c (j .held)) in
+      sumOf-cong-in J (λ k. coefficient J k *ℤ tensorRule k (fetched (recordsOf c) s)) (λ k. coefficient J k *ℤ tensorRule k (readingIn (entriesOf (areaOf j c s)))) (λ k m. ap (λ x. coefficient J k *ℤ x) (tensor-same d k (w k m)))
+      ∙ ap (λ K. crossTotal K (readingIn (entriesOf (areaOf j c s)))) delivered-entries
+
   pub entry-facts : EntryFacts j c s
   entry-facts =
       record {
@@ -52,6 +68,7 @@ module _ (j : JobRecord) (c : List ℕ) (s : List ℤ) where
         delivered = delivered-entries;
         readings = agree;
         difference = difference-same;
-        tensor = λ d k w. difference-facts .tensor-only k (fetched (recordsOf c) s) (readingIn (entriesOf (areaOf j c s))) (agree d k w);
+        tensor = tensor-same;
         mean = mean-same;
+        cross = cross-same;
       }

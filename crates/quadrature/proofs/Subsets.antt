@@ -14,7 +14,7 @@ use lib.ListN.{length}
 use lib.Pow.{pow-mono}
 use Rattle.sums.specs.Sums.{sumTo}
 use Rattle.sums.proofs.Sums.{sumTo-append, sumTo-cong<, sumTo-zero}
-use Rattle.sums.proofs.Sizes.{abs-neg}
+use Rattle.sums.proofs.Sizes.{abs-neg, abs-sumTo, natSumTo-const}
 use Rattle.grid.specs.Index.{level}
 use Rattle.grid.specs.Coefficient.{isIn, sign, raisedOn, marks, coefficient}
 use Rattle.grid.proofs.Masks.{masks}
@@ -40,6 +40,12 @@ term-size rs k m = step (isIn (deliveredIn rs) (raisedOn k (marks 8 m)))
     step : (t : Bool) → natAbs (cond t (sign (marks 8 m)) (pos 0)) ≤ 1
     step true = sign-size (marks 8 m)
     step false = omega arith
+
+-- one for each subset of eight axes
+pub coefficient-size : (rs : List IndexRecord) (k : List ℕ) → length k ≡ 8 → natAbs (coefficient (deliveredIn rs) k) ≤ 256
+coefficient-size rs k e =
+    let is : coefficient (deliveredIn rs) k ≡ sumTo 256 (subsetTerm rs k) = unfold subsetTerm in masks (deliveredIn rs) k e in
+    omega (arith, ap natAbs is, abs-sumTo 256 (subsetTerm rs k) (λ m. 1) (λ m h. term-size rs k m), natSumTo-const 256 1)
 
 -- ---- marks on the later axes
 

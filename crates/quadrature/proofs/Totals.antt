@@ -1,26 +1,31 @@
--- The scaled mean of the delivered indices is the sum over the places: a wanted record adds nothing.
+-- The scaled mean of the delivered indices, and the cross total, are sums over the places: a wanted record adds nothing.
 -- Assumes nothing.
 use mathlib.Core.Path.{_≡_, refl, sym, ap, _∙_, subst}
 use mathlib.Core.Bool.{Bool, true, false, cond}
 use mathlib.Core.List.{List, [], _∷_, List·Memᴰ}
 use Prim.Native.Nat.{ℕ, zero, suc, _*_, _^_, _<_, _≤_}
+use native.Mathlib.Nat.{le-trans, le-of-eq, mul-le-mul}
 use native.Mathlib.Omega.{arith}
 use lib.Dec.{leb}
-use lib.IntN.{ℤ, pos, natAbs, _+ℤ_, +ℤ-idl}
+use lib.IntN.{ℤ, pos, natAbs, _+ℤ_, _*ℤ_, +ℤ-idl}
 use lib.ListN.{length, take, length-take}
 use lib.Seq.{getD-take}
 use Rattle.sums.specs.Sums.{sumTo, sumOf}
 use Rattle.sums.proofs.Sums.{sumTo-front}
-use Rattle.sums.proofs.Sizes.{abs-sumOf}
+use Rattle.sums.proofs.Sizes.{abs-sumOf, abs-mul}
 use Rattle.grid.specs.Difference.{scaledDifference, scaledMean}
-use Rattle.grid.proofs.Differences.{difference-size}
+use Rattle.grid.specs.Tensor.{tensorRule}
+use Rattle.grid.specs.Coefficient.{coefficient}
+use Rattle.grid.specs.Cross.{crossTotal}
+use Rattle.grid.proofs.Differences.{difference-size, tensor-size}
 use Rattle.area.specs.declared.IndexRecord.{IndexRecord}
 use Rattle.area.specs.Records.{blank}
 use Rattle.quadrature.specs.Readings.{recordAt, fetched}
 use Rattle.quadrature.specs.Ready.{Ready, AllReady}
 use Rattle.quadrature.specs.Linked.{deliveredIn}
-use Rattle.quadrature.specs.Parts.{deliveredDifference}
-use Rattle.quadrature.proofs.Delivered.{Delivered, delivered-sure}
+use Rattle.quadrature.specs.Parts.{deliveredDifference, combinedRule}
+use Rattle.quadrature.proofs.Delivered.{delivered-sure}
+use Rattle.quadrature.proofs.Subsets.{coefficient-size}
 
 -- over any number for each level list
 sum-places : (g : List ℕ → ℤ) (n : ℕ) (rs : List IndexRecord) → n ≤ length rs
@@ -43,19 +48,40 @@ pub mean-places : (n : ℕ) (rs : List IndexRecord) (s : List ℤ) → n ≤ len
 unfolding scaledMean deliveredDifference
 mean-places n rs s h = sum-places (λ k. scaledDifference k (fetched rs s)) n rs h
 
--- in size at most 2^40 for each delivered index
-pub mean-size : (d n : ℕ) (rs : List IndexRecord) (s : List ℤ) → AllReady d n rs s
-    → natAbs (scaledMean (deliveredIn (take n rs)) (fetched rs s)) ≤ length (deliveredIn (take n rs)) * 2 ^ 40
-unfolding scaledMean
-mean-size d n rs s all = abs-sumOf (deliveredIn (take n rs)) (λ k. scaledDifference k (fetched rs s)) (2 ^ 40) each
-  where
-    ready-at : (k : List ℕ) → Delivered (take n rs) k → Ready d rs s k
-    ready-at k x =
-        let inside : x .place < n = omega (arith, x .inside, length-take n rs) in
-        let e = getD-take n rs (x .place) blank inside in
-        subst (Ready d rs s) (ap (λ (r : IndexRecord). r .levels) (sym e) ∙ x .levels) (all .ready (x .place) inside (subst (λ (r : IndexRecord). 1 ≤ r .state) e (x .delivered)))
+pub cross-places : (n : ℕ) (rs : List IndexRecord) (s : List ℤ) → n ≤ length rs
+    → crossTotal (deliveredIn (take n rs)) (fetched rs s) ≡ sumTo n (combinedRule (take n rs) rs s)
+unfolding crossTotal combinedRule
+cross-places n rs s h = sum-places (λ k. coefficient (deliveredIn (take n rs)) k *ℤ tensorRule k (fetched rs s)) n rs h
 
-    each : (k : List ℕ) → List·Memᴰ k (deliveredIn (take n rs)) → natAbs (scaledDifference k (fetched rs s)) ≤ 2 ^ 40
-    each k m =
-        let ready = ready-at k (delivered-sure (take n rs) k m) in
-        difference-size k (fetched rs s) (ready .eight) (ready .ceilings) (ready .range)
+-- a coefficient is of size at most 2^8, a full tensor rule of size at most 2^40
+pub product-size : (a b : ℤ) → natAbs a ≤ 256 → natAbs b ≤ 2 ^ 40 → natAbs (a *ℤ b) ≤ 2 ^ 48
+product-size a b h q = le-trans (le-of-eq (abs-mul a b)) (le-trans (mul-le-mul h q) (omega arith))
+
+module _ (d n : ℕ) (rs : List IndexRecord) (s : List ℤ) (all : AllReady d n rs s) where
+  ready-at : (k : List ℕ) → List·Memᴰ k (deliveredIn (take n rs)) → Ready d rs s k
+  ready-at k m =
+      let x = delivered-sure (take n rs) k m in
+      let inside : x .place < n = omega (arith, x .inside, length-take n rs) in
+      let e = getD-take n rs (x .place) blank inside in
+      subst (Ready d rs s) (ap (λ (r : IndexRecord). r .levels) (sym e) ∙ x .levels) (all .ready (x .place) inside (subst (λ (r : IndexRecord). 1 ≤ r .state) e (x .delivered)))
+
+  -- in size at most 2^40 for each delivered index
+  pub mean-size : natAbs (scaledMean (deliveredIn (take n rs)) (fetched rs s)) ≤ length (deliveredIn (take n rs)) * 2 ^ 40
+  unfolding scaledMean
+  mean-size = abs-sumOf (deliveredIn (take n rs)) (λ k. scaledDifference k (fetched rs s)) (2 ^ 40) each
+    where
+      each : (k : List ℕ) → List·Memᴰ k (deliveredIn (take n rs)) → natAbs (scaledDifference k (fetched rs s)) ≤ 2 ^ 40
+      each k m =
+          let ready = ready-at k m in
+          difference-size k (fetched rs s) (ready .eight) (ready .ceilings) (ready .range)
+
+  -- and at most 2^48
+  pub cross-size : natAbs (crossTotal (deliveredIn (take n rs)) (fetched rs s)) ≤ length (deliveredIn (take n rs)) * 2 ^ 48
+  unfolding crossTotal
+  cross-size = abs-sumOf (deliveredIn (take n rs)) (λ k. coefficient (deliveredIn (take n rs)) k *ℤ tensorRule k (fetched rs s)) (2 ^ 48) each
+    where
+      each : (k : List ℕ) → List·Memᴰ k (deliveredIn (take n rs)) → natAbs (coefficient (deliveredIn (take n rs)) k *ℤ tensorRule k (fetched rs s)) ≤ 2 ^ 48
+      each k m =
+          let ready = ready-at k m in
+          product-size (coefficient (deliveredIn (take n rs)) k) (tensorRule k (fetched rs s)) (coefficient-size (take n rs) k (ready .eight))
+          (tensor-size k (fetched rs s) (ready .eight) (ready .ceilings) (ready .range))

@@ -6,6 +6,7 @@ use lib.IntN.{ℤ}
 use Rattle.grid.specs.Index.{root}
 use Rattle.grid.specs.Difference.{scaledDifference, scaledMean}
 use Rattle.grid.specs.Tensor.{tensorRule}
+use Rattle.grid.specs.Cross.{crossTotal}
 use Rattle.grid.specs.Terms.{Agree, IsReading}
 use Rattle.area.specs.declared.JobRecord.{JobRecord}
 use Rattle.area.specs.Records.{recordsOf, heldIn}
@@ -32,6 +33,10 @@ pub record EntryFacts (j : JobRecord) (c : List ℕ) (s : List ℤ) : Type 0 whe
   pub mean : (d : ℕ) → ((k : List ℕ) → List·Memᴰ k (deliveredIn (heldIn c (j .held))) → Ready d (heldIn c (j .held)) s k)
       → scaledMean (deliveredIn (heldIn c (j .held))) (fetched (recordsOf c) s)
       ≡ scaledMean (deliveredOf (entriesOf (areaOf j c s))) (readingIn (entriesOf (areaOf j c s)))
+  -- and the sum of coefficient times full tensor rule is the cross total of the entries
+  pub cross : (d : ℕ) → ((k : List ℕ) → List·Memᴰ k (deliveredIn (heldIn c (j .held))) → Ready d (heldIn c (j .held)) s k)
+      → crossTotal (deliveredIn (heldIn c (j .held))) (fetched (recordsOf c) s)
+      ≡ crossTotal (deliveredOf (entriesOf (areaOf j c s))) (readingIn (entriesOf (areaOf j c s)))
 
 -- The entries of a job whose root is delivered, and nothing else is held.
 unfoldable pub rootAlone : ℤ → List Entry

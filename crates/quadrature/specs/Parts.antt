@@ -1,5 +1,5 @@
 -- The parts of a difference that a walk has still to do, the part of a full tensor rule that a loop has already done, and the part
--- of one record in the sum of differences.
+-- of one record in the sum of differences and in the sum of coefficient times full tensor rule.
 use mathlib.Core.Bool.{cond}
 use mathlib.Core.List.{List, _++_}
 use Prim.Native.Nat.{ℕ, suc, _+_, _*_, _-_}
@@ -12,9 +12,11 @@ use Rattle.rule.specs.Weights.{wholeWeight, differenceWeight}
 use Rattle.grid.specs.Index.{level}
 use Rattle.grid.specs.Block.{blockSize}
 use Rattle.grid.specs.Difference.{Readings, behind, differenceWalk, scaledDifference}
-use Rattle.grid.specs.Tensor.{tensorSum}
+use Rattle.grid.specs.Tensor.{tensorSum, tensorRule}
+use Rattle.grid.specs.Coefficient.{coefficient}
 use Rattle.area.specs.declared.IndexRecord.{IndexRecord}
 use Rattle.quadrature.specs.Readings.{recordAt, fetched}
+use Rattle.quadrature.specs.Linked.{deliveredIn}
 
 -- The readings that are left to the axes from here on, once the axes passed stand at these levels and at a point of this rank.
 unfoldable pub left : Readings → List ℕ → ℕ → Readings
@@ -50,3 +52,9 @@ tensorDone top l point ks R =
 -- What the record at a place adds to the sum of differences: its difference once it is delivered.
 unfoldable pub deliveredDifference : List IndexRecord → List ℤ → ℕ → ℤ
 deliveredDifference rs s p = cond (leb 1 (recordAt rs p .state)) (scaledDifference (recordAt rs p .levels) (fetched rs s)) (pos 0)
+
+-- What the record at a place adds to the cross total: its full tensor rule times its coefficient over the delivered among the held
+-- records hs, once it is delivered.
+unfoldable pub combinedRule : List IndexRecord → List IndexRecord → List ℤ → ℕ → ℤ
+combinedRule hs rs s p =
+    cond (leb 1 (recordAt rs p .state)) (coefficient (deliveredIn hs) (recordAt rs p .levels) *ℤ tensorRule (recordAt rs p .levels) (fetched rs s)) (pos 0)

@@ -1,4 +1,5 @@
-// Numbers over storage: the difference of an index, its full tensor rule, its combination coefficient, and the sum of differences.
+// Numbers over storage: the difference of an index, its full tensor rule, its combination coefficient, the sum of differences, and
+// the sum of coefficient times full tensor rule, which is the same mean worked out another way.
 // An index is reached along forward links, from the root or, for a coefficient, from the index itself: in a sound area they name
 // every held neighbour.
 ghost use mathlib.Core.Path.{_≡_};
@@ -11,12 +12,13 @@ ghost use Rattle.grid.specs.Terms.{IsReading};
 ghost use Rattle.grid.specs.Difference.{units, scaledDifference, scaledMean};
 ghost use Rattle.grid.specs.Tensor.{tensorSum, tensorRule};
 ghost use Rattle.grid.specs.Coefficient.{raisedOn, marks, coefficient as coefficientOf};
+ghost use Rattle.grid.specs.Cross.{crossTotal};
 ghost use Rattle.area.specs.Records.{recordsOf, heldIn};
 ghost use Rattle.area.specs.Lookup.{foundIn};
 ghost use Rattle.quadrature.specs.Readings.{recordAt, fetched};
 ghost use Rattle.quadrature.specs.Ready.{Ready, Stands, AllReady};
 ghost use Rattle.quadrature.specs.Linked.{deliveredIn, subsetTerm, Linked};
-ghost use Rattle.quadrature.specs.Parts.{leftAt, pointsLeft, walkLeft, deliveredDifference};
+ghost use Rattle.quadrature.specs.Parts.{leftAt, pointsLeft, walkLeft, deliveredDifference, combinedRule};
 
 // The reading with a rank in the block of the record at a place, times a weight.
 fn weighed_reading(place: usize, rank: usize, weight: i64, cells: &[u32], store: &[i32]) -> i64
@@ -302,6 +304,37 @@ pub fn difference_total(axes: usize, held: usize, cells: &[u32], store: &[i32]) 
     let mut place: usize = 0;
     while place < held {
         total += delivered_difference(axes, place, cells, store);
+        place += 1;
+    }
+    total
+}
+
+// The full tensor rule of the index at a place, times its combination coefficient and 2^20; 0 while the index is wanted.
+fn combined_rule(axes: usize, held: usize, place: usize, cells: &[u32], store: &[i32]) -> i64
+    requires { ⌜ Linked axes (heldIn (now cells) held) × (held * 27 ≤ length (now cells)) × (place < held) ⌝ }
+    requires { ⌜ (1 ≤ recordAt (recordsOf (now cells)) place .state → Ready axes (recordsOf (now cells)) (now store) (recordAt (recordsOf (now cells)) place .levels)) ⌝ }
+    ensures is { λ r. ⌜ r ≡ combinedRule (heldIn (now (cells .entry)) held) (recordsOf (now (cells .entry))) (now (store .entry)) place ⌝ }
+    ensures small { λ r. ⌜ natAbs r ≤ 2 ^ 48 ⌝ }
+{
+    let state = area::state_at(cells, place);
+    if state == area::WANTED {
+        0
+    } else {
+        let full = tensor_rule(axes, area::levels_at(cells, place), cells, store);
+        coefficient(axes, held, place, cells) * full
+    }
+}
+
+// The sum over the delivered indices among the held of coefficient times full tensor rule, times 2^20.
+pub fn combination_sum(axes: usize, held: usize, cells: &[u32], store: &[i32]) -> i64
+    requires { ⌜ AllReady axes held (recordsOf (now cells)) (now store) × Linked axes (heldIn (now cells) held) ⌝ }
+    ensures is { λ r. ⌜ r ≡ crossTotal (deliveredIn (heldIn (now (cells .entry)) held)) (fetched (recordsOf (now (cells .entry))) (now (store .entry))) ⌝ }
+    ensures small { λ r. ⌜ natAbs r ≤ length (deliveredIn (heldIn (now (cells .entry)) held)) * 2 ^ 48 ⌝ }
+{
+    let mut total: i64 = 0;
+    let mut place: usize = 0;
+    while place < held {
+        total += combined_rule(axes, held, place, cells, store);
         place += 1;
     }
     total
