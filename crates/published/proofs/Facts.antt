@@ -1,0 +1,72 @@
+-- The machine's steps are the lines of Fig. 1, proved.
+-- Assumes nothing.
+use mathlib.Core.Path.{_≡_, refl, ap₂, subst}
+use mathlib.Core.List.{[], _∷_, List·Memᴰ·not-nil}
+use Prim.Native.Nat.{ℕ, zero, suc, _<_, _≤_}
+use native.Mathlib.Nat.{zero-add}
+use native.Mathlib.Omega.{arith}
+use lib.IntN.{pos, +ℤ-idl}
+use Rattle.grid.specs.Index.{root}
+use Rattle.area.specs.Entry.{pendingOf}
+use Rattle.machine.specs.Promote.{promoted, promote}
+use Rattle.machine.specs.Steps.{started}
+use Rattle.machine.specs.Facts.{SoundMachine}
+use Rattle.machine.proofs.Facts.{step-facts}
+use Rattle.published.specs.Figure.{Problem, Figure, increment, before, joined, turns}
+use Rattle.published.specs.Turns.{supply, supplies, turnsOn, activeOf, Measured, StandsAt}
+use Rattle.published.specs.Facts.{PublishedFacts}
+use Rattle.published.proofs.Scans.{joinedAll}
+use Rattle.published.proofs.Joins.{Agrees, Waiting}
+use Rattle.published.proofs.Supplies.{supplies-join}
+use Rattle.published.proofs.Outcomes as Outcomes
+use Rattle.published.proofs.OneTurn as OneTurn
+
+-- ---- the lines before the loop: nothing yet, and then the root is joined
+
+pub nothing : Figure
+nothing = record { old = []; active = []; result = pos 0; estimate = 0 }
+
+module _ (P : Problem) where
+  nothing-agrees : Agrees P [] nothing
+  unfolding nothing activeOf pendingOf
+  nothing-agrees =
+      record {
+        supplied =
+            record { delivered = λ p h. absurd (omega arith); readings = λ p h. absurd (omega arith); indicators = λ p h. absurd (omega arith) };
+        old-there = λ k h. absurd (omega (arith, h .1 .place));
+        old-here = λ k h. absurd (List·Memᴰ·not-nil h);
+        active = refl;
+        pending = refl;
+      }
+
+  pub started-waits : (b : ℕ) → Waiting P (started (P .axes) (P .tolerance) b) [] (root ∷ []) nothing
+  unfolding started nothing
+  started-waits b = record { axes = refl; tolerance = refl; entries = refl; agrees = nothing-agrees; result = refl }
+
+  pub root-joined : joinedAll P (root ∷ []) nothing ≡ before P
+  unfolding joinedAll joined nothing before
+  root-joined = ap₂ {C = Figure} (λ r n. record { old = []; active = root ∷ []; result = r; estimate = n }) (+ℤ-idl (increment P root)) (zero-add (P .indicator root))
+
+  module _ (b : ℕ) (measured : Measured P) (d1 : 1 ≤ P .axes) (d8 : P .axes ≤ 8) (b1 : 1 ≤ b) (b8 : b ≤ 8192) where
+    begins-both : SoundMachine (turnsOn P b 0) × StandsAt P (turnsOn P b 0) (before P)
+    unfolding turnsOn supplies
+    begins-both =
+        subst (λ s. SoundMachine (supply P (started (P .axes) (P .tolerance) b)) × StandsAt P (supply P (started (P .axes) (P .tolerance) b)) s) root-joined
+        (supplies-join P measured (root ∷ []) (started (P .axes) (P .tolerance) b) [] nothing (step-facts .start (P .axes) (P .tolerance) b d1 d8 b1 b8) (started-waits b))
+
+    any-turns : (n : ℕ) → ((i : ℕ) → i < n → promote (turnsOn P b i .log) .outcome ≡ promoted) → SoundMachine (turnsOn P b n) × StandsAt P (turnsOn P b n) (turns P n)
+    unfolding turnsOn turns
+    any-turns zero all = begins-both
+    any-turns (suc n) all =
+        let x = any-turns n (λ i h. all i (omega arith)) in
+        OneTurn.one-turn P (turnsOn P b n) (turns P n) (x .0) (x .1) (all n (omega arith)) measured
+
+pub published-facts : PublishedFacts
+published-facts =
+    record {
+      begins = λ P b measured d1 d8 b1 b8. begins-both P b measured d1 d8 b1 b8 .1;
+      over = Outcomes.over;
+      goes-on = Outcomes.goes-on;
+      one-turn = λ P m s measured v at e. OneTurn.one-turn P m s v at e measured;
+      any-turns = λ P b n measured d1 d8 b1 b8. any-turns P b measured d1 d8 b1 b8 n;
+    }

@@ -1,0 +1,76 @@
+-- The difference of a delivered index, over entries that have the integrand's readings, is the integral increment of Fig. 1.
+-- The idea: the difference takes only readings of blocks nowhere higher. These are all delivered, so they are the integrand's values at
+-- the blocks' points.
+-- Assumes nothing.
+use mathlib.Core.Path.{_≡_, refl, sym, ap, _∙_}
+use mathlib.Core.Logic.{_⊎_, inl, inr}
+use mathlib.Core.Bool.{true}
+use mathlib.Core.List.{List, [], _∷_, map}
+use Prim.Native.Nat.{ℕ, zero, suc, _-_, _^_, _<_, _≤_}
+use native.Mathlib.Omega.{arith}
+use lib.IntN.{ℤ, pos, _*ℤ_}
+use lib.ListN.{length, getD}
+use Rattle.grid.specs.Index.{Index, levelsWithin}
+use Rattle.grid.specs.Block.{block, blockSize, pointOf}
+use Rattle.grid.specs.Difference.{units, scaledDifference}
+use Rattle.grid.specs.Terms.{Agree, sampled}
+use Rattle.grid.proofs.Levels.{levels-back, within-levels}
+use Rattle.grid.proofs.Members.{same-refl}
+use Rattle.grid.proofs.Facts.{block-facts, difference-facts}
+use Rattle.area.specs.Entry.{Entry, readingsOf, readingIn}
+use Rattle.encoding.specs.Entries.{entryAt, Has, EnteredOld, SoundEntries}
+use Rattle.machine.proofs.Sets.{Different}
+use Rattle.published.specs.Figure.{Problem, increment}
+use Rattle.published.proofs.Retires.{same-no}
+use Rattle.published.proofs.Below.{entered-below}
+
+-- ---- the values at a block's points
+
+pub value-at : (f : List ℕ → ℤ) (xs : List (List ℕ)) (n : ℕ) → n < length xs → getD (map f xs) n (pos 0) ≡ f (getD xs n [])
+value-at f [] n h = absurd (omega arith)
+value-at f (x ∷ xs) zero h = refl
+value-at f (x ∷ xs) (suc n) h = value-at f xs n (omega arith)
+
+block-value : (f : List ℕ → ℤ) (l : List ℕ) (n : ℕ) → n < blockSize l → getD (map f (block l)) n (pos 0) ≡ f (pointOf l n)
+block-value f l n h = value-at f (block l) n (omega (arith, block-facts .size l)) ∙ ap f (block-facts .nth l n h)
+
+-- ---- the readings of an entered index
+
+pub readings-at : (es : List Entry) (p : ℕ) → Different es → p < length es → readingsOf es (entryAt es p .levels) ≡ entryAt es p .readings
+unfolding readingsOf
+readings-at [] p u h = absurd (omega arith)
+readings-at (e ∷ es) zero u h = rw (same-refl (e .levels))
+readings-at (e ∷ es) (suc p) u h =
+    rw (same-no (e .levels) (entryAt es p .levels) (λ i. let z : 0 ≡ suc p = u 0 (suc p) (omega arith) h i in omega arith))
+    (readings-at es p (λ q r hq hr i. let z : suc q ≡ suc r = u (suc q) (suc r) (omega arith) (omega arith) i in omega arith) (omega arith))
+
+module _ (P : Problem) {d b : ℕ} {m : ℤ} {es : List Entry} (v : SoundEntries d b m es)
+    (given : (p : ℕ) → p < length es → 1 ≤ entryAt es p .state → entryAt es p .readings ≡ map (P .integrand) (block (entryAt es p .levels))) where
+  abbrev f : List ℕ → ℤ
+  f = P .integrand
+
+  reading-at : (l : List ℕ) (p n : ℕ) → Has es l p → 1 ≤ entryAt es p .state → n < blockSize l → readingIn es l n ≡ sampled f l n
+  unfolding readingIn sampled
+  reading-at l p n h s q =
+      ap (λ k. getD (readingsOf es k) n (pos 0)) (sym (h .same))
+      ∙ ap (λ rs. getD rs n (pos 0)) (readings-at es p (v .different) (h .place))
+      ∙ ap (λ rs. getD rs n (pos 0)) (given p (h .place) s)
+      ∙ ap (λ k. getD (map f (block k)) n (pos 0)) (h .same)
+      ∙ block-value f l n q
+
+  module _ (k : List ℕ) (p : ℕ) (at : Has es k p) (delivered : 1 ≤ entryAt es p .state) (index : Index d k) where
+    agrees : Agree k (readingIn es) (sampled f)
+    agrees l n w q = step (entered-below v k l (p, at) w)
+      where
+        step : (l ≡ k) ⊎ EnteredOld es l → readingIn es l n ≡ sampled f l n
+        step (inl e) = reading-at l p n (record { place = at .place; same = at .same ∙ sym e }) delivered q
+        step (inr o) = reading-at l (o .0) n (o .1) (omega (arith, o .2)) q
+
+    levels-within : levelsWithin k ≡ true
+    levels-within = levels-back k (within-levels k (index .ceilings))
+
+    pub increment-is : scaledDifference k (readingIn es) ≡ increment P k
+    unfolding scaledDifference increment
+    increment-is =
+        difference-facts .difference-only k (readingIn es) (sampled f) agrees
+        ∙ ap (λ x. pos (2 ^ (20 - units k)) *ℤ x) (difference-facts .difference-sampled k f levels-within)

@@ -1,0 +1,15 @@
+-- Proofs of the facts about the published algorithm.
+pub mod Selects
+pub mod Retires
+pub mod Scans
+pub mod Below
+pub mod Increments
+pub mod Joins
+pub mod Supplies
+pub mod Outcomes
+pub mod OneTurn
+pub mod Sampling
+pub mod Problems
+pub mod Sums
+pub mod Facts
+pub mod Moments

@@ -1,0 +1,43 @@
+-- Whatever readings and indicators sound entries have, where none is wanted, they are a problem's.
+-- The idea: the readings are an integrand's, and no index is entered twice, so the indicator of an index is that of the entry that has it.
+-- Assumes nothing.
+use mathlib.Core.Path.{_≡_, refl, sym}
+use mathlib.Core.Bool.{cond}
+use mathlib.Core.List.{List, [], _∷_}
+use Prim.Native.Nat.{ℕ, zero, suc, _<_, _≤_}
+use native.Mathlib.Omega.{arith}
+use lib.IntN.{ℤ}
+use lib.ListN.{length}
+use Rattle.grid.specs.Coefficient.{sameLevels}
+use Rattle.grid.proofs.Members.{same-refl}
+use Rattle.area.specs.Entry.{Entry}
+use Rattle.encoding.specs.Entries.{entryAt, SoundEntries}
+use Rattle.machine.proofs.Sets.{Different}
+use Rattle.published.specs.Figure.{Problem}
+use Rattle.published.specs.Turns.{Measured, Supplied}
+use Rattle.published.proofs.Retires.{same-no}
+use Rattle.published.proofs.Sampling.{sampling}
+
+-- the indicator of the first entry that has the index
+indicatorOf : List Entry → List ℕ → ℕ
+indicatorOf [] k = 0
+indicatorOf (e ∷ es) k = cond (sameLevels (e .levels) k) (e .indicator) (indicatorOf es k)
+
+indicator-at : (es : List Entry) (p : ℕ) → Different es → p < length es → indicatorOf es (entryAt es p .levels) ≡ entryAt es p .indicator
+unfolding indicatorOf
+indicator-at [] p u h = absurd (omega arith)
+indicator-at (e ∷ es) zero u h = rw (same-refl (e .levels))
+indicator-at (e ∷ es) (suc p) u h =
+    rw (same-no (e .levels) (entryAt es p .levels) (λ i. let z : 0 ≡ suc p = u 0 (suc p) (omega arith) h i in omega arith))
+    (indicator-at es p (λ q r hq hr i. let z : suc q ≡ suc r = u (suc q) (suc r) (omega arith) (omega arith) i in omega arith) (omega arith))
+
+module _ {d b : ℕ} {m : ℤ} {es : List Entry} (v : SoundEntries d b m es) (all : (p : ℕ) → p < length es → 1 ≤ entryAt es p .state) where
+  pub posed : (t : ℕ) → (P : Problem) × (P .axes ≡ d) × (P .tolerance ≡ t) × Measured P × Supplied P es
+  posed t =
+      let x = sampling v in (
+        record { axes = d; tolerance = t; integrand = x .0 .integrand; indicator = indicatorOf es },
+        refl,
+        refl,
+        x .2,
+        record { delivered = all; readings = λ p h. x .3 p h (all p h); indicators = λ p h. sym (indicator-at es p (v .different) h) },
+      )

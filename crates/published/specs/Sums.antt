@@ -1,0 +1,27 @@
+-- The mean at any moment, also between the turns: Fig. 1's own account of r, the sum of the increments over 𝒪 ∪ 𝒜.
+use mathlib.Core.Path.{_≡_}
+use mathlib.Core.List.{List, map, List·Memᴰ}
+use Prim.Native.Nat.{ℕ, _<_, _≤_}
+use lib.IntN.{ℤ}
+use lib.ListN.{length}
+use Rattle.sums.specs.Sums.{sumOf}
+use Rattle.grid.specs.Block.{block}
+use Rattle.grid.specs.Difference.{scaledDifference}
+use Rattle.area.specs.Entry.{Entry, deliveredOf, readingIn}
+use Rattle.encoding.specs.Entries.{entryAt, SoundEntries}
+use Rattle.machine.specs.Means.{meanOf}
+use Rattle.published.specs.Figure.{Problem, increment}
+use Rattle.published.specs.Turns.{Measured}
+
+-- Every delivered entry has the integrand's readings, in the block's order.
+abbrev pub Read : Problem → List Entry → Type 0
+Read P es = (p : ℕ) → p < length es → 1 ≤ entryAt es p .state → entryAt es p .readings ≡ map (P .integrand) (block (entryAt es p .levels))
+
+pub record SumFacts : Type 0 where
+  -- the difference of each delivered index is the integrand's increment
+  pub difference : (d b : ℕ) (m : ℤ) (es : List Entry) (P : Problem) → SoundEntries d b m es → Read P es → (k : List ℕ) → List·Memᴰ k (deliveredOf es)
+      → scaledDifference k (readingIn es) ≡ increment P k
+  -- so the scaled mean is the sum of the increments over the delivered indices, old and active
+  pub sum : (d b : ℕ) (m : ℤ) (es : List Entry) (P : Problem) → SoundEntries d b m es → Read P es → meanOf es ≡ sumOf (deliveredOf es) (increment P)
+  -- a point is new in one block only, so whatever the readings are, they are some integrand's
+  pub some : (d b : ℕ) (m : ℤ) (es : List Entry) → SoundEntries d b m es → (P : Problem) × (P .axes ≡ d) × Measured P × Read P es

@@ -1,0 +1,1 @@
+// The published algorithm, and that the machine follows it. No functions.
