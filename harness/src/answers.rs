@@ -2,7 +2,7 @@
 //! reference, with the same slots for what it gives back, so that both sides'
 //! answers can be compared word for word.
 
-use crate::calls::{self, CountWords, OutcomeWord};
+use crate::calls::{self, CountWords, OutcomeWord, TotalWords};
 use crate::lent::Loan;
 use reference::area::Area;
 use reference::call::{self, Answer, Call};
@@ -23,6 +23,7 @@ pub enum Said {
 pub struct Slots {
     pub outcome: OutcomeWord,
     pub counts: CountWords,
+    pub total: TotalWords,
     pub buffer: Vec<u8>,
 }
 
@@ -34,8 +35,8 @@ pub fn of_library(loan: Loan, call: &Call, slots: &mut Slots) -> Said {
         Call::Deliver { readings, indicator } => calls::deliver(loan, readings, *indicator),
         Call::Promote => calls::promote(loan, &mut slots.outcome),
         Call::Result => calls::result(loan, &mut slots.counts),
+        Call::CrossTotal => calls::cross_total(loan, &mut slots.total),
         Call::Check => return Said::Sound(calls::check_loan(&loan)),
-        Call::CrossTotal => unimplemented!("the library doesn't export the cross total"),
     })
 }
 
@@ -46,6 +47,7 @@ pub fn of_reference(area: &mut Area, call: &Call, slots: &mut Slots) -> Answer {
     match &answer {
         Answer::Promotion(promotion) => slots.outcome = [outcome_word(*promotion)],
         Answer::Totals(totals) => slots.counts = count_words(totals),
+        Answer::CrossTotal(total) => slots.total = total_words(*total),
         _ => {}
     }
     answer
@@ -74,4 +76,8 @@ pub fn count_words(totals: &Totals) -> CountWords {
     let high = |wide: u64| (wide >> 32) as u32;
     let mean = mean as u64;
     [low(pending), high(pending), low(mean), high(mean), old, active, wanted, reserved, ceiling]
+}
+
+pub fn total_words(total: i64) -> TotalWords {
+    [total as u32, (total >> 32) as u32]
 }

@@ -1,4 +1,4 @@
-//! The exported calls, each behind a safe function. The five that can be
+//! The exported calls, each behind a safe function. The six that can be
 //! refused give 0 or the number of the cause. Storage that a call is lent
 //! shared must come back as it was; the functions assert that.
 
@@ -12,9 +12,11 @@ pub type OutcomeWord = [u32; 1];
 /// Result's words: pending error and mean, the low word of each first, then
 /// old, active, wanted, reserved and ceiling.
 pub type CountWords = [u32; 9];
+/// Cross total's words, the low word first.
+pub type TotalWords = [u32; 2];
 
 mod exported {
-    use super::{CountWords, OutcomeWord};
+    use super::{CountWords, OutcomeWord, TotalWords};
     use crate::lent::JobWords;
 
     // Slices in these signatures are what the archive's functions take, too.
@@ -55,6 +57,13 @@ mod exported {
         pub fn wihupya_result(
             job: &JobWords,
             counts: &mut CountWords,
+            cells: &[u32],
+            store: &[i32],
+        ) -> u32;
+
+        pub fn wihupya_cross_total(
+            job: &JobWords,
+            total: &mut TotalWords,
             cells: &[u32],
             store: &[i32],
         ) -> u32;
@@ -118,6 +127,13 @@ pub fn result(loan: Loan, counts: &mut CountWords) -> u32 {
     let kept = Kept::of(&loan);
     let number = unsafe { exported::wihupya_result(loan.job, counts, loan.cells, loan.store) };
     kept.assert_as_it_was("result", &loan);
+    number
+}
+
+pub fn cross_total(loan: Loan, total: &mut TotalWords) -> u32 {
+    let kept = Kept::of(&loan);
+    let number = unsafe { exported::wihupya_cross_total(loan.job, total, loan.cells, loan.store) };
+    kept.assert_as_it_was("cross total", &loan);
     number
 }
 

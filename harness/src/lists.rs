@@ -51,7 +51,19 @@ impl List {
             format!("{} lent {part:?} of {:?}: {fault}", described(&call), self.pair.whole())
         })?;
         self.note(&call, part, &answer, seen);
-        Ok(())
+        self.cross(&answer)
+    }
+
+    /// In a job that only the calls have carried on, the recorded mean is the
+    /// one that is worked from the readings.
+    fn cross(&self, answer: &Answer) -> Result<(), String> {
+        let mean = self.pair.area().job.mean;
+        match answer {
+            Answer::CrossTotal(total) if !self.altered && *total != mean => {
+                Err(format!("the cross total is {total} where the calls have recorded {mean}"))
+            }
+            _ => Ok(()),
+        }
     }
 
     /// Alters a sound area now and then. One that is broken by it may be put
@@ -115,8 +127,9 @@ impl List {
             26..=39 => chooser.damaged_deliver(wanted),
             40..=51 => self.deliver_or_any(wanted),
             52..=65 => Call::Promote,
-            66..=80 => Call::Result,
-            81..=93 => Call::Check,
+            66..=75 => Call::Result,
+            76..=83 => Call::CrossTotal,
+            84..=93 => Call::Check,
             _ => chooser.damaged_start(),
         }
     }
@@ -164,6 +177,7 @@ impl List {
         Slots {
             outcome: [rng.number() as u32],
             counts: std::array::from_fn(|_| rng.number() as u32),
+            total: std::array::from_fn(|_| rng.number() as u32),
             buffer: (0..length).map(|_| rng.number() as u8).collect(),
         }
     }

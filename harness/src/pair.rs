@@ -48,6 +48,7 @@ impl Pair {
         same("the answer", said, answers::said(&answer))?;
         same("the outcome word", by_library.outcome, by_reference.outcome)?;
         same_each("count word", &by_library.counts, &by_reference.counts)?;
+        same_each("total word", &by_library.total, &by_reference.total)?;
         same_each("byte of the buffer", &by_library.buffer, &by_reference.buffer)?;
         self.same_areas()?;
         Ok(answer)

@@ -13,12 +13,13 @@ use std::fmt::{self, Display, Formatter};
 pub const LONG_RUN: u64 = 200_000;
 
 /// Every number that a call can be refused with.
-pub const REFUSALS: [(&str, &[u32]); 5] = [
+pub const REFUSALS: [(&str, &[u32]); 6] = [
     ("start", &[1, 2, 3]),
     ("point", &[3, 4, 5, 9]),
     ("deliver", &[3, 4, 5, 7, 8]),
     ("promote", &[3, 4, 6]),
     ("result", &[3, 4]),
+    ("cross total", &[3, 4]),
 ];
 
 const OUTCOMES: [&str; 6] = [
@@ -38,6 +39,10 @@ const LENT: [&str; 5] = [
     "lent a buffer of just d bytes",
     "lent a buffer longer than d",
 ];
+
+/// One other than the recorded mean takes an altered area.
+const CROSS_TOTALS: [&str; 2] =
+    ["cross totals other than the recorded mean", "cross totals below 0"];
 
 /// What a call was made on; the area is as the call left it.
 pub struct Circumstances<'a> {
@@ -89,6 +94,7 @@ impl Seen {
             Answer::Started => self.count(format!("jobs of {} axes", on.area.job.axes)),
             Answer::Promotion(promotion) => self.note_promotion(*promotion, on.area),
             Answer::Totals(totals) => self.highest("ceiling count", totals.ceiling),
+            Answer::CrossTotal(total) => self.note_cross_total(*total, on.area),
             _ => {}
         }
         if on.altered {
@@ -117,6 +123,15 @@ impl Seen {
         }
     }
 
+    fn note_cross_total(&mut self, total: i64, area: &Area) {
+        let so = [total != area.job.mean, total < 0];
+        for (what, _) in CROSS_TOTALS.into_iter().zip(so).filter(|(_, seen)| *seen) {
+            self.count(what);
+        }
+        let delivered = area.held().iter().filter(|record| record.is_delivered()).count();
+        self.highest("delivered at a cross total", delivered as u32);
+    }
+
     fn note_promotion(&mut self, promotion: Promotion, area: &Area) {
         let outcome = match promotion {
             Promotion::Met => "met",
@@ -137,7 +152,8 @@ impl Seen {
 
     /// What a long run has to see and this one didn't.
     pub fn missing(&self) -> Vec<String> {
-        let mut due: Vec<String> = OUTCOMES.iter().chain(&LENT).map(|s| s.to_string()).collect();
+        let mut due: Vec<String> =
+            OUTCOMES.iter().chain(&LENT).chain(&CROSS_TOTALS).map(|s| s.to_string()).collect();
         for (call, numbers) in REFUSALS {
             due.push(format!("accepted {call}"));
             due.extend(numbers.iter().map(|number| format!("refused {number} by {call}")));
@@ -176,7 +192,7 @@ mod tests {
     #[test]
     fn a_run_that_saw_nothing_lacks_everything() {
         let refusals: usize = REFUSALS.iter().map(|(_, numbers)| 1 + numbers.len()).sum();
-        let due = OUTCOMES.len() + LENT.len() + refusals + 8 + 3 + 2;
+        let due = OUTCOMES.len() + LENT.len() + CROSS_TOTALS.len() + refusals + 8 + 3 + 2;
         assert_eq!(Seen::default().missing().len(), due);
     }
 }

@@ -4,10 +4,12 @@
 
 mod support;
 
+use harness::answers;
 use harness::calls;
 use harness::lent::{Lent, Part};
 use reference::area::WORDS;
 use reference::call::Call;
+use reference::sample;
 use support::*;
 
 #[test]
@@ -16,6 +18,7 @@ fn before_the_first_delivery_the_scaled_mean_is_0() {
         let mut lent = started(axes, 40, 64);
         assert!(calls::check_lent(&mut lent));
         assert_eq!(counts(&mut lent), [0, 0, 0, 0, 0, 0, 1, 1, 0]);
+        assert_eq!(cross_total(&mut lent), 0);
     }
 }
 
@@ -72,7 +75,53 @@ fn the_example_job_is_met_with_its_counts_and_scaled_mean() {
     assert_eq!(entries.next(), None);
     let mean = 5_972_688_896u64;
     assert_eq!(counts(&mut lent), [10, 0, mean as u32, (mean >> 32) as u32, 2, 2, 0, 7, 0]);
+    assert_eq!(cross_total(&mut lent), mean as i64);
     assert!(calls::check_lent(&mut lent));
+}
+
+#[test]
+fn a_negative_cross_total_has_the_words_of_a_negative_mean() {
+    for reading in [-1, -4_160, -1_048_576] {
+        let mut lent = started(3, 0, 64);
+        deliver(&mut lent, &[reading], 1);
+        let mean = i64::from(reading) << 20;
+        assert_eq!(cross_total(&mut lent), mean);
+        assert_eq!(counts(&mut lent)[2..4], answers::total_words(mean));
+    }
+}
+
+#[test]
+fn after_a_job_the_cross_total_is_the_mean_of_result() {
+    for seed in 0..200 {
+        let area = sample::area(seed);
+        let mut lent = Lent::of(&area);
+        let total = cross_total(&mut lent);
+        assert_eq!(counts(&mut lent)[2..4], answers::total_words(total), "seed {seed}");
+        assert_eq!(Ok(total), reference::calls::cross_total(&area), "seed {seed}");
+    }
+}
+
+#[test]
+fn where_the_recorded_mean_is_altered_the_cross_total_is_not() {
+    let mut others = 0;
+    for seed in 0..200 {
+        let before = sample::area(seed);
+        let delivered = before.held().iter().filter(|record| record.is_delivered()).count() as i64;
+        // In range, so the area is still sound; in a job with nothing
+        // delivered 0 is the only mean that is.
+        for mean in [delivered << 40, -delivered << 40, before.job.mean / 2, 0] {
+            let mut area = before.clone();
+            area.job.mean = mean;
+            let mut lent = Lent::of(&area);
+            assert!(calls::check_lent(&mut lent), "seed {seed}");
+            assert_eq!(counts(&mut lent)[2..4], answers::total_words(mean), "seed {seed}");
+            let total = cross_total(&mut lent);
+            assert_eq!(total, before.job.mean, "seed {seed}");
+            assert_eq!(Ok(total), reference::calls::cross_total(&area), "seed {seed}");
+            others += u32::from(total != mean);
+        }
+    }
+    assert!(others > 400, "{others}");
 }
 
 /// The example's readings are x squared plus y at the points asked for.
@@ -113,6 +162,7 @@ fn each_call() -> Vec<(Lent, Call)> {
         (wanting_two(), delivery(&[64, 16_448])),
         (wanting_nothing(), Call::Promote),
         (wanting_two(), Call::Result),
+        (wanting_two(), Call::CrossTotal),
     ]
 }
 

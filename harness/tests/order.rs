@@ -31,7 +31,7 @@ fn the_budget_comes_before_the_storage() {
 
 #[test]
 fn the_storage_comes_before_the_area() {
-    for call in [point(0), delivery(&[1, 2]), Call::Promote, Call::Result] {
+    for call in [point(0), delivery(&[1, 2]), Call::Promote, Call::Result, Call::CrossTotal] {
         let mut lent = altered(wanting_two());
         for part in [short_of_records(&lent), short_of_readings(&lent, 64)] {
             refused_in(&mut lent, part, &call, 3);

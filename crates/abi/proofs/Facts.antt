@@ -9,8 +9,12 @@ use mir.Syntax.{w64}
 use mir.Val.{SFits, toZ, ofZ}
 use mir.ValLaws.{ofZ-toZ}
 use Rattle.sums.specs.Lists.{tab}
-use Rattle.sums.proofs.Words.{back}
+use Rattle.sums.proofs.Words.{back, mag-le}
 use Rattle.area.specs.declared.JobRecord.{JobRecord}
+use Rattle.area.specs.Encoding.{Area, heldOf}
+use Rattle.quadrature.specs.Readings.{recordAt}
+use Rattle.soundness.specs.Sound.{Sound}
+use Rattle.encoding.proofs.Facts.{range-facts}
 use Rattle.abi.specs.Words.{word, wide, jobOf, lowWord, highWord, wordsOf}
 use Rattle.abi.specs.Facts.{WordFacts}
 
@@ -41,6 +45,12 @@ job-again j h k f =
       mean = (ap (toZ w64) (both (ofZ w64 (j .mean))) ∙ back (j .mean) f) i;
     }
 
+-- in a sound area pending error and mean have room in 64 bits
+sound-again : (a : Area) → Sound a → a .job .threshold < 2 ^ 64 → ((p : ℕ) → p < length (heldOf a) → recordAt (heldOf a) p .indicator < 2 ^ 32)
+    → jobOf (wordsOf (a .job)) ≡ a .job
+sound-again a s h k =
+    job-again (a .job) h (omega (arith, range-facts .pending a s k)) (record { sfits = omega (arith, mag-le (a .job .mean), range-facts .mean a s) })
+
 -- a list is what is read from it
 read-all : (w : List ℕ) → tab (length w) (λ i. getD w i 0) ≡ w
 unfolding tab
@@ -69,4 +79,4 @@ module _ (w : List ℕ) (ten : length w ≡ 10) (small : (i : ℕ) → word w i 
       ∙ (ap (λ n. tab n (λ i. getD w i 0)) (sym ten) ∙ read-all w)
 
 pub word-facts : WordFacts
-word-facts = record { words-again = words-again; job-again = job-again }
+word-facts = record { words-again = words-again; job-again = job-again; sound-again = sound-again }

@@ -6,6 +6,9 @@ use lib.ListN.{length}
 use mir.Syntax.{w64}
 use mir.Val.{SFits}
 use Rattle.area.specs.declared.JobRecord.{JobRecord}
+use Rattle.area.specs.Encoding.{Area, heldOf}
+use Rattle.quadrature.specs.Readings.{recordAt}
+use Rattle.soundness.specs.Sound.{Sound}
 use Rattle.abi.specs.Words.{word, jobOf, wordsOf}
 
 pub record WordFacts : Type 0 where
@@ -13,3 +16,7 @@ pub record WordFacts : Type 0 where
   pub words-again : (w : List ℕ) → length w ≡ 10 → ((i : ℕ) → word w i < 2 ^ 32) → wordsOf (jobOf w) ≡ w
   -- a job record, written as words and read again
   pub job-again : (j : JobRecord) → j .threshold < 2 ^ 64 → j .pending < 2 ^ 64 → SFits w64 (j .mean) → jobOf (wordsOf j) ≡ j
+  -- so the job record that one exported call leaves in a sound area is the one that the next finds (cells are 32-bit numbers, and the
+  -- threshold comes as a 64-bit number), and what `history` says of every list of calls carries over to the exported ones
+  pub sound-again : (a : Area) → Sound a → a .job .threshold < 2 ^ 64 → ((p : ℕ) → p < length (heldOf a) → recordAt (heldOf a) p .indicator < 2 ^ 32)
+      → jobOf (wordsOf (a .job)) ≡ a .job

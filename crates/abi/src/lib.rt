@@ -1,6 +1,6 @@
-// The calls but cross total, exported for C and Rust: the proved functions, with nothing asked of what the storage holds. A job record
-// is ten words (specs/Words.antt). The length of cells counts words, 27 to a record; that of the store counts readings. A call returns 0
-// if it was not refused, else the number of the cause. In C:
+// The calls, exported for C and Rust: the proved functions, with nothing asked of what the storage holds. A job record is ten words
+// (specs/Words.antt). The length of cells counts words, 27 to a record; that of the store counts readings. A call returns 0 if it was
+// not refused, else the number of the cause. In C:
 //     bool     wihupya_check(const uint32_t job[10], const uint32_t *cells, size_t words, const int32_t *store, size_t readings);
 //     uint32_t wihupya_start(uint32_t job[10], uint32_t axes, uint64_t threshold, uint32_t budget, uint32_t *cells, size_t words,
 //                            const int32_t *store, size_t readings);
@@ -12,6 +12,8 @@
 //                              size_t readings);
 //     uint32_t wihupya_result(const uint32_t job[10], uint32_t counts[9], const uint32_t *cells, size_t words, const int32_t *store,
 //                             size_t readings);
+//     uint32_t wihupya_cross_total(const uint32_t job[10], uint32_t total[2], const uint32_t *cells, size_t words,
+//                                  const int32_t *store, size_t readings);
 ghost use mathlib.Core.Path.{_≡_};
 ghost use mathlib.Core.List.{[]};
 ghost use Prim.Native.Nat.{_+_, _*_, _^_};
@@ -21,10 +23,10 @@ ghost use Rattle.area.specs.Encoding.{areaOf};
 ghost use Rattle.soundness.specs.Clauses.{checked};
 ghost use Rattle.area.specs.Records.{runOf};
 ghost use Rattle.counting.specs.Answer.{countsIn};
-ghost use Rattle.calls.specs.Replies.{counts as countsReply, replyOf};
-ghost use Rattle.calls.specs.Calls.{startCall, pointCall, deliverCall, promoteCall, resultCall};
+ghost use Rattle.calls.specs.Replies.{counts as countsReply, total as totalReply, replyOf};
+ghost use Rattle.calls.specs.Calls.{startCall, pointCall, deliverCall, promoteCall, resultCall, crossCall};
 ghost use Rattle.abi.specs.Words.{jobOf, lowWord, highWord, wordsOf};
-ghost use Rattle.abi.specs.Exports.{numberOf, exported, outcomeAfter, countsAfter};
+ghost use Rattle.abi.specs.Exports.{numberOf, exported, outcomeAfter, countsAfter, totalAfter};
 
 // Two words as a 64-bit number.
 fn wide(low: u32, high: u32) -> u64
@@ -148,6 +150,17 @@ fn count_words(counts: counting::Counts) -> [u32; 9]
     words
 }
 
+// A total as two words.
+fn total_words(total: i64) -> [u32; 2]
+    ensures { λ r. ⌜ r ≡ totalAfter (totalReply total) [] ⌝ }
+{
+    let bits = bits_of(total);
+    let mut words = [0u32; 2];
+    words[0] = low_word(bits);
+    words[1] = high_word(bits);
+    words
+}
+
 // Whether the area is sound and lies in storage that is long enough.
 #[no_mangle]
 pub extern "C" fn wihupya_check(job: &[u32; 10], cells: &[u32], store: &[i32]) -> bool
@@ -242,6 +255,26 @@ pub extern "C" fn wihupya_result(
         calls::Resulted::Refused(number) => number,
         calls::Resulted::Counted(found) => {
             *counts = count_words(found);
+            0
+        }
+    }
+}
+
+// The scaled mean worked out from the readings.
+#[no_mangle]
+pub extern "C" fn wihupya_cross_total(
+    job: &[u32; 10],
+    total: &mut [u32; 2],
+    cells: &[u32],
+    store: &[i32],
+) -> u32
+    ensures { λ r. ⌜ (r ≡ numberOf (crossCall (areaOf (jobOf (now (job .entry))) (now (cells .entry)) (now (store .entry))))) × (now (total .exit) ≡ totalAfter (crossCall (areaOf (jobOf (now (job .entry))) (now (cells .entry)) (now (store .entry)))) (now (total .entry))) ⌝ }
+{
+    let totalled = calls::cross_total(job_of(job), cells, store);
+    match totalled {
+        calls::Totalled::Refused(number) => number,
+        calls::Totalled::Total(found) => {
+            *total = total_words(found);
             0
         }
     }

@@ -19,15 +19,16 @@ use Rattle.machine.specs.Counts.{Counts}
 use Rattle.machine.specs.Areas.{startOn, deliverOn, promoteOn}
 use Rattle.machine.specs.Steps.{started, deliver, promoteStep}
 use Rattle.writing.specs.Settled.{Settled}
-use Rattle.calls.specs.Replies.{refused, accepted, promotion, counts, lengthsOf, Called}
-use Rattle.calls.specs.Calls.{startCall, pointCall, deliverCall, promoteCall, resultCall}
+use Rattle.calls.specs.Replies.{refused, accepted, promotion, counts, total, lengthsOf, Called}
+use Rattle.calls.specs.Calls.{startCall, pointCall, deliverCall, promoteCall, resultCall, crossCall}
 use Rattle.calls.specs.Facts.{PastUnchanged, CallFacts}
 use Rattle.calls.proofs.Refusing.{start-accepts, start-refuses}
 use Rattle.calls.proofs.Numbers.{start-number, point-number, deliver-number, promote-number, result-number}
 use Rattle.calls.proofs.Buffers.{laid-length, laid-later}
-use Rattle.calls.proofs.Ways.{start-ways, point-ways, deliver-ways, promote-ways, result-ways}
+use Rattle.calls.proofs.Ways.{start-ways, point-ways, deliver-ways, promote-ways, result-ways, cross-ways}
 use Rattle.calls.proofs.Outcomes.{idle-area}
 use Rattle.calls.proofs.Written.{written-past}
+use Rattle.calls.proofs.Told.{cross-mean, result-recorded}
 use Rattle.calls.proofs.Left.{started-settled, started-state, started-lengths, started-store, started-same, delivered-settled, delivered-state, delivered-lengths, delivered-outside, delivered-stored, promoted-settled, promoted-state, promoted-lengths, promoted-store, promoted-past}
 
 -- ---- a refusal has its cause's number
@@ -43,6 +44,9 @@ promotion-not o n e = let z : _≡_ {A = ℕ} 0 1 = cc in omega arith
 
 counts-not : (c : Counts) (n : ℕ) → counts c ≡ refused n → ⊥
 counts-not c n e = let z : _≡_ {A = ℕ} 0 1 = cc in omega arith
+
+total-not : (x : ℤ) (n : ℕ) → total x ≡ refused n → ⊥
+total-not x n e = let z : _≡_ {A = ℕ} 0 1 = cc in omega arith
 
 itself : (a : Area) → PastUnchanged a a
 itself a = record { records = refl; rest = refl }
@@ -152,7 +156,7 @@ module _ (a : Area) (rs : List ℤ) (i : ℕ) where
         deliver-ways (λ x. x .reply ≡ accepted → getD (x .area .store) (first + n) (pos 0) ≡ getD rs n (pos 0)) a rs i
         (λ none f. delivered-stored a formed rs i none n h) (λ some f. absurd (accepted-not _ (sym f))) e
 
--- ---- promote and result
+-- ---- promote, result and cross total
 
 module _ (a : Area) where
   promote-refused : (n : ℕ) → promoteCall a .reply ≡ refused n → (promoteCall a .area ≡ a) × List·Memᴰ n (3 ∷ 4 ∷ 6 ∷ [])
@@ -183,6 +187,11 @@ module _ (a : Area) where
       result-ways (λ x. x ≡ refused n → List·Memᴰ n (3 ∷ 4 ∷ [])) a (λ none e. absurd (counts-not _ n e))
       (λ some e. refused-number _ n _ (result-number (lengthsOf a) (isSound a) (machineOf a .log) some) e)
 
+  cross-refused : (n : ℕ) → crossCall a ≡ refused n → List·Memᴰ n (3 ∷ 4 ∷ [])
+  cross-refused n =
+      cross-ways (λ x. x ≡ refused n → List·Memᴰ n (3 ∷ 4 ∷ [])) a (λ none e. absurd (total-not _ n e))
+      (λ some e. refused-number _ n _ (result-number (lengthsOf a) (isSound a) (machineOf a .log) some) e)
+
 pub call-facts : CallFacts
 call-facts =
     record {
@@ -198,6 +207,9 @@ call-facts =
       deliver-refused = deliver-refused;
       promote-refused = promote-refused;
       result-refused = result-refused;
+      cross-refused = cross-refused;
+      cross-mean = cross-mean;
+      result-recorded = result-recorded;
       start-lengths = start-lengths;
       deliver-lengths = deliver-lengths;
       promote-lengths = λ a formed. promote-ways (λ x. lengthsOf (x .area) ≡ lengthsOf a) a (promoted-lengths a formed) (λ some. refl);

@@ -3,12 +3,10 @@
 -- Assumes nothing.
 use mathlib.Core.Path.{_≡_, refl, sym, ap, _∙_}
 use mathlib.Core.Logic.{_⊎_, inl, inr}
-use mathlib.Core.Bool.{true, _&&_}
+use mathlib.Core.Bool.{true}
 use mathlib.Core.List.{List, [], _∷_, _++_}
 use Prim.Native.Nat.{ℕ, suc, _+_, _<_, _≤_}
 use native.Mathlib.Omega.{arith}
-use borrow.Author.Tests.{not-false}
-use lib.Dec.{leb}
 use lib.IntN.{ℤ, pos, natAbs}
 use lib.ListN.{length, getD, set, take, drop, length-append, length-set, List·getD-append}
 use lib.Seq.{sets, sets-eq, length-sets, length-take-le, getD-set-other, getD-append-add}
@@ -20,8 +18,7 @@ use Rattle.quadrature.specs.Readings.{recordAt}
 use Rattle.soundness.specs.Clauses.{isSound}
 use Rattle.soundness.specs.Held.{levelsAt}
 use Rattle.soundness.specs.Totals.{readingTest}
-use Rattle.soundness.proofs.Exactly.{reads-and, reads-le, reads-all}
-use Rattle.soundness.proofs.Clauses.{clause-facts}
+use Rattle.soundness.proofs.Exactly.{reads-le, reads-all}
 use Rattle.encoding.specs.Encodes.{Formed}
 use Rattle.encoding.proofs.Places.{entries-length, levels-at}
 use Rattle.encoding.proofs.Facts.{range-facts}
@@ -29,7 +26,7 @@ use Rattle.machine.specs.Log.{machineOf, written, firstWanted}
 use Rattle.machine.specs.Promote.{selected, isMet, fits, retire, admittedAxes, refine}
 use Rattle.machine.specs.Steps.{started, deliver, promoteStep}
 use Rattle.machine.specs.Facts.{SoundMachine}
-use Rattle.machine.specs.Causes.{short, inRange, firstCause, startCauses, deliverCauses, promoteCauses, resultCauses}
+use Rattle.machine.specs.Causes.{inRange, firstCause, startCauses, deliverCauses, promoteCauses, resultCauses}
 use Rattle.machine.specs.Areas.{startOn, deliverOn, promoteOn}
 use Rattle.machine.proofs.Facts.{step-facts}
 use Rattle.writing.specs.Changes.{restated, rootRecord}
@@ -41,9 +38,9 @@ use Rattle.writing.proofs.Kept.{appended-all-length}
 use Rattle.writing.proofs.Start.{root-store}
 use Rattle.calls.specs.Replies.{lengthsOf}
 use Rattle.calls.specs.Facts.{PastUnchanged}
-use Rattle.calls.proofs.Causes.{common-clear}
 use Rattle.calls.proofs.Accepted.{Deliverable, startable, deliverable, promotable}
 use Rattle.calls.proofs.Ranges.{all-readings}
+use Rattle.calls.proofs.Settling.{sound-there, long-there}
 use Rattle.calls.proofs.Outcomes.{grown, outcome-ways, promoted-holds}
 use Rattle.calls.proofs.Written.{written-past, written-settled, written-state, same-lengths}
 
@@ -106,7 +103,7 @@ stored-at s rs f n room h =
     before : length (take f s) ≡ f
     before = length-take-le f s (omega (arith, room))
 
-readings-range : (rs : List ℤ) → inRange rs ≡ true → (n : ℕ) → n < length rs → IsReading (getD rs n (pos 0))
+pub readings-range : (rs : List ℤ) → inRange rs ≡ true → (n : ℕ) → n < length rs → IsReading (getD rs n (pos 0))
 unfolding readingTest
 readings-range rs e =
     reads-all (readingTest rs) (λ n. IsReading (getD rs n (pos 0))) (length rs) (λ n h. reads-le (natAbs (getD rs n (pos 0))) 1048576) .sure (all-readings rs ∙ e)
@@ -115,16 +112,7 @@ readings-range rs e =
 
 module _ (a : Area) (formed : Formed (heldOf a)) where
   settled : firstCause (resultCauses (lengthsOf a) (isSound a) (machineOf a .log)) ≡ 0 → Settled a
-  unfolding machineOf short
-  settled e =
-      let clear = common-clear (lengthsOf a) (isSound a) (machineOf a .log) e in
-      let long = reads-and _ _ (reads-le 512 (length (a .run .records))) (reads-le (a .job .budget) (length (a .store))) .sure
-      (not-false (leb 512 (length (a .run .records)) && leb (a .job .budget) (length (a .store))) (clear .first)) in
-      record {
-        sound = clause-facts .agree a .sure (not-false (isSound a) (clear .second));
-        lent = record { records = long .0; store = long .1 };
-        formed = formed;
-      }
+  settled none = record { sound = sound-there a none; lent = long-there a none; formed = formed }
 
   abbrev w : ℕ
   w = firstWanted (entriesOf a)

@@ -8,6 +8,7 @@ pub mod Refusing
 pub mod Numbers
 pub mod Buffers
 pub mod Ways
+pub mod Told
 pub mod Outcomes
 pub mod Written
 pub mod Left

@@ -50,7 +50,7 @@ given l t u =
     cond t (record { outcome = met; log = l })
     (cond u (record { outcome = promoted; log = withEntries l (refine (l .axes) (l .entries) (selected (l .entries))) }) (record { outcome = spent; log = l }))
 
-same-log : (l : Log) → (promote l .outcome ≡ promoted → ⊥) → promote l .log ≡ l
+pub same-log : (l : Log) → (promote l .outcome ≡ promoted → ⊥) → promote l .log ≡ l
 unfolding promote promoteAt
 same-log l = step (isMet l) (fits (l .budget) (refine (l .axes) (l .entries) (selected (l .entries))))
   where

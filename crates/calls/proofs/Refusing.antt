@@ -13,8 +13,9 @@ use Rattle.machine.specs.Log.{machineOf, wantedIndex}
 use Rattle.machine.specs.Causes.{firstCause, startCauses, pointCauses, deliverCauses, promoteCauses, resultCauses}
 use Rattle.machine.specs.Areas.{startOn, deliverOn, promoteOn}
 use Rattle.machine.specs.Counts.{countsOf}
-use Rattle.calls.specs.Replies.{refused, accepted, promotion, counts, lengthsOf, Called}
-use Rattle.calls.specs.Calls.{unless, startCall, pointCall, deliverCall, promoteCall, resultCall}
+use Rattle.machine.specs.Means.{crossOf}
+use Rattle.calls.specs.Replies.{refused, accepted, promotion, counts, total, lengthsOf, Called}
+use Rattle.calls.specs.Calls.{unless, startCall, pointCall, deliverCall, promoteCall, resultCall, crossCall}
 
 module _ (n m : ℕ) (a : Area) (x : Called) (is : n ≡ m) where
   refuses : (n ≡ 0 → ⊥) → record { reply = refused n; area = a } ≡ unless m a x
@@ -69,3 +70,11 @@ module _ (a : Area) (m : ℕ) (is : m ≡ firstCause (resultCauses (lengthsOf a)
   pub result-accepts : m ≡ 0 → counts (countsOf (machineOf a)) ≡ resultCall a
   unfolding resultCall
   result-accepts e = rw (sym is, eq-eqb m 0 e) refl
+
+  pub cross-refuses : (m ≡ 0 → ⊥) → refused m ≡ crossCall a
+  unfolding crossCall
+  cross-refuses f = rw (sym is, ne-eqb m 0 f) refl
+
+  pub cross-accepts : m ≡ 0 → total (crossOf (entriesOf a)) ≡ crossCall a
+  unfolding crossCall
+  cross-accepts e = rw (sym is, eq-eqb m 0 e) refl

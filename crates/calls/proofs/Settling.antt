@@ -16,6 +16,7 @@ use Rattle.area.specs.Records.{recordsOf, heldIn}
 use Rattle.area.specs.Encoding.{Area, areaOf, entriesOf}
 use Rattle.area.proofs.Records.{length-recordsOf}
 use Rattle.quadrature.specs.Readings.{recordAt}
+use Rattle.soundness.specs.Sound.{Sound, LongEnough}
 use Rattle.soundness.specs.Clauses.{isSound, checked}
 use Rattle.soundness.proofs.Exactly.{reads-and, reads-le}
 use Rattle.soundness.proofs.Clauses.{clause-facts}
@@ -29,6 +30,17 @@ use Rattle.writing.proofs.Areas.{clauses, held-is, levels-is}
 use Rattle.calls.specs.Replies.{lengthsOf}
 use Rattle.calls.proofs.Causes.{common-clear, wanted-yes, wanted-no}
 
+module _ (a : Area) (none : firstCause (resultCauses (lengthsOf a) (isSound a) (machineOf a .log)) ≡ 0) where
+  pub sound-there : Sound a
+  sound-there = clause-facts .agree a .sure (not-false (isSound a) (common-clear (lengthsOf a) (isSound a) (machineOf a .log) none .second))
+
+  pub long-there : LongEnough a
+  unfolding machineOf short
+  long-there =
+      let long = reads-and _ _ (reads-le 512 (length (a .run .records))) (reads-le (a .job .budget) (length (a .store))) .sure
+      (not-false (leb 512 (length (a .run .records)) && leb (a .job .budget) (length (a .store))) (common-clear (lengthsOf a) (isSound a) (machineOf a .log) none .first)) in
+      record { records = long .0; store = long .1 }
+
 module _ (j : JobRecord) (c : List ℕ) (s : List ℤ) where
   abbrev a : Area
   a = areaOf j c s
@@ -39,15 +51,7 @@ module _ (j : JobRecord) (c : List ℕ) (s : List ℤ) where
   checked-sound h k = rw (length-recordsOf c, le-leb 512 (length c / 27) h, le-leb (j .budget) (length s) k)
 
   pub settled : firstCause (resultCauses (lengthsOf a) (isSound a) (machineOf a .log)) ≡ 0 → Settled a
-  unfolding machineOf short
-  settled e =
-      let clear = common-clear (lengthsOf a) (isSound a) (machineOf a .log) e in
-      let long = reads-and _ _ (reads-le 512 (length (recordsOf c))) (reads-le (j .budget) (length s)) .sure (not-false (leb 512 (length (recordsOf c)) && leb (j .budget) (length s)) (clear .first)) in
-      record {
-        sound = clause-facts .agree a .sure (not-false (isSound a) (clear .second));
-        lent = record { records = long .0; store = long .1 };
-        formed = encoding-facts .formed j c s;
-      }
+  settled none = record { sound = sound-there a none; lent = long-there a none; formed = encoding-facts .formed j c s }
 
   module _ (st : Settled a) where
     pub held-there : j .held * 27 ≤ length c

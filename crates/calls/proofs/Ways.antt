@@ -15,9 +15,10 @@ use Rattle.soundness.specs.Clauses.{isSound}
 use Rattle.machine.specs.Log.{machineOf, wantedIndex}
 use Rattle.machine.specs.Causes.{firstCause, startCauses, pointCauses, deliverCauses, promoteCauses, resultCauses}
 use Rattle.machine.specs.Counts.{countsOf}
+use Rattle.machine.specs.Means.{crossOf}
 use Rattle.machine.specs.Areas.{startOn, deliverOn, promoteOn}
-use Rattle.calls.specs.Replies.{Reply, refused, accepted, promotion, counts, lengthsOf, Called, Pointed}
-use Rattle.calls.specs.Calls.{unless, startCall, pointCall, deliverCall, promoteCall, resultCall}
+use Rattle.calls.specs.Replies.{Reply, refused, accepted, promotion, counts, total, lengthsOf, Called, Pointed}
+use Rattle.calls.specs.Calls.{unless, startCall, pointCall, deliverCall, promoteCall, resultCall, crossCall}
 
 by-cause : {A : Type 0} (P : A → Type 0) (n : ℕ) (x y : A) → (n ≡ 0 → P x) → ((n ≡ 0 → ⊥) → P y) → P (cond (eqb n 0) x y)
 by-cause P n x y f g = step (eqb n 0) refl
@@ -69,3 +70,8 @@ pub result-ways : (P : Reply → Type 0) (a : Area) → (resultCause a ≡ 0 →
     → ((resultCause a ≡ 0 → ⊥) → P (refused (resultCause a))) → P (resultCall a)
 unfolding resultCall
 result-ways P a = by-cause P (resultCause a) _ _
+
+pub cross-ways : (P : Reply → Type 0) (a : Area) → (resultCause a ≡ 0 → P (total (crossOf (entriesOf a))))
+    → ((resultCause a ≡ 0 → ⊥) → P (refused (resultCause a))) → P (crossCall a)
+unfolding crossCall
+cross-ways P a = by-cause P (resultCause a) _ _

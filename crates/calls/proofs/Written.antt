@@ -46,7 +46,7 @@ module _ (a : Area) (m : Machine) where
       }
 
   module _ (v : SoundMachine m) where
-    formed-records : Formed (recordsFor es)
+    pub formed-records : Formed (recordsFor es)
     unfolding encoded
     formed-records p h =
         let l : p < length es = omega (arith, h, records-length es) in (

@@ -13,9 +13,11 @@ use Rattle.machine.specs.Log.{machineOf, wantedIndex}
 use Rattle.machine.specs.Causes.{firstCause, startCauses, pointCauses, deliverCauses, promoteCauses, resultCauses}
 use Rattle.machine.specs.Areas.{startOn, deliverOn, promoteOn}
 use Rattle.machine.specs.Counts.{countsOf}
-use Rattle.calls.specs.Replies.{Reply, refused, accepted, promotion, counts, lengthsOf, Called, Pointed}
+use Rattle.machine.specs.Means.{crossOf}
+use Rattle.calls.specs.Replies.{Reply, refused, accepted, promotion, counts, total, lengthsOf, Called, Pointed}
 
--- Why a call is refused: the number of the first cause that applies, 0 if none does. Result asks for storage and area alone.
+-- Why a call is refused: the number of the first cause that applies, 0 if none does. Result and cross total ask for storage and area
+-- alone.
 abbrev pub startCause : Area → (axes budget : ℕ) → ℕ
 startCause a d b = firstCause (startCauses (lengthsOf a) d b)
 
@@ -61,3 +63,7 @@ unfoldable pub resultCall : Area → Reply
 resultCall a =
     cond (eqb (resultCause a) 0) (counts (countsOf (machineOf a)))
     (refused (resultCause a))
+
+-- **Cross total**: the scaled mean worked out from the readings, as the combination sum. It changes nothing.
+unfoldable pub crossCall : Area → Reply
+crossCall a = cond (eqb (resultCause a) 0) (total (crossOf (entriesOf a))) (refused (resultCause a))

@@ -12,9 +12,11 @@ use Rattle.encoding.specs.Encodes.{Formed}
 use Rattle.machine.specs.Log.{machineOf, firstWanted}
 use Rattle.machine.specs.Promote.{Outcome, met, spent}
 use Rattle.machine.specs.Steps.{started, deliver, promoteStep}
+use Rattle.machine.specs.Counts.{Counts}
+use Rattle.machine.specs.Means.{meanOf}
 use Rattle.writing.specs.Settled.{Settled}
-use Rattle.calls.specs.Replies.{refused, accepted, promotion, lengthsOf}
-use Rattle.calls.specs.Calls.{startCall, pointCall, deliverCall, promoteCall, resultCall}
+use Rattle.calls.specs.Replies.{refused, accepted, promotion, counts, total, lengthsOf}
+use Rattle.calls.specs.Calls.{startCall, pointCall, deliverCall, promoteCall, resultCall, crossCall}
 
 -- Records past the last then held, and the cells past the last record, are as they were.
 pub record PastUnchanged (a b : Area) : Type 0 where
@@ -32,13 +34,19 @@ pub record CallFacts : Type 0 where
   pub promote-state : (a : Area) (o : Outcome) → Formed (heldOf a) → promoteCall a .reply ≡ promotion o → machineOf (promoteCall a .area) ≡ promoteStep (machineOf a)
   -- met and spent change nothing
   pub promote-idle : (a : Area) → (promoteCall a .reply ≡ promotion met) ⊎ (promoteCall a .reply ≡ promotion spent) → promoteCall a .area ≡ a
-  -- a refused call keeps everything, and each cause is returned by the calls of its row and no other
+  -- a refused call keeps everything, and each cause is returned by the calls of its row and no other (that it is returned in its case is
+  -- `firstCause`)
   pub start-refused : (a : Area) (d t b n : ℕ) → startCall a d t b .reply ≡ refused n → (startCall a d t b .area ≡ a) × List·Memᴰ n (1 ∷ 2 ∷ 3 ∷ [])
   pub point-refused : (a : Area) (n cause : ℕ) (buffer : List ℕ) → pointCall a n buffer .reply ≡ refused cause
       → (pointCall a n buffer .buffer ≡ buffer) × List·Memᴰ cause (3 ∷ 4 ∷ 5 ∷ 9 ∷ [])
   pub deliver-refused : (a : Area) (rs : List ℤ) (i n : ℕ) → deliverCall a rs i .reply ≡ refused n → (deliverCall a rs i .area ≡ a) × List·Memᴰ n (3 ∷ 4 ∷ 5 ∷ 7 ∷ 8 ∷ [])
   pub promote-refused : (a : Area) (n : ℕ) → promoteCall a .reply ≡ refused n → (promoteCall a .area ≡ a) × List·Memᴰ n (3 ∷ 4 ∷ 6 ∷ [])
   pub result-refused : (a : Area) (n : ℕ) → resultCall a ≡ refused n → List·Memᴰ n (3 ∷ 4 ∷ [])
+  pub cross-refused : (a : Area) (n : ℕ) → crossCall a ≡ refused n → List·Memᴰ n (3 ∷ 4 ∷ [])
+  -- in any sound area the cross total, worked out from the readings, is the sum of the delivered indices' differences
+  pub cross-mean : (a : Area) (x : ℤ) → crossCall a ≡ total x → x ≡ meanOf (entriesOf a)
+  -- result's reserved, pending error and mean are the recorded ones
+  pub result-recorded : (a : Area) (c : Counts) → resultCall a ≡ counts c → (c .reserved ≡ a .job .reserved) × (c .pending ≡ a .job .pending) × (c .mean ≡ a .job .mean)
   -- the lengths of the lent storage stay
   pub start-lengths : (a : Area) (d t b : ℕ) → lengthsOf (startCall a d t b .area) ≡ lengthsOf a
   pub deliver-lengths : (a : Area) (rs : List ℤ) (i : ℕ) → Formed (heldOf a) → lengthsOf (deliverCall a rs i .area) ≡ lengthsOf a

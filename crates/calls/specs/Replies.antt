@@ -1,4 +1,5 @@
 -- What a call answers, and the scope document's number and values for each case of the code's enums.
+use mathlib.Core.Bool.{Bool}
 use mathlib.Core.List.{List}
 use Prim.Native.Nat.{ℕ}
 use lib.IntN.{ℤ}
@@ -13,13 +14,18 @@ use Rattle.calls.specs.declared.Answer.the-variants as answers
 use Rattle.calls.specs.declared.Answered.{Answered}
 use Rattle.calls.specs.declared.Resulted as coded
 use Rattle.calls.specs.declared.Resulted.the-variants as results
+use Rattle.calls.specs.declared.Totalled as summed
+use Rattle.calls.specs.declared.Totalled.the-variants as totals
 
--- A refusal has the number of its cause. Start, point and deliver are otherwise accepted, promote has its outcome, result its counts.
+-- A refusal has the number of its cause. Start, point and deliver are otherwise accepted, promote has its outcome, result its counts,
+-- cross total its total; check says yes or no.
 pub data Reply : Type 0 where
   refused : ℕ → Reply
   accepted : Reply
   promotion : Outcome → Reply
   counts : Counts → Reply
+  total : ℤ → Reply
+  verdict : Bool → Reply
 
 unfoldable pub replyOf : code.Answer → Reply
 replyOf (answers.Refused n) = refused n
@@ -31,6 +37,10 @@ replyOf answers.Promoted = promotion promoted
 unfoldable pub resultedOf : coded.Resulted → Reply
 resultedOf (results.Refused n) = refused n
 resultedOf (results.Counted c) = counts (countsIn c)
+
+unfoldable pub totalledOf : summed.Totalled → Reply
+totalledOf (totals.Refused n) = refused n
+totalledOf (totals.Total z) = total z
 
 -- The lengths of the storage that an area lies in.
 abbrev pub lengthsOf : Area → Lengths

@@ -1,10 +1,11 @@
-// The calls start, point, deliver, promote and result. Each first looks for a cause to refuse; a refused call changes nothing.
+// The calls start, point, deliver, promote, result and cross total. Each first looks for a cause to refuse; a refused call changes
+// nothing.
 ghost use mathlib.Core.Path.{_≡_};
 ghost use Rattle.area.specs.Encoding.{areaOf};
 ghost use Rattle.machine.specs.Causes.{firstCause, inRange, startCauses};
 ghost use Rattle.promotion.specs.Outcomes.{outcomeOf};
-ghost use Rattle.calls.specs.Replies.{promotion as outcomeReply, replyOf, resultedOf, calledOf};
-ghost use Rattle.calls.specs.Calls.{pointCause, deliverCause, promoteCause, resultCause, startCall, pointCall, deliverCall, promoteCall, resultCall};
+ghost use Rattle.calls.specs.Replies.{promotion as outcomeReply, replyOf, resultedOf, totalledOf, calledOf};
+ghost use Rattle.calls.specs.Calls.{pointCause, deliverCause, promoteCause, resultCause, startCall, pointCall, deliverCall, promoteCall, resultCall, crossCall};
 
 // What a call answers; `Refused` carries the number of the cause.
 pub enum Answer {
@@ -25,6 +26,12 @@ pub struct Answered {
 pub enum Resulted {
     Refused(u32),
     Counted(counting::Counts),
+}
+
+// Cross total's answer.
+pub enum Totalled {
+    Refused(u32),
+    Total(i64),
 }
 
 // Whether all are readings.
@@ -254,4 +261,15 @@ pub fn result(job: area::JobRecord, cells: &[u32], store: &[i32]) -> Resulted
         return Resulted::Refused(cause);
     }
     Resulted::Counted(counting::result(job, cells, store))
+}
+
+// The scaled mean worked out from the readings, whatever mean is recorded.
+pub fn cross_total(job: area::JobRecord, cells: &[u32], store: &[i32]) -> Totalled
+    ensures { λ r. ⌜ totalledOf r ≡ crossCall (areaOf job (now (cells .entry)) (now (store .entry))) ⌝ }
+{
+    let cause = area_cause(job, cells, store);
+    if cause != 0 {
+        return Totalled::Refused(cause);
+    }
+    Totalled::Total(counting::cross_total(job, cells, store))
 }

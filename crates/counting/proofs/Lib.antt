@@ -1,3 +1,4 @@
 -- The laws, lowest first.
 pub mod Tallies
 pub mod Heads
+pub mod Cross

@@ -1,13 +1,14 @@
-// Result on an area that is known to be sound. The public call is that of the crate `calls`.
+// Result and cross total on an area that is known to be sound. The public calls are those of the crate `calls`.
 ghost use mathlib.Core.Path.{_≡_};
 ghost use Prim.Native.Nat.{ℕ, _*_, _<_, _≤_};
 ghost use lib.ListN.{length};
 ghost use Rattle.grid.specs.Index.{level};
 ghost use Rattle.area.specs.Records.{heldIn};
 ghost use Rattle.quadrature.specs.Readings.{recordAt};
-ghost use Rattle.area.specs.Encoding.{areaOf};
+ghost use Rattle.area.specs.Encoding.{areaOf, entriesOf};
 ghost use Rattle.machine.specs.Log.{machineOf};
 ghost use Rattle.machine.specs.Counts.{countOf, cappedAxes, ceilingCount, countsOf};
+ghost use Rattle.machine.specs.Means.{crossOf};
 ghost use Rattle.writing.specs.Heads.{headsOf};
 ghost use Rattle.writing.specs.Settled.{Settled};
 ghost use Rattle.counting.specs.Answer.{countsIn};
@@ -91,4 +92,12 @@ pub fn result(job: area::JobRecord, cells: &[u32], store: &[i32]) -> Counts
         mean: job.mean,
         ceiling,
     }
+}
+
+// The cross total of an area: its mean as worked from the readings, whatever mean is recorded.
+pub fn cross_total(job: area::JobRecord, cells: &[u32], store: &[i32]) -> i64
+    requires { ⌜ Settled (areaOf job (now cells) (now store)) ⌝ }
+    ensures { λ r. ⌜ r ≡ crossOf (entriesOf (areaOf job (now (cells .entry)) (now (store .entry)))) ⌝ }
+{
+    quadrature::combination_sum(job.axes as usize, job.held as usize, cells, store)
 }

@@ -21,7 +21,7 @@ use Rattle.encoding.specs.Entries.{noEntry, entryAt, SoundEntries}
 
 -- ---- delivered entries with their blocks, then wanted ones
 
-abbrev AllWanted : List Entry → Type 0
+abbrev pub AllWanted : List Entry → Type 0
 AllWanted [] = Unit {0}
 AllWanted (e ∷ es) = (e .state ≡ 0) × (e .readings ≡ []) × AllWanted es
 

@@ -46,6 +46,13 @@ pub fn counts(lent: &mut Lent) -> CountWords {
     counts
 }
 
+pub fn cross_total(lent: &mut Lent) -> i64 {
+    let mut total = [MARK; 2];
+    assert_eq!(calls::cross_total(lent.all(), &mut total), 0);
+    let [low, high] = total.map(u64::from);
+    (low | high << 32) as i64
+}
+
 /// A job of two axes, budget 64 and threshold 0 that wants (2,1) and (1,2): two
 /// readings each.
 pub fn wanting_two() -> Lent {
@@ -92,9 +99,14 @@ pub fn delivery(readings: &[i32]) -> Call {
     Call::Deliver { readings: readings.to_vec(), indicator: 9 }
 }
 
+/// All marks, so that a word is seen to be written or left.
+fn slots(buffer: usize) -> Slots {
+    Slots { outcome: [MARK], counts: [MARK; 9], total: [MARK; 2], buffer: vec![0xa5; buffer] }
+}
+
 fn perform(lent: &mut Lent, part: Part, call: &Call) -> (Said, Slots, Slots) {
     let length = if let Call::Point { buffer, .. } = call { *buffer } else { 0 };
-    let before = Slots { outcome: [MARK], counts: [MARK; 9], buffer: vec![0xa5; length] };
+    let before = slots(length);
     let mut after = before.clone();
     let said = answers::of_library(lent.part(part), call, &mut after);
     (said, before, after)

@@ -9,7 +9,7 @@ use lib.IntN.{pos}
 use denote.Ref.{now}
 use lib.ListN.{length, getD, take, length-set}
 use lib.Seq.{sets, take-all}
-use Rattle.area.proofs.Slices.{sets-step}
+use Rattle.sums.proofs.Lists.{sets-step}
 use Rattle.delivery.proofs.put_readings.Statement.{statement}
 use Rattle.delivery.proofs.put_readings.Tie as tie
 

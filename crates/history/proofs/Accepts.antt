@@ -1,0 +1,115 @@
+-- The calls of a run are accepted: a supplied block fits, and with nothing wanted a promotion is not refused.
+-- Assumes nothing.
+use mathlib.Core.Path.{_≡_, refl, ap, sym, _∙_}
+use mathlib.Core.Bool.{Bool, true, false, cond}
+use mathlib.Core.List.{List, [], _∷_, map}
+use Prim.Native.Nat.{ℕ, suc, _+_, _<_, _≤_}
+use native.Mathlib.Nat.{zero-add}
+use native.Mathlib.Omega.{arith}
+use borrow.Author.Tests.{le-leb}
+use lib.Dec.{eqb}
+use lib.IntN.{ℤ, natAbs}
+use lib.ListN.{length, set, length-map}
+use Rattle.grid.specs.Block.{block, blockSize}
+use Rattle.grid.specs.Terms.{IsReading}
+use Rattle.grid.proofs.Facts.{block-facts}
+use Rattle.area.specs.Entry.{Entry}
+use Rattle.machine.specs.Log.{Log, Machine, firstWanted, wantedIndex}
+use Rattle.machine.specs.Promote as rule
+use Rattle.machine.specs.Counts.{countOf}
+use Rattle.machine.specs.Steps as steps
+use Rattle.machine.specs.Causes.{Lengths, firstCause, short, inRange, resultCauses}
+use Rattle.calls.specs.Replies.{refused, accepted, promotion}
+use Rattle.calls.proofs.Causes.{common-none, wanted-yes, wanted-no, deliver-fits, promote-free}
+use Rattle.published.specs.Figure.{Problem}
+use Rattle.published.specs.Turns.{supply, Measured}
+use Rattle.history.specs.Calls.{promote, LentCall, lengthsLent, answer}
+use Rattle.history.specs.Logged.{refusal, reply, bufferOf, answerBy}
+use Rattle.history.specs.Source.{supplyCall}
+use Rattle.history.proofs.Moves.{moved, machineStep}
+
+-- ---- the wanted, counted
+
+abbrev counted : Bool → ℕ
+counted t = cond t 1 0
+
+pub some-wanted : (es : List Entry) (n : ℕ) → countOf 0 es ≡ suc n → firstWanted es < length es
+unfolding countOf firstWanted
+some-wanted [] n e = absurd (omega (arith, e))
+some-wanted (x ∷ es) n e = step (eqb (x .state) 0) e (some-wanted es n)
+  where
+    step : (t : Bool) → counted t + countOf 0 es ≡ suc n → (countOf 0 es ≡ suc n → firstWanted es < length es) → cond t 0 (suc (firstWanted es)) < suc (length es)
+    step true f more = omega arith
+    step false f more = omega (arith, more (sym (zero-add (countOf 0 es)) ∙ f))
+
+-- one of them delivered
+pub one-fewer : (es : List Entry) (y : Entry) → y .state ≡ 1 → firstWanted es < length es → countOf 0 es ≡ suc (countOf 0 (set es (firstWanted es) y))
+unfolding countOf firstWanted
+one-fewer [] y e h = absurd (omega (arith, h))
+one-fewer (x ∷ es) y e h = step (eqb (x .state) 0) refl h (one-fewer es y e)
+  where
+    not-wanted : eqb (y .state) 0 ≡ false
+    not-wanted = ap (λ n. eqb n 0) e
+
+    step : (t : Bool) → eqb (x .state) 0 ≡ t → cond t 0 (suc (firstWanted es)) < suc (length es)
+        → (firstWanted es < length es → countOf 0 es ≡ suc (countOf 0 (set es (firstWanted es) y)))
+        → counted t + countOf 0 es ≡ suc (countOf 0 (set (x ∷ es) (cond t 0 (suc (firstWanted es))) y))
+    step true q f more = omega (arith, ap counted not-wanted)
+    step false q f more = omega (arith, more (omega (arith, f)), ap counted q)
+
+-- ---- the readings
+
+in-range : (f : List ℕ → ℤ) → ((x : List ℕ) → IsReading (f x)) → (xs : List (List ℕ)) → inRange (map f xs) ≡ true
+unfolding inRange
+in-range f m [] = refl
+in-range f m (x ∷ xs) = rw (le-leb (natAbs (f x)) 1048576 (m x)) (in-range f m xs)
+
+whole-block : (f : List ℕ → ℤ) (k : List ℕ) → length (map f (block k)) ≡ blockSize k
+whole-block f k = length-map (block k) f ∙ block-facts .size k
+
+-- ---- where storage is long enough
+
+module _ (P : Problem) (z : Lengths) (l : Log) (enough : short z (l .budget) ≡ false) where
+  none : firstCause (resultCauses z true l) ≡ 0
+  none = common-none z true l enough refl
+
+  -- the first wanted block's delivery
+  pub supply-clear : Measured P → firstWanted (l .entries) < length (l .entries) → refusal z l (supplyCall P l) ≡ 0
+  unfolding supplyCall refusal
+  supply-clear measured wanted =
+      deliver-fits z true l (map (P .integrand) (block (wantedIndex (l .entries)))) none (wanted-yes l wanted)
+      (whole-block (P .integrand) (wantedIndex (l .entries))) (in-range (P .integrand) measured (block (wantedIndex (l .entries))))
+
+  pub supply-answer : Measured P → firstWanted (l .entries) < length (l .entries) → answerBy z l (supplyCall P l) ≡ answer accepted
+  unfolding answerBy
+  supply-answer measured wanted = ap (λ n. cond (eqb n 0) (reply z l (supplyCall P l)) (record { reply = refused n; buffer = bufferOf (supplyCall P l) })) (supply-clear measured wanted) ∙ unfold reply supplyCall in refl
+
+  -- a promotion
+  pub promote-clear : length (l .entries) ≤ firstWanted (l .entries) → refusal z l promote ≡ 0
+  unfolding refusal
+  promote-clear free = promote-free z true l none (wanted-no l free)
+
+  pub promote-answer : length (l .entries) ≤ firstWanted (l .entries) → answerBy z l promote ≡ answer (promotion (rule.promote l .outcome))
+  unfolding answerBy
+  promote-answer free = ap (λ n. cond (eqb n 0) (reply z l promote) (record { reply = refused n; buffer = bufferOf promote })) (promote-clear free) ∙ unfold reply in refl
+
+module _ (P : Problem) (x : LentCall) (m : Machine) (enough : short (lengthsLent (x .part)) (m .log .budget) ≡ false) where
+  abbrev z : Lengths
+  z = lengthsLent (x .part)
+
+  abbrev l : Log
+  l = m .log
+
+  -- the first wanted block's delivery
+  pub supply-step : Measured P → firstWanted (l .entries) < length (l .entries) → x .call ≡ supplyCall P l → machineStep m x ≡ supply P m
+  unfolding machineStep
+  supply-step measured wanted is =
+      ap (λ c. cond (eqb (refusal z l c) 0) (moved m c) m) is
+      ∙ ap (λ n. cond (eqb n 0) (moved m (supplyCall P l)) m) (supply-clear P z l enough measured wanted)
+      ∙ unfold supplyCall moved supply in refl
+
+  -- a promotion
+  pub promote-step : length (l .entries) ≤ firstWanted (l .entries) → x .call ≡ promote → machineStep m x ≡ steps.promoteStep m
+  unfolding machineStep
+  promote-step free is =
+      ap (λ c. cond (eqb (refusal z l c) 0) (moved m c) m) is ∙ ap (λ n. cond (eqb n 0) (moved m promote) m) (promote-clear P z l enough free) ∙ unfold moved in refl

@@ -1,0 +1,183 @@
+-- The third demand.
+-- The idea: an accepted start leaves storage that holds the log's state, every later call keeps it so, and from such storage everything that
+-- is claimed can be read off.
+-- Assumes nothing.
+use mathlib.Core.Path.{_≡_, refl, ap, ap₂, sym, _∙_, subst}
+use mathlib.Core.Bool.{true}
+use mathlib.Core.Logic.{_⊎_, inl, inr}
+use mathlib.Core.List.{List, _∷_, List·Memᴰ, List·Memᴰ·cases-cons}
+use Prim.Native.Nat.{ℕ, _*_, _≤_}
+use native.Mathlib.Omega.{arith}
+use lib.ListN.{length}
+use Rattle.area.specs.Records.{recordsOf, runOf}
+use Rattle.area.specs.Encoding.{Area, areaOf, entriesOf, storeWith, jobWith}
+use Rattle.machine.specs.Log.{Log, Machine, written}
+use Rattle.machine.specs.Steps as steps
+use Rattle.machine.specs.Causes.{Lengths, firstCause, startCauses, resultCauses}
+use Rattle.machine.specs.Counts.{countsOf}
+use Rattle.machine.specs.Means.{crossOf}
+use Rattle.machine.proofs.Means.{mean-facts}
+use Rattle.writing.proofs.After.{written-sound, written-long, written-entries}
+use Rattle.calls.specs.Replies.{accepted, refused, counts, total, lengthsOf}
+use Rattle.calls.specs.Calls.{startCall, resultCall, crossCall}
+use Rattle.calls.proofs.Ways.{start-ways}
+use Rattle.calls.proofs.Tests as tests
+use Rattle.calls.proofs.Causes.{common-none}
+use Rattle.soundness.specs.Sound.{Sound, LongEnough}
+use Rattle.soundness.specs.Clauses.{checked}
+use Rattle.soundness.proofs.Clauses.{clause-facts}
+use Rattle.area.proofs.Records.{length-recordsOf}
+use Rattle.history.specs.Calls.{Call, start, result, crossTotal, Part, LentCall, lengthsLent, Answer, answer}
+use Rattle.history.specs.Logged.{refusal, reply, answerBy, answersBy, logAfter}
+use Rattle.history.specs.Storage.{Storage, areaLent, Lent, AllLent, callOn, returned, doneOn, storageStep, storageAfter, answersOf}
+use Rattle.history.specs.Found.{Neighbours, LinksAgree, Found, ThirdDemand}
+use Rattle.history.proofs.Holding.{Holds, Kept, front-small, run-over}
+use Rattle.history.proofs.Moves.{Fine, combined}
+use Rattle.history.proofs.Steps.{lengths, enough-answer, first-holds}
+use Rattle.history.proofs.Lists.{machineAfter, lent-too, after-log, after-keeps, after-answers}
+use Rattle.history.proofs.LinksBothWays.{links-agree}
+use Rattle.history.proofs.Never.{never-four}
+
+-- ---- what storage that holds a state shows
+
+module _ (w : Storage) (m : Machine) (h : Holds w m) where
+  abbrev all : Area
+  all = areaOf (w .job) (w .cells) (w .store)
+
+  abbrev l : Log
+  l = m .log
+
+  whole-holds : all ≡ written all m
+  unfolding written storeWith
+  whole-holds i =
+      record {
+        job = h .job i;
+        run = (ap runOf (h .cells) ∙ run-over m (h .sound) (w .cells) (omega (arith, front-small m (h .sound), h .long))) i;
+        store = h .store i;
+      }
+
+  entries-there : entriesOf all ≡ l .entries
+  entries-there = ap entriesOf whole-holds ∙ written-entries all m (h .sound)
+
+  all-sound : Sound all
+  all-sound = subst Sound (sym whole-holds) (written-sound all m (h .sound))
+
+  checked-there : checked all ≡ true
+  checked-there = clause-facts .answer all .back (subst LongEnough (sym whole-holds) (written-long all m (h .sound) (omega (arith, length-recordsOf (w .cells), h .long)) (h .room)), all-sound)
+
+  mean-is : m .mean ≡ crossOf (l .entries)
+  mean-is = combined m (record { sound = h .sound; mean = h .mean })
+
+  neighbours : Neighbours (l .axes) (l .entries)
+  neighbours = record { index = h .sound .index; behind = h .sound .behind; admissible = h .sound .admissible; once = h .sound .different }
+
+  links : LinksAgree (l .entries) (recordsOf (w .cells))
+  links = subst (λ es. LinksAgree es (recordsOf (w .cells))) entries-there (links-agree all all-sound)
+
+  -- ---- result and cross total, where enough is lent
+  module _ (x : Part) (lent : Lent w x) (long : 512 * 27 ≤ x .cells) (room : l .budget ≤ x .readings) where
+    abbrev z : Lengths
+    z = lengthsLent x
+
+    none : firstCause (resultCauses z true l) ≡ 0
+    none = common-none z true l (tests.enough z (l .budget) (omega (arith, long)) room) refl
+
+    answered : (c : Call) → callOn (areaLent w x) c .answer ≡ answerBy z l c
+    answered = enough-answer w x lent m h (record { lent = lent; cells = long; readings = room })
+
+    result-is : resultCall (areaLent w x) ≡ counts (countsOf (record { log = l; mean = crossOf (l .entries) }))
+    unfolding callOn answerBy refusal reply
+    result-is = ap (λ (y : Answer). y .reply) (answered result ∙ given)
+      where
+        given : answerBy z l result ≡ answer (counts (countsOf (record { log = l; mean = crossOf (l .entries) })))
+        given = rw none refl
+
+    cross-is : crossCall (areaLent w x) ≡ total (crossOf (l .entries))
+    unfolding callOn answerBy refusal reply
+    cross-is = ap (λ (y : Answer). y .reply) (answered crossTotal ∙ given)
+      where
+        given : answerBy z l crossTotal ≡ answer (total (crossOf (l .entries)))
+        given = rw none refl
+
+  pub found : Found w l
+  found =
+      record {
+        entries = entries-there;
+        idle = h .sound .wanted-idle;
+        job = h .job ∙ ap (jobWith (l .axes) (l .threshold) (l .budget) (l .entries)) mean-is;
+        sound = checked-there;
+        neighbours = neighbours;
+        links = links;
+        result = result-is;
+        cross = cross-is;
+        mean = sym (mean-facts .cross m (h .sound));
+      }
+
+-- ---- an accepted start
+
+accepted-start : (a : Area) (d t b : ℕ) → startCall a d t b .reply ≡ accepted → firstCause (startCauses (lengthsOf a) d b) ≡ 0
+accepted-start a d t b =
+    start-ways (λ x. x .reply ≡ accepted → firstCause (startCauses (lengthsOf a) d b) ≡ 0) a d t b (λ none e. none)
+    (λ some e. let y : _≡_ {A = ℕ} 0 1 = cc in absurd (omega arith))
+
+module _ (w : Storage) (first : LentCall) (later : List LentCall) (d t b : ℕ) (lent : AllLent w (first ∷ later))
+    (is : first .call ≡ start d t b) (taken : startCall (areaLent w (first .part)) d t b .reply ≡ accepted) where
+  abbrev m : Machine
+  m = steps.started d t b
+
+  clear : firstCause (startCauses (lengthsLent (first .part)) d b) ≡ 0
+  clear = ap (λ z. firstCause (startCauses z d b)) (sym (lengths w (first .part) (lent .0))) ∙ accepted-start (areaLent w (first .part)) d t b taken
+
+  begins : Kept w (storageStep w first) m
+  unfolding storageStep doneOn
+  begins = subst (λ c. Kept w (returned w (first .part) (callOn (areaLent w (first .part)) c .area)) m) (sym is) (first-holds w (first .part) (lent .0) d t b clear)
+
+  first-answer : doneOn w first .answer ≡ answer accepted
+  unfolding doneOn callOn
+  first-answer = ap (λ c. callOn (areaLent w (first .part)) c .answer) is ∙ started-answer
+    where
+      started-answer : callOn (areaLent w (first .part)) (start d t b) .answer ≡ answer accepted
+      started-answer = ap answer taken
+
+  lent-later : AllLent (storageStep w first) later
+  lent-later = lent-too w (storageStep w first) (begins .cells) (begins .store) later (lent .1)
+
+  answers : answersOf w (first ∷ later) ≡ answer accepted ∷ answersBy (steps.startLog d t b) later
+  unfolding answersOf steps.started
+  answers = ap₂ (λ (y : Answer) ys. y ∷ ys) first-answer (after-answers (storageStep w first) m (begins .holds) later lent-later)
+
+  -- the state that the storage holds after the list
+  kept : Kept (storageStep w first) (storageAfter w (first ∷ later)) (machineAfter m later)
+  unfolding storageAfter
+  kept = after-keeps (storageStep w first) m (begins .holds) later lent-later
+
+  pub log-there : machineAfter m later .log ≡ logAfter (steps.startLog d t b) later
+  unfolding steps.started
+  log-there = after-log m later
+
+  pub state-fine : Fine (machineAfter m later)
+  state-fine = record { sound = kept .holds .sound; mean = kept .holds .mean }
+
+  after : Found (storageAfter w (first ∷ later)) (logAfter (steps.startLog d t b) later)
+  after = subst (Found (storageAfter w (first ∷ later))) log-there (found (storageAfter w (first ∷ later)) (machineAfter m later) (kept .holds))
+
+  cells-length : length (storageAfter w (first ∷ later) .cells) ≡ length (w .cells)
+  cells-length = kept .cells ∙ begins .cells
+
+  store-length : length (storageAfter w (first ∷ later) .store) ≡ length (w .store)
+  store-length = kept .store ∙ begins .store
+
+pub third-demand : ThirdDemand
+third-demand w first later d t b lent is taken =
+    let said : answersOf w (first ∷ later) ≡ answer accepted ∷ answersBy (steps.startLog d t b) later = answers w first later d t b lent is taken in
+    record {
+      answers = said;
+      never-unsound = λ y n e. step y e (List·Memᴰ·cases-cons (subst (List·Memᴰ y) said n));
+      cells = cells-length w first later d t b lent is taken;
+      store = store-length w first later d t b lent is taken;
+      found = after w first later d t b lent is taken;
+    }
+  where
+    step : (y : Answer) → y .reply ≡ refused 4 → (y ≡ answer accepted) ⊎ List·Memᴰ y (answersBy (steps.startLog d t b) later) → ⊥
+    step y e (inl f) = let same : accepted ≡ refused 4 = sym (ap (λ (v : Answer). v .reply) f) ∙ e in let g : _≡_ {A = ℕ} 0 1 = cc in omega arith
+    step y e (inr n) = never-four (steps.startLog d t b) later y n e

@@ -1,0 +1,80 @@
+-- The second demand at any moment: after every list of calls Fig. 1 stands where the log stands, as soon as nothing is wanted.
+-- The idea: every accepted call keeps the machine on the course of Fig. 1, within a turn or between two, and a refused one leaves it.
+-- Assumes nothing.
+use mathlib.Core.Path.{_≡_, refl, subst}
+use mathlib.Core.Bool.{Bool, true, false, cond}
+use mathlib.Core.List.{List, [], _∷_}
+use Prim.Native.Nat.{ℕ, _<_, _≤_}
+use native.Mathlib.Decide.{decLt}
+use native.Mathlib.Omega.{arith}
+use borrow.Author.Tests.{eqb-true}
+use lib.Dec.{eqb}
+use lib.ListN.{length}
+use Rattle.encoding.specs.Entries.{entryAt}
+use Rattle.machine.specs.Log.{Machine, firstWanted, anyWanted}
+use Rattle.machine.specs.Counts.{countOf}
+use Rattle.machine.specs.Steps as steps
+use Rattle.machine.specs.Causes.{Lengths}
+use Rattle.machine.proofs.Wanted.{none-wanted, reads-wanted}
+use Rattle.calls.proofs.Accepted.{deliverable, promotable}
+use Rattle.published.proofs.Problems.{posed}
+use Rattle.published.proofs.Moments.{OnCourse, start-course, deliver-course, promote-course, course-stands}
+use Rattle.history.specs.Calls.{Call, start, point, deliver, promote, result, crossTotal, check, LentCall, lengthsLent}
+use Rattle.history.specs.Logged.{refusal}
+use Rattle.history.specs.Source.{StepsFollow, StepsFollowAll}
+use Rattle.history.proofs.Moves.{moved, machineStep, Fine, moved-fine, step-fine}
+use Rattle.history.proofs.Lists.{machineAfter}
+use Rattle.history.proofs.Demand.{log-there, state-fine}
+use Rattle.history.proofs.Standing.{follows-at}
+
+-- ---- the calls
+
+module _ (m : Machine) (f : Fine m) (c : OnCourse m) where
+  moved-course : (z : Lengths) (x : Call) → refusal z (m .log) x ≡ 0 → OnCourse (moved m x)
+  unfolding moved refusal
+  moved-course z (start d t b) e = start-course d t b
+  moved-course z (point n buffer) e = c
+  moved-course z (deliver rs i) e = deliver-course m rs i (deliverable z true (m .log) rs e .wanted) (moved-fine m f z (deliver rs i) e .sound) c
+  moved-course z promote e = promote-course m (f .sound) (promotable z true (m .log) e .free) c
+  moved-course z result e = c
+  moved-course z crossTotal e = c
+  moved-course z check e = c
+
+  step-course : (x : LentCall) → OnCourse (machineStep m x)
+  unfolding machineStep
+  step-course x = split (eqb (refusal (lengthsLent (x .part)) (m .log) (x .call)) 0) refl
+    where
+      split : (t : Bool) → eqb (refusal (lengthsLent (x .part)) (m .log) (x .call)) 0 ≡ t → OnCourse (cond t (moved m (x .call)) m)
+      split true e = moved-course (lengthsLent (x .part)) (x .call) (eqb-true (refusal (lengthsLent (x .part)) (m .log) (x .call)) 0 e)
+      split false e = c
+
+after-course : (m : Machine) → Fine m → OnCourse m → (xs : List LentCall) → OnCourse (machineAfter m xs)
+unfolding machineAfter
+after-course m f c [] = c
+after-course m f c (x ∷ xs) = after-course (machineStep m x) (step-fine m f x) (step-course m f c x) xs
+
+-- ---- the machine's log
+
+steps-of : (m : Machine) → Fine m → OnCourse m → StepsFollow (m .log)
+steps-of m f c =
+    record {
+      every = λ P a t v. let x = course-stands P m c a t v in follows-at P m (countOf 2 (m .log .entries)) f (x .stands) (x .went-on);
+      some = λ none. posed (f .sound) (all none) (m .log .threshold);
+    }
+  where
+    all : (anyWanted (m .log .entries) ≡ true → ⊥) → (p : ℕ) → p < length (m .log .entries) → 1 ≤ entryAt (m .log .entries) p .state
+    all none = none-wanted (m .log .entries) (step (decLt (firstWanted (m .log .entries)) (length (m .log .entries))))
+      where
+        step : Dec (firstWanted (m .log .entries) < length (m .log .entries)) → length (m .log .entries) ≤ firstWanted (m .log .entries)
+        step (yes h) = absurd (none (reads-wanted (m .log .entries) .back h))
+        step (no h) = omega arith
+
+pub steps-follow : StepsFollowAll
+steps-follow w first later d t b lent is taken =
+    subst StepsFollow (log-there w first later d t b lent is taken)
+    (steps-of (machineAfter (steps.started d t b) later) (state-fine w first later d t b lent is taken)
+    (after-course (steps.started d t b) begun (start-course d t b) later))
+  where
+    -- with no later call
+    begun : Fine (steps.started d t b)
+    begun = unfold machineAfter in state-fine w first [] d t b (lent .0, tt) is taken

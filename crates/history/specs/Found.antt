@@ -1,0 +1,83 @@
+-- The third demand: what is found after every list of calls on one work area that begins with an accepted start, whatever the storage held
+-- before, whatever the indicators and readings. *Held*, *wanted*, *active*, *old*, *delivered* and readings are the log's.
+use mathlib.Core.Path.{_≡_}
+use mathlib.Core.Bool.{true}
+use mathlib.Core.List.{List, _∷_, List·Memᴰ}
+use Prim.Native.Nat.{ℕ, _*_, _<_, _≤_}
+use lib.ListN.{length}
+use Rattle.grid.specs.Index.{level, Index, forward, backward}
+use Rattle.area.specs.declared.IndexRecord.{IndexRecord}
+use Rattle.area.specs.Records.{recordsOf}
+use Rattle.area.specs.Entry.{Entry}
+use Rattle.area.specs.Encoding.{areaOf, entriesOf, jobWith, none}
+use Rattle.soundness.specs.Clauses.{checked}
+use Rattle.soundness.specs.Held.{forwardLink, backwardLink}
+use Rattle.encoding.specs.Entries.{entryAt, Has, Entered, EnteredOld}
+use Rattle.machine.specs.Log.{Log}
+use Rattle.machine.specs.Steps.{startLog}
+use Rattle.machine.specs.Counts.{countsOf}
+use Rattle.machine.specs.Means.{meanOf, crossOf}
+use Rattle.calls.specs.Replies.{refused, accepted, counts, total}
+use Rattle.calls.specs.Calls.{startCall, resultCall, crossCall}
+use Rattle.history.specs.Calls.{start, Part, LentCall, Answer, answer}
+use Rattle.history.specs.Logged.{logAfter, answersBy}
+use Rattle.history.specs.Storage.{Storage, areaLent, Lent, AllLent, storageAfter, answersOf}
+
+-- About neighbours: d is the number of axes, es the log's entries.
+pub record Neighbours (d : ℕ) (es : List Entry) : Type 0 where
+  -- every held index is within the ceilings
+  pub index : (p : ℕ) → p < length es → Index d (entryAt es p .levels)
+  -- and has all its backward neighbours old
+  pub behind : (p a : ℕ) → p < length es → a < d → 1 < level (entryAt es p .levels) a → EnteredOld es (backward (entryAt es p .levels) a)
+  -- within the ceilings every index whose backward neighbours are all old is held
+  pub admissible : (k : List ℕ) → Index d k → ((a : ℕ) → a < d → 1 < level k a → EnteredOld es (backward k a)) → Entered es k
+  -- once
+  pub once : (p q : ℕ) → p < length es → q < length es → entryAt es p .levels ≡ entryAt es q .levels → p ≡ q
+
+-- *Links agree both ways*: each link names its neighbour's place exactly when that neighbour is held, and is named back. rs are the records
+-- of the cells, of which the first are held. Above level 1 the backward neighbour always is (`Neighbours.behind`).
+pub record LinksAgree (es : List Entry) (rs : List IndexRecord) : Type 0 where
+  pub ahead : (p a q : ℕ) → p < length es → a < 8 → Has es (forward (entryAt es p .levels) a) q
+      → (forwardLink rs p a ≡ q) × (backwardLink rs q a ≡ p)
+  pub none-ahead : (p a : ℕ) → p < length es → a < 8 → (Entered es (forward (entryAt es p .levels) a) → ⊥) → forwardLink rs p a ≡ none
+  pub behind : (p a q : ℕ) → p < length es → a < 8 → 1 < level (entryAt es p .levels) a → Has es (backward (entryAt es p .levels) a) q
+      → (backwardLink rs p a ≡ q) × (forwardLink rs q a ≡ p)
+  pub none-behind : (p a : ℕ) → p < length es → a < 8 → level (entryAt es p .levels) a ≡ 1 → backwardLink rs p a ≡ none
+  -- none is the place of no entry
+  pub apart : length es < none
+
+-- What is found in the storage w, with the log l.
+pub record Found (w : Storage) (l : Log) : Type 0 where
+  -- the held records are the log's entries in order, with its states, indicators and readings
+  pub entries : entriesOf (areaOf (w .job) (w .cells) (w .store)) ≡ l .entries
+  -- the indicators are 0 while wanted
+  pub idle : (p : ℕ) → p < length (l .entries) → entryAt (l .entries) p .state ≡ 0 → entryAt (l .entries) p .indicator ≡ 0
+  -- the job record is worked from the log
+  pub job : w .job ≡ jobWith (l .axes) (l .threshold) (l .budget) (l .entries) (crossOf (l .entries))
+  -- the area is sound
+  pub sound : checked (areaOf (w .job) (w .cells) (w .store)) ≡ true
+  pub neighbours : Neighbours (l .axes) (l .entries)
+  pub links : LinksAgree (l .entries) (recordsOf (w .cells))
+  -- result and cross total, called on storage that is long enough, answer one and the same mean: the sum of full tensor rules over the
+  -- delivered indices, each times its combination coefficient
+  pub result : (x : Part) → Lent w x → 512 * 27 ≤ x .cells → l .budget ≤ x .readings
+      → resultCall (areaLent w x) ≡ counts (countsOf (record { log = l; mean = crossOf (l .entries) }))
+  pub cross : (x : Part) → Lent w x → 512 * 27 ≤ x .cells → l .budget ≤ x .readings → crossCall (areaLent w x) ≡ total (crossOf (l .entries))
+  -- which is also the sum of the delivered indices' differences
+  pub mean : crossOf (l .entries) ≡ meanOf (l .entries)
+
+-- After `first`, a start with d, t and b, and `later`:
+pub record Demand (w : Storage) (first : LentCall) (later : List LentCall) (d t b : ℕ) : Type 0 where
+  -- every answer, refusals included, follows from the arguments and the log
+  pub answers : answersOf w (first ∷ later) ≡ answer accepted ∷ answersBy (startLog d t b) later
+  -- and 4 never comes
+  pub never-unsound : (y : Answer) → List·Memᴰ y (answersOf w (first ∷ later)) → y .reply ≡ refused 4 → ⊥
+  -- the storage is as long as before
+  pub cells : length (storageAfter w (first ∷ later) .cells) ≡ length (w .cells)
+  pub store : length (storageAfter w (first ∷ later) .store) ≡ length (w .store)
+  pub found : Found (storageAfter w (first ∷ later)) (logAfter (startLog d t b) later)
+
+-- The claim, one over the whole list.
+abbrev pub ThirdDemand : Type 0
+ThirdDemand = (w : Storage) (first : LentCall) (later : List LentCall) (d t b : ℕ) → AllLent w (first ∷ later)
+    → first .call ≡ start d t b → startCall (areaLent w (first .part)) d t b .reply ≡ accepted → Demand w first later d t b

@@ -1,0 +1,114 @@
+-- The second demand: the calls follow the published algorithm, Fig. 1 of the source (crate `published`, specs/Figure.antt). That each single
+-- step is the rule's is in `CallFacts` (crate `calls`) and `StepFacts` (crate `machine`), that a turn is Fig. 1's in `PublishedFacts`, that
+-- differences are the trapezoidal rule's in `SumFacts` (crate `published`), `DifferenceFacts` (crate `grid`) and `RuleFacts` (crate `rule`).
+use mathlib.Core.Path.{_≡_}
+use mathlib.Core.Logic.{_⊎_}
+use mathlib.Core.Bool.{true}
+use mathlib.Core.List.{List, [], _∷_, _++_, map, List·Memᴰ}
+use Prim.Native.Nat.{ℕ, zero, suc, _*_, _<_, _≤_}
+use Rattle.sums.specs.Sums.{sumOf}
+use Rattle.grid.specs.Block.{block}
+use Rattle.grid.specs.Difference.{scaledDifference}
+use Rattle.area.specs.Entry.{deliveredOf, readingIn, pendingOf}
+use Rattle.encoding.specs.Entries.{EnteredOld}
+use Rattle.machine.specs.Log.{Log, anyWanted, wantedIndex}
+use Rattle.machine.specs.Promote as rule
+use Rattle.machine.specs.Counts.{countOf}
+use Rattle.machine.specs.Steps.{startLog}
+use Rattle.machine.specs.Causes.{Lengths}
+use Rattle.machine.specs.Means.{crossOf}
+use Rattle.calls.specs.Replies.{accepted, promotion}
+use Rattle.calls.specs.Calls.{startCall}
+use Rattle.published.specs.Figure.{Problem, increment, goesOn, turns}
+use Rattle.published.specs.Turns.{activeOf, Measured, Supplied}
+use Rattle.published.specs.Sums.{Read}
+use Rattle.history.specs.Calls.{Call, start, deliver, promote, Part, LentCall, Answer, answer}
+use Rattle.history.specs.Logged.{noted, logAfter, answerBy}
+use Rattle.history.specs.Storage.{Storage, areaLent, Lent, AllLent, storageAfter, answersOf}
+use Rattle.history.specs.Found.{Found}
+
+-- ---- the mean, after every list of calls
+
+-- After every list of the third demand, and whatever integrand the delivered readings come from, each difference is Fig. 1's increment, and
+-- the mean is its r: the sum of the increments over the old and the active. Some integrand there always is, since a point is new in one
+-- block only.
+pub record MeanFollows (l : Log) : Type 0 where
+  pub difference : (P : Problem) → Read P (l .entries) → (k : List ℕ) → List·Memᴰ k (deliveredOf (l .entries)) → scaledDifference k (readingIn (l .entries)) ≡ increment P k
+  pub sum : (P : Problem) → Read P (l .entries) → crossOf (l .entries) ≡ sumOf (deliveredOf (l .entries)) (increment P)
+  pub some : (P : Problem) × (P .axes ≡ l .axes) × Measured P × Read P (l .entries)
+
+abbrev pub MeansFollow : Type 0
+MeansFollow = (w : Storage) (first : LentCall) (later : List LentCall) (d t b : ℕ) → AllLent w (first ∷ later)
+    → first .call ≡ start d t b → startCall (areaLent w (first .part)) d t b .reply ≡ accepted → MeanFollows (logAfter (startLog d t b) later)
+
+-- ---- where Fig. 1 stands, after every list of calls
+
+-- The log stands where Fig. 1 stands after n turns: the same old set, the same active set (also in the same order), the same result,
+-- the same pending error.
+pub record Follows (P : Problem) (l : Log) (n : ℕ) : Type 0 where
+  -- nothing is left wanted; the readings are the integrand's, the indicators the function's
+  pub supplied : Supplied P (l .entries)
+  pub old-there : (k : List ℕ) → EnteredOld (l .entries) k → List·Memᴰ k (turns P n .old)
+  pub old-here : (k : List ℕ) → List·Memᴰ k (turns P n .old) → EnteredOld (l .entries) k
+  pub active : activeOf (l .entries) ≡ turns P n .active
+  pub result : crossOf (l .entries) ≡ turns P n .result
+  pub pending : pendingOf (l .entries) ≡ turns P n .estimate
+  -- the loop's test held before each of the turns, so Fig. 1 makes them
+  pub went-on : (i : ℕ) → i < n → goesOn P (turns P i) ≡ true
+  -- and promote, called next in storage that is long enough, answers *met* exactly if the test fails; then Fig. 1 returns this result
+  pub over : (z : Lengths) → 512 ≤ z .records → l .budget ≤ z .readings → (goesOn P (turns P n) ≡ true → ⊥) → answerBy z l promote ≡ answer (promotion rule.met)
+  pub goes-on : (z : Lengths) → goesOn P (turns P n) ≡ true → answerBy z l promote ≡ answer (promotion rule.met) → ⊥
+
+-- After every list of the third demand with nothing left wanted, Fig. 1 stands where the log stands, after as many turns as there are old
+-- indices; and a problem that gives these readings and indicators there always is.
+pub record StepsFollow (l : Log) : Type 0 where
+  pub every : (P : Problem) → P .axes ≡ l .axes → P .tolerance ≡ l .threshold → Supplied P (l .entries) → Follows P l (countOf 2 (l .entries))
+  pub some : (anyWanted (l .entries) ≡ true → ⊥) → (P : Problem) × (P .axes ≡ l .axes) × (P .tolerance ≡ l .threshold) × Measured P × Supplied P (l .entries)
+
+abbrev pub StepsFollowAll : Type 0
+StepsFollowAll = (w : Storage) (first : LentCall) (later : List LentCall) (d t b : ℕ) → AllLent w (first ∷ later)
+    → first .call ≡ start d t b → startCall (areaLent w (first .part)) d t b .reply ≡ accepted → StepsFollow (logAfter (startLog d t b) later)
+
+-- ---- a whole run
+
+-- The delivery of the first wanted block, with the integrand's readings in the block's order and the function's indicator.
+unfoldable pub supplyCall : Problem → Log → Call
+supplyCall P l = deliver (map (P .integrand) (block (wantedIndex (l .entries)))) (P .indicator (wantedIndex (l .entries)))
+
+-- n deliveries.
+unfoldable pub supplyCalls : Problem → ℕ → Log → List Call
+supplyCalls P zero l = []
+supplyCalls P (suc n) l = supplyCall P l ∷ supplyCalls P n (noted l (supplyCall P l))
+
+-- A promotion, and the deliveries of all that it admitted: nothing is wanted before it, so what is wanted after it is what it admitted.
+unfoldable pub turnCalls : Problem → Log → List Call
+turnCalls P l = promote ∷ supplyCalls P (countOf 0 (rule.promote l .log .entries)) (rule.promote l .log)
+
+-- Each call lent the part x.
+unfoldable pub lendAll : Part → List Call → List LentCall
+lendAll x cs = map (λ (c : Call). record { call = c; part = x }) cs
+
+-- Start with budget b and the root's delivery.
+unfoldable pub begun : Problem → (budget : ℕ) → List Call
+begun P b = start (P .axes) (P .tolerance) b ∷ supplyCall P (startLog (P .axes) (P .tolerance) b) ∷ []
+
+-- These, and then n turns: the calls, and the log after them. Start begins anew, so the log that it finds does not matter.
+unfoldable pub logOf : Part → Problem → (budget n : ℕ) → Log
+logOf x P b zero = logAfter (startLog (P .axes) (P .tolerance) b) (lendAll x (begun P b))
+logOf x P b (suc n) = logAfter (logOf x P b n) (lendAll x (turnCalls P (logOf x P b n)))
+
+unfoldable pub callsOf : Part → Problem → (budget n : ℕ) → List Call
+callsOf x P b zero = begun P b
+callsOf x P b (suc n) = callsOf x P b n ++ turnCalls P (logOf x P b n)
+
+pub record Run (w : Storage) (x : Part) (P : Problem) (b n : ℕ) : Type 0 where
+  -- no call is refused, and every promotion is promoted
+  pub answers : (y : Answer) → List·Memᴰ y (answersOf w (lendAll x (callsOf x P b n))) → (y ≡ answer accepted) ⊎ (y ≡ answer (promotion rule.promoted))
+  pub found : Found (storageAfter w (lendAll x (callsOf x P b n))) (logOf x P b n)
+  pub follows : Follows P (logOf x P b n) n
+
+-- After n turns, as long as each promotion is *promoted* (it is *spent* where the budget or the 512 held end the run), in any storage of
+-- which enough is lent, for every integrand whose values are readings.
+abbrev pub RunsFollow : Type 0
+RunsFollow = (w : Storage) (x : Part) (P : Problem) (b n : ℕ) → Lent w x → 512 * 27 ≤ x .cells → b ≤ x .readings → Measured P → 1 ≤ P .axes → P .axes ≤ 8 → 1 ≤ b → b ≤ 8192
+    → ((i : ℕ) → i < n → rule.promote (logOf x P b i) .outcome ≡ rule.promoted) → Run w x P b n
