@@ -1,0 +1,5 @@
+-- The job file: its numbers, its form, and what a file of the right form says.
+pub mod Bytes
+pub mod Form
+pub mod File
+pub mod Facts
