@@ -1,0 +1,4 @@
+-- The laws, lowest first.
+pub mod Blocks
+pub mod Ends
+pub mod Facts

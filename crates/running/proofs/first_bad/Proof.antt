@@ -1,0 +1,110 @@
+-- `running::first_bad` meets its contract: those passed are in range, so the first that is not is among the rest. Assumes nothing.
+use mathlib.Core.Path.{_≡_, refl, sym, ap, _∙_}
+use mathlib.Core.Bool.{true, false}
+use mathlib.Core.List.{List}
+use Prim.Native.Nat.{ℕ, _+_, _-_, _≤_}
+use native.Mathlib.Nat.{zero-add}
+use native.Mathlib.Omega.{arith}
+use borrow.Author.Needs.{sfits-of}
+use denote.Ref.{now}
+use lib.Dec.{leb}
+use lib.IntN.{ℤ, pos, negsuc, natAbs}
+use lib.ListN.{length, drop, getD}
+use lib.Signed.{ltZ}
+use mir.Syntax.{w32}
+use mir.Val.{SFits, toZ, ofZ}
+use mir.Facts.{toZ-ofZ}
+use Rattle.checking.proofs.Bounds.{too-low, too-high, in-range}
+use Rattle.running.specs.Course.{firstBad}
+use Rattle.running.proofs.Blocks.{bad-here, bad-later, bad-none}
+use Rattle.running.proofs.first_bad.Statement.{statement}
+use Rattle.running.proofs.first_bad.Tie as tie
+use Rattle.running.proofs.first_bad.Reads as reads
+use Rattle.running.proofs.first_bad.Lts as lts
+
+abbrev Inv-loop : tie.InvT-loop
+Inv-loop readings count n₀ n = (n ≤ length readings) × (firstBad readings ≡ n + firstBad (drop n readings))
+
+abbrev μ-loop : tie.MeasureT-loop
+μ-loop readings count n₀ n = length readings - n
+
+-- the tests of the code on the reading at i
+module _ (rs : List ℤ) (i : ℕ) (fits : SFits w32 (getD rs i (pos 0))) where
+  abbrev read : ℤ
+  read = toZ w32 (ofZ w32 (getD rs i (pos 0)))
+
+  low : ltZ read (negsuc 1048575) ≡ true → leb (natAbs (getD rs i (pos 0))) 1048576 ≡ false
+  low e = too-low (getD rs i (pos 0)) 1048576 (rw (toZ-ofZ fits) at e)
+
+  high : ltZ (pos 1048576) read ≡ true → leb (natAbs (getD rs i (pos 0))) 1048576 ≡ false
+  high e = too-high (getD rs i (pos 0)) 1048576 (rw (toZ-ofZ fits) at e)
+
+  fine : ltZ read (negsuc 1048575) ≡ false → ltZ (pos 1048576) read ≡ false → leb (natAbs (getD rs i (pos 0))) 1048576 ≡ true
+  fine d e = in-range (getD rs i (pos 0)) 1048576 (rw (toZ-ofZ fits) at d) (rw (toZ-ofZ fits) at e)
+
+-- src/lib.rt:27:5
+loop-holds : tie.Need-loop-holds Inv-loop μ-loop
+loop-holds c = (omega arith, sym (zero-add (firstBad (now (c .args .readings)))))
+
+-- src/lib.rt:28:23
+mul-reading : tie.Need-mul-reading Inv-loop μ-loop
+mul-reading c = omega arith
+
+-- src/lib.rt:28:23
+shared-slice-copy-out-reading : tie.Need-shared-slice-copy-out-reading Inv-loop μ-loop
+shared-slice-copy-out-reading c = omega arith
+
+-- src/lib.rt:30:13
+returns : tie.Need-returns Inv-loop μ-loop
+returns c =
+    let s = c .before .before .before .before in
+    let l = c .before .before .before .loop in
+    omega (arith, l .inv .1, bad-here (now (s .args .readings)) (l .n) (omega arith) (low (now (s .args .readings)) (l .n) (sfits-of (c .before .reading .given)) (c .if1 .taken)))
+
+-- src/lib.rt:33:13
+returns-2 : tie.Need-returns-2 Inv-loop μ-loop
+returns-2 c =
+    let s = c .before .before .before .before .before in
+    let l = c .before .before .before .before .loop in
+    omega (arith, l .inv .1, bad-here (now (s .args .readings)) (l .n) (omega arith) (high (now (s .args .readings)) (l .n) (sfits-of (c .before .before .reading .given)) (c .if2 .taken)))
+
+-- src/lib.rt:35:9
+add-n : tie.Need-add-n Inv-loop μ-loop
+add-n c = omega arith
+
+-- src/lib.rt:27:5
+loop-less : tie.Need-loop-less Inv-loop μ-loop
+loop-less c = omega arith
+
+-- src/lib.rt:27:5
+loop-again : tie.Need-loop-again Inv-loop μ-loop
+loop-again c =
+    let s = c .before .before .before .before .before in
+    let l = c .before .before .before .before .loop in (
+      omega arith,
+      l .inv .1 ∙ bad-later (now (s .args .readings)) (l .n) (omega arith)
+          (fine (now (s .args .readings)) (l .n) (sfits-of (c .before .before .reading .given)) (c .before .if1 .left) (c .if2 .left)),
+    )
+
+-- src/lib.rt:22:1
+returns-3 : tie.Need-returns-3 Inv-loop μ-loop
+returns-3 c =
+    let s = c .before .before in
+    let l = c .before .loop in
+    omega (arith, l .inv .1, bad-none (now (s .args .readings)) (l .n) (omega arith))
+
+pub first-bad-spec : {M : Type 1} → statement M
+first-bad-spec =
+    tie.close
+    (tie.spec
+    Inv-loop
+    μ-loop
+    loop-holds
+    mul-reading
+    shared-slice-copy-out-reading
+    returns
+    returns-2
+    add-n
+    loop-less
+    loop-again
+    returns-3)

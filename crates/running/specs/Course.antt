@@ -1,0 +1,76 @@
+-- The course of a job file ("Job file and report"): start, and then, while a block is wanted, the next entry is delivered, else it promotes,
+-- until *met*, *spent* or *short* (entries exhausted, block wanted).
+use mathlib.Core.Bool.{true, cond}
+use mathlib.Core.List.{List, [], _∷_}
+use Prim.Native.Nat.{ℕ, zero, suc, _+_, _*_}
+use lib.Dec.{leb, eqb}
+use lib.IntN.{ℤ, natAbs}
+use Rattle.machine.specs.Log.{Machine, anyWanted}
+use Rattle.machine.specs.Promote as rule
+use Rattle.machine.specs.Steps.{started, deliver, promoteStep}
+use Rattle.machine.specs.Causes.{Lengths, firstCause, startCauses, deliverCauses}
+use Rattle.jobfile.specs.Bytes.{four}
+use Rattle.jobfile.specs.Form.{Form, formed, broken, number, byteOf, formOf, entryCount, entryByte}
+use Rattle.jobfile.specs.File.{entryOf, fileOf}
+use Rattle.reporting.specs.Text.{Ending, met, spent, short}
+
+-- A run has storage of its own: 512 records and 8,192 readings, long enough for every budget.
+abbrev pub ownLengths : Lengths
+ownLengths = record { records = 512; readings = 8192 }
+
+pub data Result : Type 0 where
+  -- refused by a cause, with the byte that it names
+  refusedAt : (number byte : ℕ) → Result
+  -- ended, with the state, and the number of entries delivered
+  ended : Ending → Machine → (used : ℕ) → Result
+  -- not at an end after so many steps; that this never comes of a run is a fact
+  unfinished : Result
+
+-- The number of readings before the first that is out of range.
+unfoldable pub firstBad : List ℤ → ℕ
+firstBad [] = 0
+firstBad (x ∷ xs) = cond (leb (natAbs x) 1048576) (suc (firstBad xs)) 0
+
+-- 7 names the entry's count field, 8 the reading.
+unfoldable pub deliveryByte : List ℕ → (entry number : ℕ) → ℕ
+deliveryByte c i n = cond (eqb n 7) (entryByte i + 4) (four c (entryByte i + 8) + 4 * firstBad (entryOf c i .readings))
+
+-- Why the delivery of entry i is refused, 0 if it isn't.
+abbrev pub deliveryCause : List ℕ → Machine → ℕ → ℕ
+deliveryCause c m i = firstCause (deliverCauses ownLengths true (m .log) (entryOf c i .readings))
+
+-- Promote ends the run, unless it is promoted.
+unfoldable pub byOutcome : rule.Outcome → Machine → ℕ → Result → Result
+byOutcome rule.met m i next = ended met m i
+byOutcome rule.spent m i next = ended spent m i
+byOutcome rule.promoted m i next = next
+
+-- At most n steps, with i entries delivered.
+unfoldable pub course : List ℕ → (n : ℕ) → Machine → (i : ℕ) → Result
+course c zero m i = unfinished
+course c (suc n) m i =
+    cond (anyWanted (m .log .entries))
+    (cond (leb (entryCount c) i) (ended short m i)
+    (cond (eqb (deliveryCause c m i) 0) (course c n (deliver m (entryOf c i .readings) (entryOf c i .indicator)) (i + 1))
+    (refusedAt (deliveryCause c m i) (deliveryByte c i (deliveryCause c m i)))))
+    (byOutcome (rule.promote (m .log) .outcome) m i (course c n (promoteStep m) i))
+
+-- Every step delivers an entry or makes an index old, but for the last.
+abbrev pub steps : ℕ
+steps = 1025
+
+-- Numbers 1 and 2 name bytes 0 and 4.
+unfoldable pub startByte : ℕ → ℕ
+startByte n = cond (eqb n 1) 0 4
+
+abbrev pub startCause : List ℕ → ℕ
+startCause c = firstCause (startCauses ownLengths (fileOf c .axes) (fileOf c .budget))
+
+-- The whole form is tested before start.
+unfoldable pub resultIn : Form → List ℕ → Result
+resultIn (broken f) c = refusedAt (number f) (byteOf f)
+resultIn formed c =
+    cond (eqb (startCause c) 0) (course c steps (started (fileOf c .axes) (fileOf c .threshold) (fileOf c .budget)) 0) (refusedAt (startCause c) (startByte (startCause c)))
+
+unfoldable pub resultOf : List ℕ → Result
+resultOf c = resultIn (formOf c) c

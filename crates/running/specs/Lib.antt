@@ -1,0 +1,4 @@
+-- A job file's run: its course, its report, and that it always ends.
+pub mod Course
+pub mod Report
+pub mod Facts

@@ -1,0 +1,33 @@
+-- What a run prints: the report of its ending, or only `refused N at B`.
+use mathlib.Core.List.{List, []}
+use Prim.Native.Nat.{ℕ, _-_}
+use Rattle.machine.specs.Log.{Machine}
+use Rattle.machine.specs.Counts.{countsOf}
+use Rattle.jobfile.specs.Form.{entryCount}
+use Rattle.reporting.specs.Text.{Ending, Figures, reportText, refusalText}
+use Rattle.running.specs.Course.{Result, refusedAt, ended, unfinished, resultOf}
+
+-- `axes` is d, `unused` counts entries not delivered, and `end` names the ending. The other lines are Result's.
+unfoldable pub figuresOf : (entries : ℕ) → Ending → Machine → (used : ℕ) → Figures
+figuresOf n e m i =
+    record {
+      axes = m .log .axes;
+      old = countsOf m .old;
+      active = countsOf m .active;
+      wanted = countsOf m .wanted;
+      reserved = countsOf m .reserved;
+      pending = countsOf m .pending;
+      ceiling = countsOf m .ceiling;
+      scaled = countsOf m .mean;
+      unused = n - i;
+      ending = e;
+    }
+
+unfoldable pub textIn : ℕ → Result → List ℕ
+textIn n (refusedAt number byte) = refusalText number byte
+textIn n (ended e m i) = reportText (figuresOf n e m i)
+textIn n unfinished = []
+
+-- The text that a file's bytes give.
+unfoldable pub textOf : List ℕ → List ℕ
+textOf c = textIn (entryCount c) (resultOf c)
