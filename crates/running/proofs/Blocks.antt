@@ -8,8 +8,8 @@ use native.Mathlib.Nat.{add-zero}
 use native.Mathlib.Omega.{arith}
 use lib.Dec.{leb}
 use lib.IntN.{ℤ, pos, natAbs}
-use lib.ListN.{length, getD, set, drop, length-append}
-use lib.Seq.{drop-cons, drop-nil, drop-length, append-snoc, set-at}
+use lib.ListN.{length, getD, set, drop}
+use lib.Seq.{drop-cons, drop-nil, append-snoc, set-at}
 use Rattle.jobfile.specs.Bytes.{signedFour}
 use Rattle.jobfile.specs.File.{readingsAt}
 use Rattle.running.specs.Course.{firstBad}

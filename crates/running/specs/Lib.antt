@@ -1,4 +1,5 @@
 -- A job file's run: its course, its report, and that it always ends.
 pub mod Course
 pub mod Report
+pub mod Code
 pub mod Facts

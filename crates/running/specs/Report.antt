@@ -8,8 +8,8 @@ use Rattle.reporting.specs.Text.{Ending, Figures, reportText, refusalText}
 use Rattle.running.specs.Course.{Result, refusedAt, ended, unfinished, resultOf}
 
 -- `axes` is d, `unused` counts entries not delivered, and `end` names the ending. The other lines are Result's.
-unfoldable pub figuresOf : (entries : ℕ) → Ending → Machine → (used : ℕ) → Figures
-figuresOf n e m i =
+unfoldable pub figuresOf : Ending → Machine → (unused : ℕ) → Figures
+figuresOf e m u =
     record {
       axes = m .log .axes;
       old = countsOf m .old;
@@ -19,13 +19,14 @@ figuresOf n e m i =
       pending = countsOf m .pending;
       ceiling = countsOf m .ceiling;
       scaled = countsOf m .mean;
-      unused = n - i;
+      unused = u;
       ending = e;
     }
 
+-- n is the number of the file's entries.
 unfoldable pub textIn : ℕ → Result → List ℕ
 textIn n (refusedAt number byte) = refusalText number byte
-textIn n (ended e m i) = reportText (figuresOf n e m i)
+textIn n (ended e m i) = reportText (figuresOf e m (n - i))
 textIn n unfinished = []
 
 -- The text that a file's bytes give.

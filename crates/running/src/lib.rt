@@ -1,10 +1,43 @@
 // A job file's run, from bytes to report.
 ghost use mathlib.Core.Path.{_≡_};
+ghost use mathlib.Core.Bool.{cond};
 ghost use mathlib.Core.List.{_++_};
-ghost use Prim.Native.Nat.{_+_, _*_, _≤_};
+ghost use Prim.Native.Nat.{ℕ, suc, _+_, _*_, _<_, _≤_};
+ghost use lib.Dec.{eqb};
 ghost use lib.ListN.{length, drop};
-ghost use Rattle.jobfile.specs.File.{readingsAt};
-ghost use Rattle.running.specs.Course.{firstBad};
+ghost use Rattle.area.specs.Encoding.{areaOf, entriesOf};
+ghost use Rattle.machine.specs.Log.{machineOf, firstWanted};
+ghost use Rattle.machine.specs.Steps.{started, deliver};
+ghost use Rattle.writing.specs.Settled.{Settled};
+ghost use Rattle.jobfile.specs.Form.{formed, formOf, entryCount};
+ghost use Rattle.jobfile.specs.File.{readingsAt, entryOf};
+ghost use Rattle.jobfile.specs.Facts.{FormedFile};
+ghost use Rattle.running.specs.Course.{ownLengths, firstBad, refusedAt, deliveryCause, deliveryByte, course as courseOf};
+ghost use Rattle.machine.specs.Causes.{firstCause, startCauses};
+ghost use Rattle.reporting.specs.Text.{reportText};
+ghost use Rattle.reporting.specs.Code.{endingIn};
+ghost use Rattle.running.specs.Report.{figuresOf, textIn, textOf};
+ghost use Rattle.running.specs.Code.{afterGiven, SettledGiven, stepGiven, stepPromoted, afterStep, LeftByStep, Printed, runOn};
+
+// What a run answers: the buffer is too short for a report, or the text is in it, so many bytes long.
+pub enum Ran {
+    TooShort,
+    Written(usize),
+}
+
+// One step of a run: refused by a cause that names a byte, ended, or the job record after a delivery or a promotion.
+enum Step {
+    Refused(u32, usize),
+    Ended(reporting::Ending),
+    Delivered(area::JobRecord),
+    Promoted(area::JobRecord),
+}
+
+// An entry delivered, with the job record after it, or refused by a cause that names a byte.
+enum Given {
+    Refused(u32, usize),
+    Done(area::JobRecord),
+}
 
 // Reads readings from the file's bytes into the front of a block; what lies past them stays.
 fn read_block(bytes: &[u8], from: usize, count: usize, block: &mut [i32])
@@ -35,4 +68,245 @@ fn first_bad(readings: &[i32]) -> usize
         n += 1;
     }
     n
+}
+
+// Delivers entry i of the file, whose readings go through `block`, as the first wanted block, which is that at `place`.
+fn deliver_entry(
+    job: area::JobRecord,
+    place: usize,
+    i: usize,
+    bytes: &[u8],
+    block: &mut [i32],
+    cells: &mut [u32],
+    store: &mut [i32],
+) -> Given
+    requires { ⌜ Settled (areaOf job (now cells) (now store)) × (place ≡ firstWanted (entriesOf (areaOf job (now cells) (now store)))) × (place < job .held) ⌝ }
+    requires { ⌜ FormedFile (now bytes) × (i < entryCount (now bytes)) × (8192 ≤ length (now block)) ⌝ }
+    ensures is { λ r. ⌜ ((n : ℕ) → cond (eqb (deliveryCause (now (bytes .entry)) (machineOf (areaOf job (now (cells .entry)) (now (store .entry)))) i) 0) (courseOf (now (bytes .entry)) n (deliver (machineOf (areaOf job (now (cells .entry)) (now (store .entry)))) (entryOf (now (bytes .entry)) i .readings) (entryOf (now (bytes .entry)) i .indicator)) (i + 1)) (refusedAt (deliveryCause (now (bytes .entry)) (machineOf (areaOf job (now (cells .entry)) (now (store .entry)))) i) (deliveryByte (now (bytes .entry)) i (deliveryCause (now (bytes .entry)) (machineOf (areaOf job (now (cells .entry)) (now (store .entry)))) i))) ≡ afterGiven (now (bytes .entry)) n i r (now (cells .exit)) (now (store .exit))) ⌝ }
+    ensures settled { λ r. ⌜ SettledGiven r (now (cells .exit)) (now (store .exit)) ⌝ }
+{
+    let at = 24 + 12 * i;
+    let indicator = jobfile::four_at(bytes, at);
+    let count = jobfile::four_at(bytes, at + 4) as usize;
+    let from = jobfile::four_at(bytes, at + 8) as usize;
+    let size = grid::block_size(area::levels_at(cells, place));
+    if count != size {
+        return Given::Refused(7, at + 4);
+    }
+    read_block(bytes, from, count, block);
+    let bad = first_bad(&block[..count]);
+    if bad < count {
+        return Given::Refused(8, from + 4 * bad);
+    }
+    let after = delivery::deliver(job, place, &block[..count], indicator, cells, store);
+    Given::Done(after)
+}
+
+// A delivery as a step.
+fn step_of_given(given: Given) -> Step
+    ensures { λ r. ⌜ r ≡ stepGiven given ⌝ }
+{
+    match given {
+        Given::Refused(number, byte) => Step::Refused(number, byte),
+        Given::Done(job) => Step::Delivered(job),
+    }
+}
+
+// A promotion as a step.
+fn step_of_promotion(outcome: promotion::Outcome, job: area::JobRecord) -> Step
+    ensures { λ r. ⌜ r ≡ stepPromoted outcome job ⌝ }
+{
+    match outcome {
+        promotion::Outcome::Met => Step::Ended(reporting::Ending::Met),
+        promotion::Outcome::Spent => Step::Ended(reporting::Ending::Spent),
+        promotion::Outcome::Promoted => Step::Promoted(job),
+    }
+}
+
+// One step: the next entry is delivered while a block is wanted, else it promotes.
+fn next_step(
+    job: area::JobRecord,
+    used: usize,
+    entries: usize,
+    bytes: &[u8],
+    block: &mut [i32],
+    cells: &mut [u32],
+    store: &mut [i32],
+) -> Step
+    requires { ⌜ Settled (areaOf job (now cells) (now store)) × FormedFile (now bytes) × (entries ≡ entryCount (now bytes)) × (8192 ≤ length (now block)) ⌝ }
+    ensures is { λ r. ⌜ ((n : ℕ) → courseOf (now (bytes .entry)) (suc n) (machineOf (areaOf job (now (cells .entry)) (now (store .entry)))) used ≡ afterStep (now (bytes .entry)) n used (machineOf (areaOf job (now (cells .entry)) (now (store .entry)))) r (now (cells .exit)) (now (store .exit))) ⌝ }
+    ensures left { λ r. ⌜ LeftByStep entries used job (now (cells .entry)) (now (store .entry)) r (now (cells .exit)) (now (store .exit)) ⌝ }
+{
+    let held = job.held as usize;
+    let place = delivery::first_wanted(held, cells);
+    if place < held {
+        if entries <= used {
+            return Step::Ended(reporting::Ending::Short);
+        }
+        let given = deliver_entry(job, place, used, bytes, block, cells, store);
+        return step_of_given(given);
+    }
+    let promotion = promotion::promote(job, cells, store);
+    let outcome = promotion.outcome;
+    let after = promotion.job;
+    step_of_promotion(outcome, after)
+}
+
+// Writes the report of a run that has ended.
+fn put_ended(
+    job: area::JobRecord,
+    ending: reporting::Ending,
+    unused: usize,
+    cells: &[u32],
+    store: &[i32],
+    report: &mut [u8],
+) -> usize
+    requires { ⌜ Settled (areaOf job (now cells) (now store)) × (unused ≤ 512) × (512 ≤ length (now report)) ⌝ }
+    ensures { λ r. ⌜ Printed (reportText (figuresOf (endingIn ending) (machineOf (areaOf job (now (cells .entry)) (now (store .entry)))) unused)) (now (report .entry)) (now (report .exit)) r ⌝ }
+{
+    let counts = counting::result(job, cells, store);
+    let figures = reporting::Figures {
+        axes: job.axes,
+        old: counts.old,
+        active: counts.active,
+        wanted: counts.wanted,
+        reserved: counts.reserved,
+        pending: counts.pending,
+        ceiling: counts.ceiling,
+        scaled: counts.mean,
+        unused: unused as u32,
+        ending,
+    };
+    reporting::put_report(figures, report)
+}
+
+// Why start is refused, the run's own storage being long enough for every budget.
+fn start_cause(axes: u32, budget: u32) -> u32
+    ensures { λ r. ⌜ r ≡ firstCause (startCauses ownLengths axes budget) ⌝ }
+{
+    if axes < 1 {
+        return 1;
+    }
+    if 8 < axes {
+        return 1;
+    }
+    if budget < 1 {
+        return 2;
+    }
+    if 8192 < budget {
+        return 2;
+    }
+    0
+}
+
+// Goes on with a run, so many steps at most. It calls itself once for each step.
+fn run_from(
+    left: usize,
+    job: area::JobRecord,
+    used: usize,
+    entries: usize,
+    bytes: &[u8],
+    block: &mut [i32],
+    cells: &mut [u32],
+    store: &mut [i32],
+    report: &mut [u8],
+) -> usize
+    requires { ⌜ Settled (areaOf job (now cells) (now store)) × FormedFile (now bytes) × (entries ≡ entryCount (now bytes)) × (8192 ≤ length (now block)) ⌝ }
+    requires { ⌜ (used ≤ entries) × (512 ≤ length (now report)) ⌝ }
+    ensures { λ r. ⌜ Printed (textIn entries (courseOf (now (bytes .entry)) left (machineOf (areaOf job (now (cells .entry)) (now (store .entry)))) used)) (now (report .entry)) (now (report .exit)) r ⌝ }
+{
+    if left == 0 {
+        return 0;
+    }
+    let next = next_step(job, used, entries, bytes, block, cells, store);
+    match next {
+        Step::Refused(number, byte) => reporting::put_refusal(number, byte, report),
+        Step::Ended(ending) => { put_ended(job, ending, entries - used, cells, store, report) }
+        Step::Delivered(after) => run_from(
+            left - 1,
+            after,
+            used + 1,
+            entries,
+            bytes,
+            block,
+            cells,
+            store,
+            report,
+        ),
+        Step::Promoted(after) => run_from(
+            left - 1,
+            after,
+            used,
+            entries,
+            bytes,
+            block,
+            cells,
+            store,
+            report,
+        ),
+    }
+}
+
+// Runs a job that start accepts, with the area in locals: 512 records, and 8,192 readings for the store and for a block.
+fn run_started(
+    axes: u32,
+    threshold: u64,
+    budget: u32,
+    entries: usize,
+    bytes: &[u8],
+    report: &mut [u8],
+) -> usize
+    requires { ⌜ (firstCause (startCauses ownLengths axes budget) ≡ 0) × FormedFile (now bytes) × (entries ≡ entryCount (now bytes)) × (512 ≤ length (now report)) ⌝ }
+    ensures { λ r. ⌜ Printed (textIn entries (courseOf (now (bytes .entry)) 1025 (started axes threshold budget) 0)) (now (report .entry)) (now (report .exit)) r ⌝ }
+{
+    let mut cells = [0u32; 13824];
+    let mut store = [0i32; 8192];
+    let mut block = [0i32; 8192];
+    let job = delivery::start(axes, threshold, budget, &mut cells);
+    run_from(
+        1025,
+        job,
+        0,
+        entries,
+        bytes,
+        &mut block,
+        &mut cells,
+        &mut store,
+        report,
+    )
+}
+
+// Runs a file of the right form.
+fn run_formed(bytes: &[u8], report: &mut [u8]) -> usize
+    requires { ⌜ (formOf (now bytes) ≡ formed) × (512 ≤ length (now report)) ⌝ }
+    ensures { λ r. ⌜ Printed (textOf (now (bytes .entry))) (now (report .entry)) (now (report .exit)) r ⌝ }
+{
+    let axes = jobfile::four_at(bytes, 0);
+    let budget = jobfile::four_at(bytes, 4);
+    let threshold = jobfile::eight_at(bytes, 8);
+    let entries = jobfile::four_at(bytes, 16) as usize;
+    let cause = start_cause(axes, budget);
+    if cause == 1 {
+        return reporting::put_refusal(1, 0, report);
+    }
+    if cause != 0 {
+        return reporting::put_refusal(cause, 4, report);
+    }
+    run_started(axes, threshold, budget, entries, bytes, report)
+}
+
+// Runs a job file, and writes its report, or the line of its refusal, at the beginning of the buffer. 512 bytes suffice.
+pub fn run(bytes: &[u8], report: &mut [u8]) -> Ran
+    ensures { λ r. ⌜ record { answer = r; buffer = now (report .exit) } ≡ runOn (now (bytes .entry)) (now (report .entry)) ⌝ }
+{
+    if report.len() < 512 {
+        return Ran::TooShort;
+    }
+    let form = jobfile::parse(bytes);
+    match form {
+        jobfile::Form::Formed => Ran::Written(run_formed(bytes, report)),
+        jobfile::Form::Header(byte) => Ran::Written(reporting::put_refusal(10, byte, report)),
+        jobfile::Form::Entry(byte) => Ran::Written(reporting::put_refusal(10, byte, report)),
+        jobfile::Form::Readings(byte) => Ran::Written(reporting::put_refusal(10, byte, report)),
+    }
 }

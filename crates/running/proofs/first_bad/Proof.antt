@@ -1,5 +1,5 @@
 -- `running::first_bad` meets its contract: those passed are in range, so the first that is not is among the rest. Assumes nothing.
-use mathlib.Core.Path.{_≡_, refl, sym, ap, _∙_}
+use mathlib.Core.Path.{_≡_, sym, _∙_}
 use mathlib.Core.Bool.{true, false}
 use mathlib.Core.List.{List}
 use Prim.Native.Nat.{ℕ, _+_, _-_, _≤_}
@@ -19,8 +19,6 @@ use Rattle.running.specs.Course.{firstBad}
 use Rattle.running.proofs.Blocks.{bad-here, bad-later, bad-none}
 use Rattle.running.proofs.first_bad.Statement.{statement}
 use Rattle.running.proofs.first_bad.Tie as tie
-use Rattle.running.proofs.first_bad.Reads as reads
-use Rattle.running.proofs.first_bad.Lts as lts
 
 abbrev Inv-loop : tie.InvT-loop
 Inv-loop readings count n₀ n = (n ≤ length readings) × (firstBad readings ≡ n + firstBad (drop n readings))

@@ -14,9 +14,6 @@ use Rattle.jobfile.specs.File.{readingsAt}
 use Rattle.running.proofs.Blocks.{block-next}
 use Rattle.running.proofs.read_block.Statement.{statement}
 use Rattle.running.proofs.read_block.Tie as tie
-use Rattle.running.proofs.read_block.Reads as reads
-use Rattle.running.proofs.read_block.Lts as lts
-use Rattle.jobfile.proofs.signed_at.Reads as signed-at-reads
 
 abbrev Inv-loop : tie.InvT-loop
 Inv-loop bytes from count block₀ n₀ block n = (n ≤ count) × (length block ≡ length block₀) × (block ≡ readingsAt bytes n from ++ drop n block₀)

@@ -1,0 +1,45 @@
+-- The figures of a report from the code's counts.
+-- Assumes nothing.
+use mathlib.Core.Path.{_≡_, ap, _∙_}
+use Prim.Native.Nat.{ℕ}
+use lib.IntN.{ℤ}
+use Rattle.machine.specs.Log.{Machine}
+use Rattle.machine.specs.Counts as machine
+use Rattle.counting.specs.declared.Counts.{Counts}
+use Rattle.counting.specs.Answer.{countsIn}
+use Rattle.reporting.specs.declared.Ending as code
+use Rattle.reporting.specs.Text.{Figures}
+use Rattle.reporting.specs.Code.{endingIn, figuresIn}
+use Rattle.running.specs.Report.{figuresOf}
+
+pub figures-are : (m : Machine) (e : code.Ending) (u : ℕ) (c : Counts) (z : ℤ) → z ≡ c .mean → countsIn c ≡ machine.countsOf m
+    → figuresIn (record { axes = m .log .axes; old = c .old; active = c .active; wanted = c .wanted; reserved = c .reserved; pending = c .pending; ceiling = c .ceiling; scaled = z; unused = u; ending = e })
+    ≡ figuresOf (endingIn e) m u
+unfolding figuresIn figuresOf countsIn
+figures-are m e u c z same is =
+    ap {B = Figures}
+    (λ x. record {
+      axes = m .log .axes;
+      old = c .old;
+      active = c .active;
+      wanted = c .wanted;
+      reserved = c .reserved;
+      pending = c .pending;
+      ceiling = c .ceiling;
+      scaled = x;
+      unused = u;
+      ending = endingIn e;
+    }) same
+    ∙ ap {B = Figures}
+    (λ (x : machine.Counts). record {
+      axes = m .log .axes;
+      old = x .old;
+      active = x .active;
+      wanted = x .wanted;
+      reserved = x .reserved;
+      pending = x .pending;
+      ceiling = x .ceiling;
+      scaled = x .mean;
+      unused = u;
+      ending = endingIn e;
+    }) is

@@ -1,0 +1,120 @@
+-- `running::next_step` meets its contract: a block is wanted or not, and an entry is left or not. Assumes nothing.
+use mathlib.Core.Path.{refl, sym, ap, _∙_, subst}
+use Prim.Native.Nat.{_<_}
+use native.Mathlib.Omega.{arith}
+use denote.Ref.{now}
+use Rattle.area.specs.Encoding.{areaOf}
+use Rattle.machine.specs.Log.{machineOf}
+use Rattle.calls.proofs.Settling.{held-there}
+use Rattle.reporting.specs.Code.{endingIn}
+use Rattle.running.specs.Code.{afterStep, LeftByStep}
+use Rattle.running.proofs.Stepping.{way-short, way-deliver, way-promote, place-is, wanted-there, none-there, wanted-none, given-step, given-left, promoted-step, promoted-left}
+use borrow.Author.Needs.{needs}
+use Rattle.running.proofs.next_step.Statement.{statement}
+use Rattle.running.proofs.next_step.Tie as tie
+
+-- src/lib.rt:136:16
+cast-held : tie.Need-cast-held
+cast-held c = search needs
+
+-- src/lib.rt:137:9
+first-wanted-requires : tie.Need-first-wanted-requires
+first-wanted-requires c κs = let s = c .before .before .before .before in held-there (s .args .job) (now (s .args .cells)) (now (s .args .store)) (s .pre .0)
+
+-- src/lib.rt:140:13
+same-length : tie.Need-same-length
+same-length c = search needs
+
+-- src/lib.rt:140:13
+returns : tie.Need-returns
+unfolding afterStep endingIn
+returns c =
+    let s = c .before .before .before .before .before .before .before in (
+      λ n. way-short (now (s .args .bytes)) n (machineOf (areaOf (s .args .job) (now (s .args .cells)) (now (s .args .store)))) (s .args .used) (wanted-there (s .args .job) (now (s .args .cells)) (now (s .args .store)) (s .pre .0) (c .before .before .first-wanted .result) (c .before .before .first-wanted .ensures) (c .before .if1 .taken)) (omega (arith, s .pre .2, c .if2 .taken)),
+      refl,
+    )
+
+-- src/lib.rt:142:13
+deliver-entry-requires : tie.Need-deliver-entry-requires
+deliver-entry-requires c κs =
+    let s = c .before .before .before .before .before .before .before .before .before .before in (
+      (s .pre .0, place-is (s .args .job) (now (s .args .cells)) (now (s .args .store)) (s .pre .0) (c .before .before .before .before .before .first-wanted .result) (c .before .before .before .before .before .first-wanted .ensures), c .before .before .before .before .if1 .taken),
+      (s .pre .1, omega (arith, s .pre .2, c .before .before .before .if2 .left), s .pre .3),
+    )
+
+-- src/lib.rt:143:9
+step-of-given-requires : tie.Need-step-of-given-requires
+step-of-given-requires c κs = search needs
+
+-- src/lib.rt:143:9
+same-length-2 : tie.Need-same-length-2
+same-length-2 c = search needs
+
+-- src/lib.rt:143:9
+same-length-3 : tie.Need-same-length-3
+same-length-3 c = search needs
+
+-- src/lib.rt:143:9
+same-length-4 : tie.Need-same-length-4
+same-length-4 c = search needs
+
+-- src/lib.rt:143:9
+returns-2 : tie.Need-returns-2
+returns-2 c =
+    let s = c .before .before .before .before .before .before .before .before .before .before .before .before .before .before .before .before in
+    let inside : s .args .used < s .args .entries = omega (arith, c .before .before .before .before .before .before .before .before .before .if2 .left) in (
+      λ n. way-deliver (now (s .args .bytes)) n (machineOf (areaOf (s .args .job) (now (s .args .cells)) (now (s .args .store)))) (s .args .used) (wanted-there (s .args .job) (now (s .args .cells)) (now (s .args .store)) (s .pre .0) (c .before .before .before .before .before .before .before .before .before .before .before .first-wanted .result) (c .before .before .before .before .before .before .before .before .before .before .before .first-wanted .ensures) (c .before .before .before .before .before .before .before .before .before .before .if1 .taken)) (omega (arith, s .pre .2, inside))
+          ∙ c .before .before .before .before .before .deliver-entry .ensures .0 n
+          ∙ given-step (s .args .job) (now (s .args .cells)) (now (s .args .store)) (s .pre .0) (now (s .args .bytes)) (s .args .used) (s .args .entries) inside _ _ (c .before .before .before .before .before .deliver-entry .result) n
+          ∙ ap (λ x. afterStep (now (s .args .bytes)) n (s .args .used) (machineOf (areaOf (s .args .job) (now (s .args .cells)) (now (s .args .store)))) x (c .before .before .before .before .before .deliver-entry .last .1 .1 .1 .1 .1 .0) (c .before .before .before .before .before .deliver-entry .last .1 .1 .1 .1 .1 .1 .0)) (sym (c .step-of-given .ensures)),
+      subst (λ x. LeftByStep (s .args .entries) (s .args .used) (s .args .job) (now (s .args .cells)) (now (s .args .store)) x (c .before .before .before .before .before .deliver-entry .last .1 .1 .1 .1 .1 .0) (c .before .before .before .before .before .deliver-entry .last .1 .1 .1 .1 .1 .1 .0)) (sym (c .step-of-given .ensures))
+          (given-left (s .args .job) (now (s .args .cells)) (now (s .args .store)) (s .pre .0) (now (s .args .bytes)) (s .args .used) (s .args .entries) inside _ _ (c .before .before .before .before .before .deliver-entry .result) (c .before .before .before .before .before .deliver-entry .ensures .1)),
+    )
+
+-- src/lib.rt:145:9
+promote-requires : tie.Need-promote-requires
+promote-requires c κs = let s = c .before .before .before .before .before .before .before .before in (s .pre .0, none-there (s .args .job) (now (s .args .cells)) (now (s .args .store)) (s .pre .0) (c .before .before .before .first-wanted .result) (c .before .before .before .first-wanted .ensures) (c .before .before .if1 .left))
+
+-- src/lib.rt:148:5
+step-of-promotion-requires : tie.Need-step-of-promotion-requires
+step-of-promotion-requires c κs = search needs
+
+-- src/lib.rt:123:1
+same-length-5 : tie.Need-same-length-5
+same-length-5 c = search needs
+
+-- src/lib.rt:123:1
+same-length-6 : tie.Need-same-length-6
+same-length-6 c = search needs
+
+-- src/lib.rt:123:1
+returns-3 : tie.Need-returns-3
+returns-3 c =
+    let s = c .before .before .before .before .before .before .before .before .before .before .before .before .before in
+    let free = none-there (s .args .job) (now (s .args .cells)) (now (s .args .store)) (s .pre .0) (c .before .before .before .before .before .before .before .before .first-wanted .result) (c .before .before .before .before .before .before .before .before .first-wanted .ensures) (c .before .before .before .before .before .before .before .if1 .left) in (
+      λ n. way-promote (now (s .args .bytes)) n (machineOf (areaOf (s .args .job) (now (s .args .cells)) (now (s .args .store)))) (s .args .used) (wanted-none (s .args .job) (now (s .args .cells)) (now (s .args .store)) (s .pre .0) (c .before .before .before .before .before .before .before .before .first-wanted .result) (c .before .before .before .before .before .before .before .before .first-wanted .ensures) (c .before .before .before .before .before .before .before .if1 .left))
+          ∙ promoted-step (s .args .job) (now (s .args .cells)) (now (s .args .store)) (s .pre .0) (now (s .args .bytes)) (s .args .used) (s .args .entries) free (c .before .before .before .before .promote .result .job) _ (c .before .before .before .before .promote .result .outcome) (c .before .before .before .before .promote .ensures .0) n
+          ∙ ap (λ x. afterStep (now (s .args .bytes)) n (s .args .used) (machineOf (areaOf (s .args .job) (now (s .args .cells)) (now (s .args .store)))) x (c .before .before .before .before .promote .last .1 .0) (now (s .args .store))) (sym (c .step-of-promotion .ensures)),
+      subst (λ x. LeftByStep (s .args .entries) (s .args .used) (s .args .job) (now (s .args .cells)) (now (s .args .store)) x (c .before .before .before .before .promote .last .1 .0) (now (s .args .store))) (sym (c .step-of-promotion .ensures))
+          (promoted-left (s .args .job) (now (s .args .cells)) (now (s .args .store)) (s .pre .0) (now (s .args .bytes)) (s .args .used) (s .args .entries) free (c .before .before .before .before .promote .result .job) _ (c .before .before .before .before .promote .result .outcome) (c .before .before .before .before .promote .ensures .0) (c .before .before .before .before .promote .ensures .1)),
+    )
+
+pub next-step-spec : {M : Type 1} → statement M
+next-step-spec =
+    tie.close
+    (tie.spec
+    cast-held
+    first-wanted-requires
+    same-length
+    returns
+    deliver-entry-requires
+    step-of-given-requires
+    same-length-2
+    same-length-3
+    same-length-4
+    returns-2
+    promote-requires
+    step-of-promotion-requires
+    same-length-5
+    same-length-6
+    returns-3)
