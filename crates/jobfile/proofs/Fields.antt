@@ -61,6 +61,16 @@ stops part size from n rule a b {f} g e = by (ltb size (from + n)) rule e
     by false true e = g e
     by false false e = e
 
+-- a field that two files have, with the same rule: they are answered alike if, where the rule is kept, what comes next is
+pub alike : (part : ℕ → Fault) (size other from n : ℕ) (rule again : Bool) (a b : Form) → from + n ≤ size → from + n ≤ other → rule ≡ again → (rule ≡ true → a ≡ b)
+    → field part size from n rule a ≡ field part other from n again b
+unfolding field
+alike part size other from n rule again a b h g e f = rw (le-ltb size (from + n) h, le-ltb other (from + n) g, sym e) (by rule f)
+  where
+    by : (r : Bool) → (r ≡ true → a ≡ b) → cond r a (broken (part from)) ≡ cond r b (broken (part from))
+    by true f = f refl
+    by false f = refl
+
 -- ---- the rule of a count: 1 to 8,192, and 8,192 with those before it
 abbrev pub countRule : ℕ → ℕ → Bool
 countRule before k = leb 1 k && leb k 8192 && leb (before + k) 8192

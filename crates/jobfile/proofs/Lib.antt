@@ -4,5 +4,8 @@ pub mod HeaderForm
 pub mod TableForm
 pub mod ReadingsForm
 pub mod Answers
+pub mod Formed
+pub mod Back
+pub mod Decided
 pub mod Facts
 pub mod Complement

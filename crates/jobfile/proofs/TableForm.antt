@@ -94,7 +94,7 @@ pub nothing-before : (c : List ℕ) → 0 ≡ totalBefore c 0
 unfolding totalBefore
 nothing-before c = refl
 
-before-next : (c : List ℕ) (i before : ℕ) → before ≡ totalBefore c i → before + four c (entryByte i + 4) ≡ totalBefore c (i + 1)
+pub before-next : (c : List ℕ) (i before : ℕ) → before ≡ totalBefore c i → before + four c (entryByte i + 4) ≡ totalBefore c (i + 1)
 unfolding totalBefore
 before-next c i before e = rw (add-one i) (ap (λ b. b + four c (entryByte i + 4)) e)
 

@@ -1,15 +1,18 @@
--- What is said of a file of the right form besides its form: its fields and its readings lie within it, and there are so many at most.
+-- What is said of a file of the right form besides its form: its fields and its readings lie within it, and there are so many at most. Then
+-- how much of a file decides its form. `c` is the list of the file's bytes.
 use mathlib.Core.Path.{_≡_}
 use mathlib.Core.List.{List}
 use Prim.Native.Nat.{ℕ, _+_, _*_, _<_, _≤_}
-use lib.ListN.{length}
+use lib.ListN.{length, take}
 use Rattle.jobfile.specs.Bytes.{four}
-use Rattle.jobfile.specs.Form.{formed, entryCount, entryByte, readingsByte, formOf}
+use Rattle.jobfile.specs.Form.{Fault, formed, broken, entryCount, entryByte, readingsByte, formOf}
 use Rattle.jobfile.specs.File.{totalBefore}
 
 pub record FormedFile (c : List ℕ) : Type 0 where
   pub header-inside : 24 ≤ length c
   pub entries-at-most : entryCount c ≤ 512
+  -- the table starts at 24
+  pub table-at : four c 20 ≡ 24
   pub entry-inside : (i : ℕ) → i < entryCount c → entryByte i + 12 ≤ length c
   pub readings-at-least : (i : ℕ) → i < entryCount c → 1 ≤ four c (entryByte i + 4)
   pub readings-at-most : (i : ℕ) → i < entryCount c → four c (entryByte i + 4) ≤ 8192
@@ -23,3 +26,9 @@ pub record FormedFile (c : List ℕ) : Type 0 where
 
 pub record FormFacts : Type 0 where
   pub formed-file : (c : List ℕ) → formOf c ≡ formed → FormedFile c
+  -- and only such a file has the right form: so the order of the tests decides nothing but the byte named
+  pub formed-back : (c : List ℕ) → FormedFile c → formOf c ≡ formed
+  -- the first 38,937 bytes decide the form of every file, one more than the longest file of the right form has: no need to read further
+  pub decided : (c : List ℕ) → 38937 ≤ length c → formOf (take 38937 c) ≡ formOf c
+  -- and a file that has so many is broken, with a fault to name
+  pub too-long : (c : List ℕ) → 38937 ≤ length c → (f : Fault) × (formOf c ≡ broken f)

@@ -1,9 +1,9 @@
--- What a file of the right form says. Entries and readings are read in place.
+-- What a file of the right form says. Entries and readings are read in place. `c` is the list of the file's bytes.
 use mathlib.Core.List.{List, [], _∷_}
 use Prim.Native.Nat.{ℕ, zero, suc, _+_}
 use lib.IntN.{ℤ}
 use Rattle.jobfile.specs.Bytes.{four, eight, signedFour}
-use Rattle.jobfile.specs.Form.{entryCount, entryByte}
+use Rattle.jobfile.specs.Form.{entryByte}
 
 -- n readings from a byte on.
 unfoldable pub readingsAt : List ℕ → (n from : ℕ) → List ℤ
@@ -18,19 +18,14 @@ pub record FileEntry : Type 0 where
 unfoldable pub entryOf : List ℕ → ℕ → FileEntry
 entryOf c i = record { indicator = four c (entryByte i); readings = readingsAt c (four c (entryByte i + 4)) (four c (entryByte i + 8)) }
 
--- n entries from number i on.
-unfoldable pub entriesFrom : List ℕ → (n i : ℕ) → List FileEntry
-entriesFrom c zero i = []
-entriesFrom c (suc n) i = entryOf c i ∷ entriesFrom c n (i + 1)
-
+-- The header's numbers that a run starts from.
 pub record JobFile : Type 0 where
   pub axes : ℕ
   pub budget : ℕ
   pub threshold : ℕ
-  pub entries : List FileEntry
 
 unfoldable pub fileOf : List ℕ → JobFile
-fileOf c = record { axes = four c 0; budget = four c 4; threshold = eight c 8; entries = entriesFrom c (entryCount c) 0 }
+fileOf c = record { axes = four c 0; budget = four c 4; threshold = eight c 8 }
 
 -- The readings counted by the entries before entry i.
 unfoldable pub totalBefore : List ℕ → ℕ → ℕ

@@ -1,5 +1,5 @@
 -- The form of a job file ("Job file and report"), tested field by field in byte order. A field that is cut off names the file's length; a
--- field that breaks a rule names its first byte; the first byte too many names itself.
+-- field that breaks a rule names its first byte; the first byte too many names itself. `c` is the list of the file's bytes.
 use mathlib.Core.Bool.{Bool, true, cond, _&&_}
 use mathlib.Core.List.{List}
 use Prim.Native.Nat.{ℕ, zero, suc, _+_, _*_}
@@ -11,7 +11,8 @@ use Rattle.jobfile.specs.declared.Table as code-table
 use Rattle.jobfile.specs.declared.Table.the-variants as tables
 use Rattle.jobfile.specs.Bytes.{four}
 
--- The part of the file in which a rule is broken, and the byte named. Bytes past the last reading are a fault of the readings.
+-- The part of the file in which a rule is broken, and the byte named. Bytes past the last reading are a fault of the readings. Each part
+-- gives 10, and the answer still tells the three apart: so a number of its own for each part is a change of one definition, `number`.
 pub data Fault : Type 0 where
   header : ℕ → Fault
   entry : ℕ → Fault
@@ -67,7 +68,8 @@ tableForm c (suc n) i before next =
     (field entry (length c) (entryByte i + 8) 4 (eqb (four c (entryByte i + 8)) (readingsByte c + 4 * before))
     (tableForm c n (i + 1) (before + four c (entryByte i + 4)) next)))
 
--- Readings of 4 bytes, and the file ends with them. n readings from a byte on.
+-- Readings of 4 bytes, and the file ends with them. n readings from a byte on. Where none are left, every field before `from` has been
+-- found, so `size` is at least `from` by then: a size that differs means bytes too many, and `from` is the first of them.
 unfoldable pub readingsForm : (size n from : ℕ) → Form
 readingsForm size zero from = cond (eqb size from) formed (broken (readings from))
 readingsForm size (suc n) from = field readings size from 4 true (readingsForm size n (from + 4))
