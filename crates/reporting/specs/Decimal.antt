@@ -2,8 +2,8 @@
 use mathlib.Core.Bool.{cond}
 use mathlib.Core.List.{List, [], _∷_, _++_}
 use Prim.Native.Nat.{ℕ, zero, suc, _+_, _*_, _/_, _%_, _-_}
-use lib.Dec.{ltb}
-use lib.IntN.{ℤ, pos, negsuc}
+use lib.Dec.{ltb, eqb}
+use lib.IntN.{ℤ, pos, negsuc, negℤ}
 
 -- The byte of a digit: 48 is the byte of 0.
 abbrev pub digit : ℕ → ℕ
@@ -29,3 +29,8 @@ signedDecimal (negsuc n) = 45 ∷ decimal (suc n)
 unfoldable pub valueFrom : ℕ → List ℕ → ℕ
 valueFrom v [] = v
 valueFrom v (b ∷ bs) = valueFrom (v * 10 + (b - 48)) bs
+
+-- The same with a sign.
+unfoldable pub signedValue : List ℕ → ℤ
+signedValue [] = pos 0
+signedValue (b ∷ bs) = cond (eqb b 45) (negℤ (pos (valueFrom 0 bs))) (pos (valueFrom 0 (b ∷ bs)))

@@ -4,24 +4,14 @@ use mathlib.Core.List.{List}
 use Prim.Native.Nat.{ℕ, _^_, _<_, _≤_}
 use lib.IntN.{ℤ, natAbs}
 use lib.ListN.{length, getD}
-use Rattle.reporting.specs.Decimal.{decimal, signedDecimal, valueFrom}
+use Rattle.reporting.specs.Decimal.{decimal, signedDecimal, valueFrom, signedValue}
 use Rattle.reporting.specs.Text.{Figures, reportText, refusalText}
-
--- Every figure of a report is a 64-bit number.
-pub record Wide (f : Figures) : Type 0 where
-  pub axes : f .axes < 2 ^ 64
-  pub old : f .old < 2 ^ 64
-  pub active : f .active < 2 ^ 64
-  pub wanted : f .wanted < 2 ^ 64
-  pub reserved : f .reserved < 2 ^ 64
-  pub pending : f .pending < 2 ^ 64
-  pub ceiling : f .ceiling < 2 ^ 64
-  pub scaled : natAbs (f .scaled) < 2 ^ 64
-  pub unused : f .unused < 2 ^ 64
 
 pub record TextFacts : Type 0 where
   -- a number below 10^20 is what its digits say
   pub value : (n : ℕ) → n < 10 ^ 20 → valueFrom 0 (decimal n) ≡ n
+  -- and with its sign too; a minus sign stands in front of a number below 0 only
+  pub signed-value : (z : ℤ) → natAbs z < 10 ^ 20 → signedValue (signedDecimal z) ≡ z
   -- every byte is a digit's
   pub digits : (n i : ℕ) → i < length (decimal n) → (48 ≤ getD (decimal n) i 0) × (getD (decimal n) i 0 ≤ 57)
   -- there is one at least, and the first is no 0 unless the number is

@@ -7,9 +7,6 @@ ghost use Rattle.reporting.specs.Decimal.{decimal, signedDecimal};
 ghost use Rattle.reporting.specs.Text.{line, endWord, endingWord, reportText, refusalText};
 ghost use Rattle.reporting.specs.Code.{Written, endingIn, figuresIn, countLines, sumLines};
 
-// Bytes that suffice for every report and for every refusal.
-pub const ROOM: usize = 512;
-
 // How a run ends.
 pub enum Ending {
     Met,
