@@ -5,5 +5,6 @@ pub mod Stepping
 pub mod Reports
 pub mod Going
 pub mod Whole
+pub mod Counted
 pub mod Ends
 pub mod Facts

@@ -1,5 +1,5 @@
 -- The course of a job file ("Job file and report"): start, and then, while a block is wanted, the next entry is delivered, else it promotes,
--- until *met*, *spent* or *short* (entries exhausted, block wanted).
+-- until *met*, *spent* or *short* (entries exhausted, block wanted). c are the file's bytes.
 use mathlib.Core.Bool.{true, cond}
 use mathlib.Core.List.{List, [], _∷_}
 use Prim.Native.Nat.{ℕ, zero, suc, _+_, _*_}
@@ -39,6 +39,10 @@ deliveryByte c i n = cond (eqb n 7) (entryByte i + 4) (four c (entryByte i + 8) 
 abbrev pub deliveryCause : List ℕ → Machine → ℕ → ℕ
 deliveryCause c m i = firstCause (deliverCauses ownLengths true (m .log) (entryOf c i .readings))
 
+-- Entry i is delivered and the run goes on with `next`, unless the delivery is refused.
+abbrev pub unlessRefused : List ℕ → Machine → ℕ → Result → Result
+unlessRefused c m i next = cond (eqb (deliveryCause c m i) 0) next (refusedAt (deliveryCause c m i) (deliveryByte c i (deliveryCause c m i)))
+
 -- Promote ends the run, unless it is promoted.
 unfoldable pub byOutcome : rule.Outcome → Machine → ℕ → Result → Result
 byOutcome rule.met m i next = ended met m i
@@ -51,11 +55,10 @@ course c zero m i = unfinished
 course c (suc n) m i =
     cond (anyWanted (m .log .entries))
     (cond (leb (entryCount c) i) (ended short m i)
-    (cond (eqb (deliveryCause c m i) 0) (course c n (deliver m (entryOf c i .readings) (entryOf c i .indicator)) (i + 1))
-    (refusedAt (deliveryCause c m i) (deliveryByte c i (deliveryCause c m i)))))
+    (unlessRefused c m i (course c n (deliver m (entryOf c i .readings) (entryOf c i .indicator)) (i + 1))))
     (byOutcome (rule.promote (m .log) .outcome) m i (course c n (promoteStep m) i))
 
--- Every step delivers an entry or makes an index old, but for the last.
+-- Every step but the last delivers one of at most 512 entries or makes one of at most 512 indices old: 512 + 512 + 1.
 abbrev pub steps : ℕ
 steps = 1025
 

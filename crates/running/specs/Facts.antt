@@ -1,8 +1,47 @@
--- A run always ends by itself: the limit on its steps is never what ends it.
+-- What a run comes to, for every list of bytes; that it ends by itself, the limit on its steps being never what ends it; and that 512 bytes
+-- suffice for its text.
 use mathlib.Core.Path.{_≡_}
+use mathlib.Core.Logic.{_⊎_}
 use mathlib.Core.List.{List}
-use Prim.Native.Nat.{ℕ}
-use Rattle.running.specs.Course.{unfinished, resultOf}
+use Prim.Native.Nat.{ℕ, _≤_}
+use lib.ListN.{length, take}
+use Rattle.machine.specs.Log.{Machine}
+use Rattle.machine.specs.Facts.{SoundMachine}
+use Rattle.machine.specs.Means.{meanOf, crossOf}
+use Rattle.jobfile.specs.Form.{Fault, formed, broken, byteOf, formOf, entryCount}
+use Rattle.running.specs.declared.Ran.the-variants as rans
+use Rattle.running.specs.Course.{Result, refusedAt, ended, unfinished, resultOf}
+use Rattle.running.specs.Report.{textOf}
+use Rattle.running.specs.Code.{runOn}
 
-pub record RunFacts : Type 0 where
+-- The numbers by which start and a delivery can refuse a file.
+abbrev pub ByStart : ℕ → Type 0
+ByStart n = (n ≡ 1) ⊎ (n ≡ 2)
+
+abbrev pub ByDelivery : ℕ → Type 0
+ByDelivery n = (n ≡ 7) ⊎ (n ≡ 8)
+
+-- A state that a run reaches: the clauses of soundness hold, and the mean that is printed as `scaled` is the sum of the delivered indices'
+-- differences, and the combination sum.
+pub record Stands (m : Machine) : Type 0 where
+  pub sound : SoundMachine m
+  pub differences : m .mean ≡ meanOf (m .log .entries)
+  pub combination : m .mean ≡ crossOf (m .log .entries)
+
+-- What a file of the right form comes to; n is the number of its entries.
+abbrev pub Comes : (n : ℕ) → Result → Type 0
+Comes n (refusedAt number byte) = ByStart number ⊎ ByDelivery number
+Comes n (ended e m used) = Stands m × (used ≤ n)
+Comes n unfinished = ⊥
+
+pub record CourseFacts : Type 0 where
+  -- 10 comes of a broken form, before all, with the byte that the form names
+  pub malformed : (c : List ℕ) (f : Fault) → formOf c ≡ broken f → resultOf c ≡ refusedAt 10 (byteOf f)
+  -- and of nothing else: a file of the right form is refused by 1, 2, 7 or 8, or it ends
+  pub well-formed : (c : List ℕ) → formOf c ≡ formed → Comes (entryCount c) (resultOf c)
+  -- the first 38,937 bytes decide what is printed: a program need not read more
+  pub decided : (c : List ℕ) → 38937 ≤ length c → textOf (take 38937 c) ≡ textOf c
   pub ends : (c : List ℕ) → resultOf c ≡ unfinished → ⊥
+  pub room : (c : List ℕ) → length (textOf c) ≤ 512
+  -- so what an answer counts are bytes of the buffer
+  pub within : (c buffer : List ℕ) (n : ℕ) → runOn c buffer .answer ≡ rans.Written n → n ≤ length buffer

@@ -1,9 +1,7 @@
 // A job file's run, from bytes to report.
 ghost use mathlib.Core.Path.{_≡_};
-ghost use mathlib.Core.Bool.{cond};
 ghost use mathlib.Core.List.{_++_};
 ghost use Prim.Native.Nat.{ℕ, suc, _+_, _*_, _<_, _≤_};
-ghost use lib.Dec.{eqb};
 ghost use lib.ListN.{length, drop};
 ghost use Rattle.area.specs.Encoding.{areaOf, entriesOf};
 ghost use Rattle.machine.specs.Log.{machineOf, firstWanted};
@@ -12,7 +10,7 @@ ghost use Rattle.writing.specs.Settled.{Settled};
 ghost use Rattle.jobfile.specs.Form.{formed, formOf, entryCount};
 ghost use Rattle.jobfile.specs.File.{readingsAt, entryOf};
 ghost use Rattle.jobfile.specs.Facts.{FormedFile};
-ghost use Rattle.running.specs.Course.{ownLengths, firstBad, refusedAt, deliveryCause, deliveryByte, course as courseOf};
+ghost use Rattle.running.specs.Course.{ownLengths, firstBad, unlessRefused, course as courseOf};
 ghost use Rattle.machine.specs.Causes.{firstCause, startCauses};
 ghost use Rattle.reporting.specs.Text.{reportText};
 ghost use Rattle.reporting.specs.Code.{endingIn};
@@ -82,7 +80,7 @@ fn deliver_entry(
 ) -> Given
     requires { ⌜ Settled (areaOf job (now cells) (now store)) × (place ≡ firstWanted (entriesOf (areaOf job (now cells) (now store)))) × (place < job .held) ⌝ }
     requires { ⌜ FormedFile (now bytes) × (i < entryCount (now bytes)) × (8192 ≤ length (now block)) ⌝ }
-    ensures is { λ r. ⌜ ((n : ℕ) → cond (eqb (deliveryCause (now (bytes .entry)) (machineOf (areaOf job (now (cells .entry)) (now (store .entry)))) i) 0) (courseOf (now (bytes .entry)) n (deliver (machineOf (areaOf job (now (cells .entry)) (now (store .entry)))) (entryOf (now (bytes .entry)) i .readings) (entryOf (now (bytes .entry)) i .indicator)) (i + 1)) (refusedAt (deliveryCause (now (bytes .entry)) (machineOf (areaOf job (now (cells .entry)) (now (store .entry)))) i) (deliveryByte (now (bytes .entry)) i (deliveryCause (now (bytes .entry)) (machineOf (areaOf job (now (cells .entry)) (now (store .entry)))) i))) ≡ afterGiven (now (bytes .entry)) n i r (now (cells .exit)) (now (store .exit))) ⌝ }
+    ensures is { λ r. ⌜ ((n : ℕ) → unlessRefused (now (bytes .entry)) (machineOf (areaOf job (now (cells .entry)) (now (store .entry)))) i (courseOf (now (bytes .entry)) n (deliver (machineOf (areaOf job (now (cells .entry)) (now (store .entry)))) (entryOf (now (bytes .entry)) i .readings) (entryOf (now (bytes .entry)) i .indicator)) (i + 1)) ≡ afterGiven (now (bytes .entry)) n i r (now (cells .exit)) (now (store .exit))) ⌝ }
     ensures settled { λ r. ⌜ SettledGiven r (now (cells .exit)) (now (store .exit)) ⌝ }
 {
     let at = 24 + 12 * i;
