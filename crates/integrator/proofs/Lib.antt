@@ -1,0 +1,2 @@
+-- The laws of the program's reading and printing.
+pub mod Rooms
