@@ -12,6 +12,7 @@
 //! - [`call`] and [`log`]: a list of calls and the log that foretells answers;
 //! - [`jobfile`], [`jobtext`], [`program`], [`replay`]: job files and reports;
 //! - [`rng`], [`style`], [`generate`], [`damage`], [`survey`]: job files by seed;
+//! - [`cases`], [`pack`]: job files by name, and many in one;
 //! - [`choice`], [`drive`] and [`demand`]: lists of calls by seed and the third
 //!   demand;
 //! - [`sample`], [`alter`], [`figures`]: areas by seed, altered, with figures;
@@ -21,6 +22,7 @@ pub mod alter;
 pub mod area;
 pub mod call;
 pub mod calls;
+pub mod cases;
 pub mod choice;
 pub mod damage;
 pub mod demand;
@@ -32,6 +34,7 @@ pub mod grid;
 pub mod jobfile;
 pub mod jobtext;
 pub mod log;
+pub mod pack;
 pub mod program;
 pub mod pump;
 pub mod replay;

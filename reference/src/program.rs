@@ -3,7 +3,7 @@
 use crate::area::Area;
 use crate::calls::{self, Cause, Promotion, Totals};
 use crate::grid::{self, BUDGET_LIMIT, HELD_LIMIT};
-use crate::jobfile::{self, JobFile, DECIDING_BYTES};
+use crate::jobfile::{self, JobFile};
 
 #[derive(Clone, Copy, Debug, PartialEq, Eq, Hash, PartialOrd, Ord)]
 pub enum Ending {
@@ -29,14 +29,13 @@ pub enum Outcome {
     Ended { axes: u32, totals: Totals, unused: usize, ending: Ending },
 }
 
-/// The report of an input, from bytes to text. Only the deciding bytes count.
+/// The report of an input, from bytes to text.
 pub fn report(input: &[u8]) -> String {
     text(&outcome(input))
 }
 
 pub fn outcome(input: &[u8]) -> Outcome {
-    let deciding = &input[..input.len().min(DECIDING_BYTES)];
-    match jobfile::parse(deciding) {
+    match jobfile::parse(input) {
         Ok(job) => run(&job, &mut Area::empty(HELD_LIMIT, BUDGET_LIMIT as usize)),
         Err(fault) => Outcome::Refused { cause: Cause::JobFileMalformed, byte: fault.byte },
     }

@@ -21,16 +21,21 @@ pub fn kind_name(kind: Kind) -> String {
 pub fn survey(first: u64, files: u64) -> Counts {
     let mut counts = Counts::new();
     for seed in first..first + files {
-        let generated = generate::generate(seed);
-        let outcome = program::outcome(&generated.bytes);
-        let foretold = replay::foretell(&generated.bytes);
-        assert_eq!(outcome, foretold.outcome, "the report of seed {seed}");
-        assert_fault(seed, &generated, &foretold);
-        let mut count = |what: String| *counts.entry(what).or_insert(0) += 1;
-        count(kind_name(generated.kind));
-        note(&foretold, &mut count);
+        seen(seed, &generate::generate(seed), &mut counts);
     }
     counts
+}
+
+/// The outcome of a seed's file, held against the foretold one and counted.
+pub fn seen(seed: u64, generated: &Generated, counts: &mut Counts) -> Outcome {
+    let outcome = program::outcome(&generated.bytes);
+    let foretold = replay::foretell(&generated.bytes);
+    assert_eq!(outcome, foretold.outcome, "the report of seed {seed}");
+    assert_fault(seed, generated, &foretold);
+    let mut count = |what: String| *counts.entry(what).or_insert(0) += 1;
+    count(kind_name(generated.kind));
+    note(&foretold, &mut count);
+    outcome
 }
 
 /// Where the damage alone tells the byte, the report names it.

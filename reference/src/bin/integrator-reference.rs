@@ -1,10 +1,9 @@
 //! The program: a job file on standard input, its report on standard output.
 
-use reference::jobfile::DECIDING_BYTES;
 use std::io::{Read, Write};
 
 fn main() -> std::io::Result<()> {
     let mut input = Vec::new();
-    std::io::stdin().lock().take(DECIDING_BYTES as u64).read_to_end(&mut input)?;
+    std::io::stdin().lock().read_to_end(&mut input)?;
     std::io::stdout().lock().write_all(reference::program::report(&input).as_bytes())
 }

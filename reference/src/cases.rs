@@ -1,0 +1,158 @@
+//! The scope document's cases about job files, by name, each with the report
+//! that its sentences ask for, written by hand.
+
+use crate::examples::scope_job;
+use crate::grid::READING_LIMIT;
+use crate::jobfile::{self, Entry, JobFile};
+
+pub struct Case {
+    pub name: &'static str,
+    pub bytes: Vec<u8>,
+    /// The whole report, or its last lines where the rest is long.
+    pub ends: &'static str,
+}
+
+fn case(name: &'static str, bytes: Vec<u8>, ends: &'static str) -> Case {
+    Case { name, bytes, ends }
+}
+
+/// The document's file with four-byte fields replaced.
+fn with(fields: &[(usize, u32)]) -> Vec<u8> {
+    let mut bytes = jobfile::write(&scope_job());
+    for (at, field) in fields {
+        bytes[*at..*at + 4].copy_from_slice(&field.to_le_bytes());
+    }
+    bytes
+}
+
+fn cut(length: usize) -> Vec<u8> {
+    with(&[])[..length].to_vec()
+}
+
+fn file(axes: u32, budget: u32, threshold: u64, entries: &[(u32, &[i32])]) -> Vec<u8> {
+    let entry = |(indicator, readings): &(u32, &[i32])| Entry {
+        indicator: *indicator,
+        readings: readings.to_vec(),
+    };
+    let entries = entries.iter().map(entry).collect();
+    jobfile::write(&JobFile { axes, budget, threshold, entries })
+}
+
+/// So many entries of so many readings each, and one of `last` more.
+fn filled(entries: usize, own: usize, last: usize) -> Vec<u8> {
+    let block = |count: usize| Entry { indicator: 0, readings: vec![0; count] };
+    let mut entries = vec![block(own); entries];
+    if last > 0 {
+        entries.push(block(last));
+    }
+    jobfile::write(&JobFile { axes: 1, budget: 1, threshold: 0, entries })
+}
+
+fn longer(mut bytes: Vec<u8>, extra: usize) -> Vec<u8> {
+    bytes.extend(vec![0; extra]);
+    bytes
+}
+
+pub fn cases() -> Vec<Case> {
+    [endings(), form(), early_ends(), order()].into_iter().flatten().collect()
+}
+
+/// What a run of the right form prints.
+fn endings() -> Vec<Case> {
+    let scope = "axes 2\nold 2\nactive 2\nwanted 0\nreserved 7\npending 10\n\
+                 ceiling 0\nscaled 5972688896\nunused 0\nend met\n";
+    let start = "axes 2\nold 0\nactive 0\nwanted 1\nreserved 1\npending 0\n\
+                 ceiling 0\nscaled 0\nunused 0\nend short\n";
+    let fives: [(u32, &[i32]); 4] = [(9, &[5]), (8, &[5, 5]), (7, &[5, 5]), (0, &[5, 5])];
+    vec![
+        case("the scope document's file", with(&[]), scope),
+        case("before the first delivery the mean is 0", file(2, 64, 40, &[]), start),
+        case("threshold equal to the pending error", file(2, 64, 7, &[(7, &[9])]), "end met\n"),
+        case("threshold one below the pending error", file(2, 64, 6, &[(7, &[9])]), "end short\n"),
+        case("two axes, budget 4", file(2, 4, 0, &[(1, &[9])]), "end spent\n"),
+        case("two axes, budget 5", file(2, 5, 0, &[(1, &[9])]), "end short\n"),
+        case(
+            "an unused entry, never judged",
+            {
+                let mut job = scope_job();
+                job.entries.push(Entry { indicator: 1, readings: vec![i32::MIN; 77] });
+                jobfile::write(&job)
+            },
+            "scaled 5972688896\nunused 1\nend met\n",
+        ),
+        case("readings all 5", file(2, 64, 0, &fives), "scaled 5242880\nunused 0\nend short\n"),
+        case(
+            "a mean below 0",
+            file(1, 1, 0, &[(0, &[-3])]),
+            "scaled -3145728\nunused 0\nend met\n",
+        ),
+    ]
+}
+
+/// Each rule of form, just met and just broken.
+fn form() -> Vec<Case> {
+    vec![
+        case("513 entries counted", with(&[(16, 513)]), "refused 10 at 16\n"),
+        case("table offset 23", with(&[(20, 23)]), "refused 10 at 20\n"),
+        case("table offset 25", with(&[(20, 25)]), "refused 10 at 20\n"),
+        case("an entry of 0 readings", with(&[(40, 0)]), "refused 10 at 40\n"),
+        case("an entry of 8,193 readings", with(&[(28, 8193)]), "refused 10 at 28\n"),
+        case("8,193 readings in all", filled(2, 4096, 1), "refused 10 at 52\n"),
+        case("8,192 readings in all", filled(2, 4096, 0), "refused 7 at 28\n"),
+        case("a gap before an entry's readings", with(&[(44, 80)]), "refused 10 at 44\n"),
+        case("an offset into the table", with(&[(32, 68)]), "refused 10 at 32\n"),
+        case("512 entries, the longest file", filled(512, 16, 0), "refused 7 at 28\n"),
+        case(
+            "a byte after the longest file",
+            longer(filled(512, 16, 0), 1),
+            "refused 10 at 38936\n",
+        ),
+        case("the first byte too many", longer(with(&[]), 1), "refused 10 at 100\n"),
+        case("a byte after an empty table", longer(file(2, 64, 40, &[]), 1), "refused 10 at 24\n"),
+    ]
+}
+
+/// The file's length where it ends early.
+fn early_ends() -> Vec<Case> {
+    vec![
+        case("empty file", Vec::new(), "refused 10 at 0\n"),
+        case("ends in the header", cut(23), "refused 10 at 23\n"),
+        case("ends after the header", cut(24), "refused 10 at 24\n"),
+        case("ends in the table", cut(71), "refused 10 at 71\n"),
+        case("ends after the table", cut(72), "refused 10 at 72\n"),
+        case("ends in the last reading", cut(99), "refused 10 at 99\n"),
+        case(
+            "a broken field before an early end",
+            {
+                let mut bytes = with(&[(16, 513)]);
+                bytes.truncate(20);
+                bytes
+            },
+            "refused 10 at 16\n",
+        ),
+    ]
+}
+
+/// Which refusal comes first, and the byte that it names.
+fn order() -> Vec<Case> {
+    let outside = READING_LIMIT as u32 + 1;
+    let lowest = (-READING_LIMIT - 1) as u32;
+    let seven: [(u32, &[i32]); 2] = [(100, &[4160]), (50, &[64])];
+    let both: [(u32, &[i32]); 1] = [(100, &[4160, READING_LIMIT + 1])];
+    vec![
+        case("0 axes", with(&[(0, 0)]), "refused 1 at 0\n"),
+        case("9 axes", with(&[(0, 9)]), "refused 1 at 0\n"),
+        case("budget 0", with(&[(4, 0)]), "refused 2 at 4\n"),
+        case("budget 8,193", with(&[(4, 8193)]), "refused 2 at 4\n"),
+        case("1 before 2", with(&[(0, 0), (4, 0)]), "refused 1 at 0\n"),
+        case("10 before 1", with(&[(0, 0), (68, 0)]), "refused 10 at 68\n"),
+        case("10 before 2", with(&[(4, 0), (20, 0)]), "refused 10 at 20\n"),
+        case("10 before 1, at the last byte", with(&[(0, 0)])[..99].to_vec(), "refused 10 at 99\n"),
+        case("2 before a reading out of range", with(&[(4, 0), (72, outside)]), "refused 2 at 4\n"),
+        case("7 names the count field", file(2, 64, 40, &seven), "refused 7 at 40\n"),
+        case("7 before 8", file(2, 64, 40, &both), "refused 7 at 28\n"),
+        case("8 names the reading", with(&[(80, outside)]), "refused 8 at 80\n"),
+        case("8 names the first of two", with(&[(84, lowest), (88, outside)]), "refused 8 at 84\n"),
+        case("the largest reading passes", with(&[(72, outside - 1)]), "end met\n"),
+    ]
+}
