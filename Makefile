@@ -1,26 +1,35 @@
 # The two commands of the README are `make run` and `make test`.
+SHELL = /bin/bash
+.SHELLFLAGS = -o pipefail -c
+
 CARGO = cargo
 REFERENCE = --release --offline --quiet --manifest-path reference/Cargo.toml
-
 COMPARISON = --release --offline --quiet --manifest-path comparison/Cargo.toml
-
 HARNESS = --release --offline --quiet --manifest-path harness/Cargo.toml
 
-# What `make soak` runs over; both can be set on the command line.
+# What `make compare` and `make soak` run over; both can be set on the command line.
 SEED = 1
-COUNT = 1000000
 
-.PHONY: run test tools reference-test reference-runs compared exported harness-test altered listed soak proofs clean
+.PHONY: run program tools test proofs reference-test reference-runs compared exported harness-test altered listed programs-compared compare soak pack clean
 
 # The main job on an example, with its report.
-run: tools
-	@reference/target/release/integrator-reference < examples/four-axis-pump.job
+run: program
+	@target/bin/integrator < examples/four-axis-pump.job
+
+# The proved program. Only what is proved is built, which takes some minutes the first time.
+program:
+	@rt check integrator | grep '^rt: '
 
 tools:
 	@$(CARGO) build $(REFERENCE)
 
-# Every test. The proofs come last: the last line of `rt ci` is the verdict.
-test: reference-test reference-runs compared harness-test altered listed proofs
+# Every test. The proofs come first, since the other tests run what they build; their verdict, the last line of `rt ci`, is said again at the end.
+test: proofs reference-test reference-runs compared harness-test altered listed programs-compared
+	@tail -n 1 .verdict
+
+proofs:
+	@rt fmt --check
+	@rt ci | tee .verdict
 
 reference-test:
 	@$(CARGO) test $(REFERENCE)
@@ -32,12 +41,12 @@ reference-runs: tools
 
 # The proved figures of areas against the reference's.
 compared:
-	@rt staticlib figures
+	@rt staticlib figures | grep '^rt: '
 	@$(CARGO) run $(COMPARISON)
 
 # The exported calls as the static library that the harness links.
 exported:
-	@rt staticlib abi
+	@rt staticlib abi | grep '^rt: '
 
 # The harness's own tests, and named cases on the exported calls: boundary cases, causes of refusals and their order.
 harness-test: exported
@@ -51,14 +60,24 @@ altered: exported
 listed: exported
 	@$(CARGO) run $(HARNESS) --bin listed -- 1 20000
 
-# Both for as long as one likes: make soak SEED=7 COUNT=5000000
+# The proved program against the reference's on generated job files, every byte that they print; about half a minute.
+programs-compared: program tools
+	@reference/target/release/compare target/bin/integrator 1 2000
+
+# The same on fresh files: make compare SEED=7 COUNT=20000
+compare: COUNT = 2000
+compare: program tools
+	@reference/target/release/compare target/bin/integrator $(SEED) $(COUNT)
+
+# The exported calls for as long as one likes: make soak SEED=7 COUNT=5000000
+soak: COUNT = 1000000
 soak: exported
 	@$(CARGO) run $(HARNESS) --bin altered -- $(SEED) $(COUNT)
 	@$(CARGO) run $(HARNESS) --bin listed -- $(SEED) $(COUNT)
 
-proofs:
-	@rt fmt --check
-	@rt ci
+# Writes the named and generated job files of the crate `vectors` anew, and what they must print.
+pack: tools
+	@reference/target/release/pack crates/vectors
 
 clean:
-	rm -rf target reference/target comparison/target harness/target
+	rm -rf target .verdict reference/target comparison/target harness/target
