@@ -1,0 +1,104 @@
+//! Timings of the calls: a full job in its parts, and single calls.
+
+use crate::job::{Job, Part};
+use crate::rounds::{print_growth, print_head, repeats, timed, Row};
+use crate::sides::{Idiomatic, Proved, Side};
+
+const JOB_ROUNDS: usize = 15;
+const CALL_ROUNDS: usize = 61;
+
+pub fn print(job: &Job) {
+    let title = format!("full job: {} held, {} readings", job.held(), job.readings());
+    print_head(&title);
+    full_job(job).iter().for_each(Row::print);
+    println!();
+    print_head("one call");
+    let singles = [
+        Single::new(job, 32, "check", Side::check, Side::check),
+        Single::new(job, 128, "check", Side::check, Side::check),
+        Single::new(job, 512, "check", Side::check, Side::check),
+        Single::new(job, 512, "result", Side::result, Side::result),
+        Single::new(job, 512, "cross total", Side::cross_total, Side::cross_total),
+    ];
+    let rows = take_rounds(singles);
+    rows.iter().for_each(Row::print);
+    println!();
+    print_growth("growth of check from 128 to 512 held", &rows[1], &rows[2]);
+}
+
+/// The whole job, and its parts.
+fn full_job(job: &Job) -> [Row; 4] {
+    let mut rows = ["all calls", "point calls", "deliver calls", "promote calls"].map(Row::new);
+    let mut note = |times: [f64; 3], pick: fn(&mut Row) -> &mut Vec<f64>| {
+        pick(&mut rows[0]).push(times.iter().sum());
+        for (row, time) in rows[1..].iter_mut().zip(times) {
+            pick(row).push(time);
+        }
+    };
+    for round in 0..JOB_ROUNDS {
+        let proved_first = round % 2 == 0;
+        if proved_first {
+            note(parts::<Proved>(job), |row| &mut row.proved);
+        }
+        note(parts::<Idiomatic>(job), |row| &mut row.idiomatic);
+        if !proved_first {
+            note(parts::<Proved>(job), |row| &mut row.proved);
+        }
+    }
+    rows
+}
+
+/// What points, delivers and promotes of the job took.
+fn parts<S: Side>(job: &Job) -> [f64; 3] {
+    let mut times = [0.0; 3];
+    job.go_through::<S>(|part, work| {
+        let slot = match part {
+            Part::Points => 0,
+            Part::Delivers => 1,
+            Part::Promotes => 2,
+        };
+        times[slot] += timed(work);
+    });
+    times
+}
+
+/// One call on one area, for each side.
+struct Single {
+    row: Row,
+    times: usize,
+    proved: Box<dyn Fn()>,
+    idiomatic: Box<dyn Fn()>,
+}
+
+impl Single {
+    fn new(
+        job: &Job,
+        held: u32,
+        name: &str,
+        proved: fn(&Proved),
+        idiomatic: fn(&Idiomatic),
+    ) -> Single {
+        let (one, other) = (job.area::<Proved>(held), job.area::<Idiomatic>(held));
+        assert_eq!((one.held(), other.held()), (held, held));
+        Single {
+            row: Row::new(format!("{name}, {held} held")),
+            times: repeats(|| idiomatic(&other)),
+            proved: Box::new(move || proved(&one)),
+            idiomatic: Box::new(move || idiomatic(&other)),
+        }
+    }
+
+    fn take_round(&mut self) {
+        let times = self.times;
+        let each = |work: &dyn Fn()| timed(|| (0..times).for_each(|_| work())) / times as f64;
+        self.row.take_round(|| each(&self.proved), || each(&self.idiomatic));
+    }
+}
+
+/// Every call in every round, so that one row can be held against another.
+fn take_rounds<const N: usize>(mut singles: [Single; N]) -> [Row; N] {
+    for _ in 0..CALL_ROUNDS {
+        singles.iter_mut().for_each(Single::take_round);
+    }
+    singles.map(|single| single.row)
+}

@@ -1,0 +1,150 @@
+//! The two sides of the comparison, each with its own storage and its own
+//! calls.
+
+use bench::area::{IndexRecord, JobRecord, BUDGET_LIMIT, HELD_LIMIT};
+use bench::calls;
+use bench::proved::{self, JobWords};
+use std::hint::black_box;
+
+/// Words in an index record of the proved library.
+const WORDS: usize = 27;
+
+/// A side's calls. Each is accepted; what it gives is kept from being left out
+/// by the compiler.
+pub trait Side: Clone {
+    const NAME: &'static str;
+
+    fn new() -> Self;
+    fn start(&mut self, axes: u32, threshold: u64, budget: u32);
+    fn point(&self, n: usize, buffer: &mut [u8]);
+    fn deliver(&mut self, readings: &[i32], indicator: u32);
+    fn promote(&mut self);
+    fn result(&self);
+    fn cross_total(&self);
+    fn check(&self);
+    fn held(&self) -> u32;
+}
+
+#[derive(Clone)]
+pub struct Proved {
+    pub job: JobWords,
+    pub cells: Vec<u32>,
+    pub store: Vec<i32>,
+}
+
+#[derive(Clone)]
+pub struct Idiomatic {
+    pub job: JobRecord,
+    pub records: Vec<IndexRecord>,
+    pub store: Vec<i32>,
+}
+
+fn accepted(number: u32) {
+    assert_eq!(number, 0, "a call was refused");
+}
+
+impl Side for Proved {
+    const NAME: &'static str = "proved";
+
+    fn new() -> Proved {
+        let cells = vec![0; HELD_LIMIT * WORDS];
+        Proved { job: [0; 10], cells, store: vec![0; BUDGET_LIMIT as usize] }
+    }
+
+    fn start(&mut self, axes: u32, threshold: u64, budget: u32) {
+        let Proved { job, cells, store } = self;
+        accepted(proved::start(job, cells, store, axes, threshold, budget));
+    }
+
+    fn point(&self, n: usize, buffer: &mut [u8]) {
+        accepted(proved::point(&self.job, &self.cells, &self.store, n, buffer));
+        black_box(buffer);
+    }
+
+    fn deliver(&mut self, readings: &[i32], indicator: u32) {
+        let Proved { job, cells, store } = self;
+        accepted(proved::deliver(job, cells, store, readings, indicator));
+    }
+
+    fn promote(&mut self) {
+        let Proved { job, cells, store } = self;
+        let mut outcome = [0];
+        accepted(proved::promote(job, cells, store, &mut outcome));
+        black_box(outcome);
+    }
+
+    fn result(&self) {
+        let mut counts = [0; 9];
+        accepted(proved::result(&self.job, &self.cells, &self.store, &mut counts));
+        black_box(counts);
+    }
+
+    fn cross_total(&self) {
+        let mut total = [0; 2];
+        accepted(proved::cross_total(&self.job, &self.cells, &self.store, &mut total));
+        black_box(total);
+    }
+
+    fn check(&self) {
+        assert!(proved::check(&self.job, &self.cells, &self.store), "the area is sound");
+    }
+
+    fn held(&self) -> u32 {
+        self.job[8]
+    }
+}
+
+impl Side for Idiomatic {
+    const NAME: &'static str = "idiomatic";
+
+    fn new() -> Idiomatic {
+        let records = vec![IndexRecord::default(); HELD_LIMIT];
+        Idiomatic { job: JobRecord::default(), records, store: vec![0; BUDGET_LIMIT as usize] }
+    }
+
+    fn start(&mut self, axes: u32, threshold: u64, budget: u32) {
+        let Idiomatic { job, records, store } = self;
+        calls::start(job, records, store, axes, threshold, budget).expect("accepted");
+    }
+
+    fn point(&self, n: usize, buffer: &mut [u8]) {
+        calls::point(&self.job, &self.records, &self.store, n, buffer).expect("accepted");
+        black_box(buffer);
+    }
+
+    fn deliver(&mut self, readings: &[i32], indicator: u32) {
+        let Idiomatic { job, records, store } = self;
+        calls::deliver(job, records, store, readings, indicator).expect("accepted");
+    }
+
+    fn promote(&mut self) {
+        let Idiomatic { job, records, store } = self;
+        black_box(calls::promote(job, records, store).expect("accepted"));
+    }
+
+    fn result(&self) {
+        black_box(calls::result(&self.job, &self.records, &self.store).expect("accepted"));
+    }
+
+    fn cross_total(&self) {
+        black_box(calls::cross_total(&self.job, &self.records, &self.store).expect("accepted"));
+    }
+
+    fn check(&self) {
+        assert!(calls::check(&self.job, &self.records, &self.store), "the area is sound");
+    }
+
+    fn held(&self) -> u32 {
+        self.job.held
+    }
+}
+
+/// The records of the idiomatic side as the proved side's cells.
+#[cfg(test)]
+pub fn cells_of(records: &[IndexRecord]) -> Vec<u32> {
+    let words = |record: &IndexRecord| {
+        let head = [record.state, record.indicator, record.first_reading];
+        [&record.levels[..], &head, &record.forward, &record.backward].concat()
+    };
+    records.iter().flat_map(words).collect()
+}
