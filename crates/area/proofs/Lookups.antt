@@ -1,8 +1,8 @@
 -- Levels compared cell by cell, and the search for a level list.
 -- The idea: what is still to be compared, or searched, answers as the whole did.
 -- Assumes nothing.
-use mathlib.Core.Path.{_≡_}
-use mathlib.Core.Bool.{true, false, cond}
+use mathlib.Core.Path.{_≡_, ap, sym, _∙_}
+use mathlib.Core.Bool.{Bool, true, false, cond}
 use mathlib.Core.List.{List}
 use Prim.Native.Nat.{ℕ, _+_, _≤_, _<_, _-_, _*_}
 use native.Mathlib.Numerals.{add-one}
@@ -29,6 +29,20 @@ other-head a b i ha hb e = rw (drop-cons a i 0 ha, drop-cons b i 0 hb, ne-eqb (g
 pub same-end : (a b : List ℕ) (i : ℕ) → length a ≤ i → length b ≤ i → sameLevels (drop i a) (drop i b) ≡ true
 unfolding sameLevels
 same-end a b i ha hb = rw (drop-of-length-le a ha, drop-of-length-le b hb)
+
+-- the same where a flag t says whether the levels passed were the same, and u whether those up to here are
+pub still-same : (a b : List ℕ) (i : ℕ) (whole t u : Bool) → i < length a → i < length b → getD a i 0 ≡ getD b i 0 → u ≡ t
+    → whole ≡ cond t (sameLevels (drop i a) (drop i b)) false → whole ≡ cond u (sameLevels (drop (i + 1) a) (drop (i + 1) b)) false
+still-same a b i whole t u ha hb e f h = h ∙ ap (λ x. cond t x false) (same-head a b i ha hb e) ∙ ap (λ y. cond y (sameLevels (drop (i + 1) a) (drop (i + 1) b)) false) (sym f)
+
+pub now-other : (a b : List ℕ) (i : ℕ) (whole t u : Bool) → i < length a → i < length b → (getD a i 0 ≡ getD b i 0 → ⊥) → u ≡ false
+    → whole ≡ cond t (sameLevels (drop i a) (drop i b)) false → whole ≡ cond u (sameLevels (drop (i + 1) a) (drop (i + 1) b)) false
+now-other a b i whole true u ha hb e f h = h ∙ other-head a b i ha hb e ∙ ap (λ y. cond y (sameLevels (drop (i + 1) a) (drop (i + 1) b)) false) (sym f)
+now-other a b i whole false u ha hb e f h = h ∙ ap (λ y. cond y (sameLevels (drop (i + 1) a) (drop (i + 1) b)) false) (sym f)
+
+pub flag-end : (a b : List ℕ) (i : ℕ) (whole t : Bool) → length a ≤ i → length b ≤ i → whole ≡ cond t (sameLevels (drop i a) (drop i b)) false → whole ≡ t
+flag-end a b i whole true ha hb h = h ∙ same-end a b i ha hb
+flag-end a b i whole false ha hb h = h
 
 -- one record of the first n
 module _ (c : List ℕ) (n p : ℕ) (k : List ℕ) (room : n * 27 ≤ length c) where

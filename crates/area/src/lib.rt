@@ -150,6 +150,24 @@ pub fn levels_are(cells: &[u32], place: usize, levels: [u32; 8]) -> bool
     true
 }
 
+// The same, without leaving at the first level that differs: a search asks it of record after record, and there a comparison without
+// a branch is quicker.
+fn levels_match(cells: &[u32], place: usize, levels: [u32; 8]) -> bool
+    requires { ⌜ place * 27 + 27 ≤ length (now cells) ⌝ }
+    ensures { λ r. ⌜ r ≡ sameLevels (getD (recordsOf (now (cells .entry))) place blank .levels) levels ⌝ }
+{
+    let at = place * 27;
+    let mut same = true;
+    let mut i = 0;
+    while i < 8 {
+        if cells[at + i] != levels[i] {
+            same = false;
+        }
+        i += 1;
+    }
+    same
+}
+
 // The first held place that has these levels.
 pub fn lookup(cells: &[u32], held: usize, levels: [u32; 8]) -> Found
     requires { ⌜ held * 27 ≤ length (now cells) ⌝ }
@@ -157,7 +175,7 @@ pub fn lookup(cells: &[u32], held: usize, levels: [u32; 8]) -> Found
 {
     let mut place = 0;
     while place < held {
-        if levels_are(cells, place, levels) {
+        if levels_match(cells, place, levels) {
             return Found::At(place);
         }
         place += 1;

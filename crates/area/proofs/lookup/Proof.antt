@@ -25,8 +25,8 @@ abbrev μ-loop : tie.MeasureT-loop
 loop-holds : tie.Need-loop-holds Inv-loop μ-loop
 loop-holds c = (omega arith, refl)
 
-levels-are-requires : tie.Need-levels-are-requires Inv-loop μ-loop
-levels-are-requires c κs = omega arith
+levels-match-requires : tie.Need-levels-match-requires Inv-loop μ-loop
+levels-match-requires c κs = omega arith
 
 -- the answer of a search whose first place left was asked
 asked : (cells : List ℕ) (held place : ℕ) (levels : List ℕ) (t : Bool) (f : Found) → held * 27 ≤ length cells → place < held
@@ -41,7 +41,7 @@ returns c =
     let s = c .before .before .before .before .before in
     let l = c .before .before .before .loop in
     sym (asked (now (s .args .cells)) (s .args .held) (l .place) (s .args .levels) true (foundFrom 0 (heldIn (now (s .args .cells)) (s .args .held)) (s .args .levels))
-    (omega arith) (omega arith) (l .inv .1) (sym (c .if1 .taken) ∙ c .before .levels-are .ensures))
+    (omega arith) (omega arith) (l .inv .1) (sym (c .if1 .taken) ∙ c .before .levels-match .ensures))
 
 add-place : tie.Need-add-place Inv-loop μ-loop
 add-place c = omega arith
@@ -55,7 +55,7 @@ loop-again c =
     let l = c .before .before .before .loop in (
       omega arith,
       asked (now (s .args .cells)) (s .args .held) (l .place) (s .args .levels) false (foundFrom 0 (heldIn (now (s .args .cells)) (s .args .held)) (s .args .levels))
-          (omega arith) (omega arith) (l .inv .1) (sym (c .if1 .left) ∙ c .before .levels-are .ensures),
+          (omega arith) (omega arith) (l .inv .1) (sym (c .if1 .left) ∙ c .before .levels-match .ensures),
     )
 
 returns-2 : tie.Need-returns-2 Inv-loop μ-loop
@@ -72,7 +72,7 @@ lookup-spec =
     Inv-loop
     μ-loop
     loop-holds
-    levels-are-requires
+    levels-match-requires
     returns
     add-place
     loop-less
