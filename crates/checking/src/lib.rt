@@ -7,7 +7,7 @@ ghost use lib.Dec.{leb};
 ghost use lib.IntN.{natAbs};
 ghost use lib.ListN.{length};
 ghost use Rattle.sums.specs.Sums.{natSumTo};
-ghost use Rattle.grid.specs.Index.{level, excess, Within};
+ghost use Rattle.grid.specs.Index.{level, Within};
 ghost use Rattle.area.specs.Records.{recordsOf};
 ghost use Rattle.area.specs.Encoding.{areaOf};
 ghost use Rattle.soundness.specs.Held.{levelsAt, backwardLink, sizeAt};
@@ -142,20 +142,6 @@ fn places_fit(axes: usize, held: usize, cells: &[u32]) -> bool
     true
 }
 
-// The excess of an index.
-fn excess_of(levels: [u32; 8]) -> u32
-    requires { ⌜ Within levels ⌝ }
-    ensures { λ r. ⌜ r ≡ excess levels ⌝ }
-{
-    let mut sum: u32 = 0;
-    let mut axis: usize = 0;
-    while axis < 8 {
-        sum += levels[axis] - 1;
-        axis += 1;
-    }
-    sum
-}
-
 // Whether axis `other` shows that the index here, raised along `axis`, isn't admissible: the place behind along `other` has no
 // forward link along `axis`, or one to an index that isn't old.
 fn bars(axes: usize, place: usize, axis: usize, other: usize, cells: &[u32]) -> bool
@@ -217,7 +203,7 @@ fn place_complete(axes: usize, place: usize, cells: &[u32]) -> bool
     if area::state_at(cells, place) != area::OLD {
         return true;
     }
-    if 12 <= excess_of(area::levels_at(cells, place)) {
+    if 12 <= grid::excess_of(area::levels_at(cells, place)) {
         return true;
     }
     let mut axis: usize = 0;

@@ -7,13 +7,12 @@ use native.Mathlib.Omega.{arith}
 use lib.IntN.{ℤ}
 use lib.ListN.{length}
 use lib.Seq.{length-take-le}
-use Rattle.grid.specs.Index.{level}
+use Rattle.grid.specs.Index.{Within}
 use Rattle.area.specs.declared.JobRecord.{JobRecord}
 use Rattle.area.specs.Records.{recordsOf, heldIn}
 use Rattle.area.specs.Encoding.{areaOf, heldOf, entriesOf}
 use Rattle.area.proofs.Records.{length-recordsOf}
 use Rattle.quadrature.specs.Readings.{recordAt}
-use Rattle.soundness.proofs.Levels.{at-most}
 use Rattle.machine.specs.Counts.{countOf, ceilingCount}
 use Rattle.writing.specs.Heads.{headsOf}
 use Rattle.writing.specs.Settled.{Settled}
@@ -29,9 +28,9 @@ module _ (j : JobRecord) (c : List ℕ) (s : List ℤ) (settled : Settled (areaO
   pub held-few : j .held ≤ 512
   held-few = omega (arith, held-count, settled .sound .structure .count .1)
 
-  pub raisable : (p a : ℕ) → p < j .held → a < 8 → level (recordAt (heldIn c (j .held)) p .levels) a ≤ 8
+  pub held-within : (p : ℕ) → p < j .held → Within (recordAt (heldIn c (j .held)) p .levels)
   unfolding heldIn
-  raisable p a h l = at-most (j .axes) (recordAt (heldOf (areaOf j c s)) p .levels) (settled .sound .structure .index p (omega (arith, held-count))) a l
+  held-within p h = settled .sound .structure .index p (omega (arith, held-count)) .ceilings
 
   pub counted : (t : ℕ) → countOf t (headsOf (heldIn c (j .held))) ≡ countOf t (entriesOf (areaOf j c s))
   counted t = alike-count (headsOf (heldIn c (j .held))) (entriesOf (areaOf j c s)) (heads-are j c s) t

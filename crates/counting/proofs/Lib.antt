@@ -1,4 +1,5 @@
 -- The laws, lowest first.
 pub mod Tallies
+pub mod Ceilings
 pub mod Heads
 pub mod Cross

@@ -2,7 +2,7 @@
 ghost use mathlib.Core.Path.{_≡_};
 ghost use Prim.Native.Nat.{ℕ, _*_, _<_, _≤_};
 ghost use lib.ListN.{length};
-ghost use Rattle.grid.specs.Index.{level};
+ghost use Rattle.grid.specs.Index.{Within};
 ghost use Rattle.area.specs.Records.{heldIn};
 ghost use Rattle.quadrature.specs.Readings.{recordAt};
 ghost use Rattle.area.specs.Encoding.{areaOf, entriesOf};
@@ -39,15 +39,18 @@ fn state_count(held: usize, state: u32, cells: &[u32]) -> u32
     count
 }
 
-// Along how many axes the forward neighbour of an index passes a ceiling.
+// Along how many axes the forward neighbour of an index passes a ceiling: along all if its excess is 12, else where its level is 8.
 fn capped_axes(axes: usize, levels: [u32; 8]) -> u32
-    requires { ⌜ (axes ≤ 8) × ((a : ℕ) → a < 8 → level levels a ≤ 8) ⌝ }
+    requires { ⌜ (axes ≤ 8) × Within levels ⌝ }
     ensures { λ r. ⌜ (r ≡ cappedAxes axes levels) × (r ≤ 8) ⌝ }
 {
+    if 12 <= grid::excess_of(levels) {
+        return axes as u32;
+    }
     let mut count: u32 = 0;
     let mut axis: usize = 0;
     while axis < axes {
-        if !grid::within_ceilings(grid::forward_neighbour(levels, axis)) {
+        if 8 <= levels[axis] {
             count += 1;
         }
         axis += 1;
@@ -58,7 +61,7 @@ fn capped_axes(axes: usize, levels: [u32; 8]) -> u32
 // The number of pairs of an old index and an axis whose forward neighbour passes a ceiling.
 fn ceiling_count(axes: usize, held: usize, cells: &[u32]) -> u32
     requires { ⌜ (held * 27 ≤ length (now cells)) × (held ≤ 512) × (axes ≤ 8) ⌝ }
-    requires { ⌜ ((p a : ℕ) → p < held → a < 8 → level (recordAt (heldIn (now cells) held) p .levels) a ≤ 8) ⌝ }
+    requires { ⌜ ((p : ℕ) → p < held → Within (recordAt (heldIn (now cells) held) p .levels)) ⌝ }
     ensures { λ r. ⌜ r ≡ ceilingCount axes (headsOf (heldIn (now (cells .entry)) held)) ⌝ }
 {
     let mut count: u32 = 0;

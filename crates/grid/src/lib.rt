@@ -2,9 +2,23 @@
 ghost use mathlib.Core.Path.{_≡_};
 ghost use Prim.Native.Nat.{_≤_, _<_};
 ghost use lib.ListN.{set};
-ghost use Rattle.grid.specs.Index.{level, Within, within, forward, backward};
+ghost use Rattle.grid.specs.Index.{level, excess, Within, within, forward, backward};
 ghost use Rattle.grid.specs.Block.{blockSize, pointOf};
 ghost use Rattle.grid.specs.Coefficient.{sign, raisedOn, marks};
+
+// The excess of an index within the ceilings.
+pub fn excess_of(levels: [u32; 8]) -> u32
+    requires { ⌜ Within levels ⌝ }
+    ensures { λ r. ⌜ r ≡ excess levels ⌝ }
+{
+    let mut sum: u32 = 0;
+    let mut axis: usize = 0;
+    while axis < 8 {
+        sum += levels[axis] - 1;
+        axis += 1;
+    }
+    sum
+}
 
 // Whether each level is 1 to 8 and the excess at most 12; exact for any levels.
 pub fn within_ceilings(levels: [u32; 8]) -> bool

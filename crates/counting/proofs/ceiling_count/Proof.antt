@@ -34,7 +34,7 @@ capped-axes-requires c κs =
     let s = c .before .before .before .before .before .before in
     let p = c .before .before .before .before .loop .place in
     let e = ap (λ r. r .levels) (held-record (now (s .args .cells)) (s .args .held) (omega arith) p (omega arith)) in
-    (omega arith, λ a h. rw (c .levels-at .ensures, ← e) (s .pre .1 p a (omega arith) h))
+    (omega arith, rw (c .levels-at .ensures, ← e) (s .pre .1 p (omega arith)))
 
 add-count : tie.Need-add-count Inv-loop μ-loop
 add-count c = omega arith

@@ -6,7 +6,7 @@ use Rattle.sums.proofs.Words.{back}
 use Rattle.machine.specs.Log.{machineOf}
 use Rattle.machine.specs.Counts.{countsOf}
 use Rattle.counting.specs.Answer.{countsIn}
-use Rattle.counting.proofs.Heads.{held-there, held-few, raisable, counted, capped}
+use Rattle.counting.proofs.Heads.{held-there, held-few, held-within, counted, capped}
 use Rattle.counting.proofs.result.Statement.{statement}
 use Rattle.counting.proofs.result.Tie as tie
 
@@ -29,7 +29,7 @@ ceiling-count-requires : tie.Need-ceiling-count-requires
 ceiling-count-requires c κs =
     let s = c .before .before .before .before .before .before in (
       (held-there (s .args .job) (now (s .args .cells)) (now (s .args .store)) (s .pre), held-few (s .args .job) (now (s .args .cells)) (now (s .args .store)) (s .pre), s .pre .sound .structure .axes .1),
-      raisable (s .args .job) (now (s .args .cells)) (now (s .args .store)) (s .pre),
+      held-within (s .args .job) (now (s .args .cells)) (now (s .args .store)) (s .pre),
     )
 
 returns : tie.Need-returns

@@ -1,4 +1,4 @@
--- `checking::excess_of` meets its contract: the excess so far and that of the axes left are the whole. Assumes nothing.
+-- `grid::excess_of` meets its contract: the excess so far and that of the axes left are the whole. Assumes nothing.
 use borrow.Author.Needs.{needs}
 use mathlib.Core.Path.{_≡_}
 use Prim.Native.Nat.{ℕ, _+_, _*_, _-_, _<_, _≤_}
@@ -6,10 +6,10 @@ use native.Mathlib.Omega.{arith}
 use lib.ListN.{length}
 use mathlib.Core.List.{List}
 use lib.ListN.{drop}
 use Rattle.grid.specs.Index.{level, excess}
 use Rattle.grid.proofs.Turns.{axis-left, none-left}
-use Rattle.checking.proofs.excess_of.Statement.{statement}
-use Rattle.checking.proofs.excess_of.Tie as tie
+use Rattle.grid.proofs.excess_of.Statement.{statement}
+use Rattle.grid.proofs.excess_of.Tie as tie
 
 step : (k : List ℕ) (a : ℕ) → a < length k → excess (drop a k) ≡ (level k a - 1) + excess (drop (a + 1) k)
 unfolding excess
