@@ -16,6 +16,7 @@ use lib.Seq.{take-suc, take-set-le, ext-getD, getD-drop}
 use Rattle.rule.specs.Points.{newCount}
 use Rattle.grid.specs.Index.{level, root, forward, NowhereHigher}
 use Rattle.grid.specs.Block.{blockSize}
+use Rattle.grid.specs.Difference.{behind}
 use Rattle.grid.specs.Terms.{IsReading, InRange}
 use Rattle.grid.proofs.Levels.{Levels, levels-from}
 use Rattle.grid.proofs.Turns.{size-pos, levels-drop}
@@ -24,7 +25,12 @@ use Rattle.area.specs.declared.IndexRecord.{IndexRecord}
 use Rattle.quadrature.specs.Readings.{recordAt, placeIn, fetched}
 use Rattle.quadrature.specs.Ready.{Ready, Stands}
 use Rattle.quadrature.specs.Parts.{left, leftAt}
+use Rattle.quadrature.proofs.Walks.{behind-left}
 use Rattle.quadrature.proofs.Places.{place-levels, place-inside, below-none, higher-append, higher-take, size-append}
+
+-- the rank past an axis with one point
+rank-only : (r : ℕ) → r * 1 + 0 ≡ r
+rank-only r = omega arith
 
 module _ {d : ℕ} {rs : List IndexRecord} {s : List ℤ} {k : List ℕ} (ready : Ready d rs s k) where
   -- the root is nowhere higher than any index
@@ -142,6 +148,20 @@ module _ {d : ℕ} {rs : List IndexRecord} {s : List ℤ} {k : List ℕ} (ready 
             in-block = subst (λ x. rank * newCount (level levels axis) + n < x) (sym size-next) (digits-lt (st .in-block) h);
           }
 
+      -- where the axis is at level 1 it has one point, and the rank stays
+      module _ (one : level levels axis ≡ 1) where
+        pub stands-past : Stands rs k (axis + 1) place rank
+        unfolding newCount
+        stands-past =
+            subst (λ r. Stands rs k (axis + 1) place r) (ap (λ l. rank * newCount l + 0) one ∙ rank-only rank)
+            (stands-further 0 (subst (λ l. 0 < newCount l) (sym one) (omega arith)))
+
+        pub left-past : leftAt rs s (axis + 1) place rank ≡ behind (leftAt rs s axis place rank) 1 0
+        unfolding newCount
+        left-past =
+            sym (behind-left (fetched rs s) (take axis levels) rank 1 0
+            ∙ ap₂ (left (fetched rs s)) (ap (λ x. take axis levels ++ (x ∷ [])) (sym one) ∙ sym take-next) (rank-only rank))
+
     -- ---- the readings left are in range
 
     pub left-range : InRange (drop axis k) (leftAt rs s axis place rank)
@@ -201,9 +221,6 @@ module _ {d : ℕ} {rs : List IndexRecord} {s : List ℤ} {k : List ℕ} (ready 
       unfolding blockSize newCount
       ones-size zero = refl
       ones-size (suc m) = rw (ones-size m)
-
-      rank-only : (r : ℕ) → r * 1 + 0 ≡ r
-      rank-only r = omega arith
 
       pub left-one : leftAt rs s axis place rank (replicate (8 - axis) 1) 0 ≡ getD s (recordAt rs place .first + rank) (pos 0)
       unfolding left fetched

@@ -9,7 +9,7 @@ use native.Mathlib.Nat as NatL
 use native.Mathlib.Nat.{le-refl, le-trans, le-of-eq, mul-le-mul}
 use native.Mathlib.Numerals.{add-one}
 use native.Mathlib.Omega.{arith}
-use lib.IntN.{ℤ, pos, natAbs, _+ℤ_, _*ℤ_, *ℤ-zero, +ℤ-idr}
+use lib.IntN.{ℤ, pos, natAbs, _+ℤ_, _*ℤ_, +ℤ-idr}
 use lib.ListN.{length, drop}
 use lib.Pow.{pow-add, pow-mono, pow-pos}
 use lib.Seq.{drop-cons}
@@ -75,6 +75,13 @@ room-below w l u a r =
     less-room (natAbs w * 2 ^ u) (newCount l) (2 ^ 20) (count-pos l a)
     (le-trans (le-of-eq (NatL.mul-assoc (natAbs w) (2 ^ u) (newCount l) ∙ ap (λ x. natAbs w * x) (NatL.mul-comm (2 ^ u) (newCount l)) ∙ sym (NatL.mul-assoc (natAbs w) (newCount l) (2 ^ u)))) r)
 
+-- an axis at level 1 takes no room
+pub room-past : (k : List ℕ) (a : ℕ) (w : ℤ) → a < length k → level k a ≡ 1 → natAbs w * 2 ^ units (drop a k) ≤ 2 ^ 20
+    → natAbs w * 2 ^ units (drop (a + 1) k) ≤ 2 ^ 20
+unfolding unit
+room-past k a w h e r =
+    subst (λ u. natAbs w * 2 ^ u ≤ 2 ^ 20) (units-of k a h ∙ ap (λ x. unit x + units (drop (a + 1) k)) e ∙ NatL.zero-add (units (drop (a + 1) k))) r
+
 pub room-alone : (w : ℤ) (u : ℕ) → natAbs w * 2 ^ u ≤ 2 ^ 20 → natAbs w ≤ 2 ^ 20
 room-alone w u r = less-room (natAbs w) (2 ^ u) (2 ^ 20) (pow-pos u) r
 
@@ -131,25 +138,33 @@ module _ (axes : ℕ) (k : List ℕ) (axis l : ℕ) (w : ℤ) (Q : Readings) (v 
 
 -- ---- the point walk
 
-module _ (ks : List ℕ) (l p : ℕ) (w : ℤ) (Q : Readings) where
-  pub point-adds : (here rest : ℤ) → p < newCount l → here ≡ w *ℤ differenceWalk ks (behind Q l p) → rest ≡ w *ℤ pointsLeft (newCount l - (p + 1)) (p + 1) l ks Q
-      → here +ℤ rest ≡ w *ℤ pointsLeft (newCount l - p) p l ks Q
-  point-adds here rest h e f =
-      ap₂ _+ℤ_ e f ∙ sym (distl w (differenceWalk ks (behind Q l p)) (pointsLeft (newCount l - (p + 1)) (p + 1) l ks Q))
-      ∙ ap (λ x. w *ℤ x) (sym (ap (λ n. pointsLeft n p l ks Q) (count (newCount l) p h) ∙ points-step (newCount l - (p + 1)) p l ks Q))
+module _ (ks : List ℕ) (l p : ℕ) (w : ℤ) (Q : Readings) (h : p < newCount l) where
+  points-first : pointsLeft (newCount l - p) p l ks Q ≡ differenceWalk ks (behind Q l p) +ℤ pointsLeft (newCount l - (p + 1)) (p + 1) l ks Q
+  points-first = ap (λ n. pointsLeft n p l ks Q) (count (newCount l) p h) ∙ points-step (newCount l - (p + 1)) p l ks Q
     where
       count : (n p : ℕ) → p < n → n - p ≡ suc (n - (p + 1))
       count n p h = omega arith
 
-  pub points-done : newCount l ≤ p → pos 0 ≡ w *ℤ pointsLeft (newCount l - p) p l ks Q
-  points-done h = sym (ap (λ n. w *ℤ pointsLeft n p l ks Q) (none (newCount l) p h) ∙ ap (λ x. w *ℤ x) (points-none p l ks Q) ∙ *ℤ-zero w)
-    where
-      none : (n p : ℕ) → n ≤ p → n - p ≡ 0
-      none n p h = omega arith
+  -- a further point is left
+  pub point-adds : (here rest : ℤ) → here ≡ w *ℤ differenceWalk ks (behind Q l p) → rest ≡ w *ℤ pointsLeft (newCount l - (p + 1)) (p + 1) l ks Q
+      → here +ℤ rest ≡ w *ℤ pointsLeft (newCount l - p) p l ks Q
+  point-adds here rest e f =
+      ap₂ _+ℤ_ e f ∙ sym (distl w (differenceWalk ks (behind Q l p)) (pointsLeft (newCount l - (p + 1)) (p + 1) l ks Q)) ∙ ap (λ x. w *ℤ x) (sym points-first)
 
-  pub points-bound : (top : ℕ) → Levels 8 ks → InRange (top ∷ ks) Q → 1 ≤ l → l ≤ top → p ≤ newCount l → natAbs w * newCount l * 2 ^ units ks ≤ 2 ^ 20
+  -- it is the last
+  pub points-last : (here : ℤ) → newCount l ≤ p + 1 → here ≡ w *ℤ differenceWalk ks (behind Q l p) → here ≡ w *ℤ pointsLeft (newCount l - p) p l ks Q
+  points-last here q e =
+      e ∙ ap (λ x. w *ℤ x) (sym (points-first ∙ ap (λ x. differenceWalk ks (behind Q l p) +ℤ x) none ∙ +ℤ-idr (differenceWalk ks (behind Q l p))))
+    where
+      done : (n m : ℕ) → n ≤ m → n - m ≡ 0
+      done n m q = omega arith
+
+      none : pointsLeft (newCount l - (p + 1)) (p + 1) l ks Q ≡ pos 0
+      none = ap (λ n. pointsLeft n (p + 1) l ks Q) (done (newCount l) (p + 1) q) ∙ points-none (p + 1) l ks Q
+
+  pub points-bound : (top : ℕ) → Levels 8 ks → InRange (top ∷ ks) Q → 1 ≤ l → l ≤ top → natAbs w * newCount l * 2 ^ units ks ≤ 2 ^ 20
       → natAbs (w *ℤ pointsLeft (newCount l - p) p l ks Q) ≤ 2 ^ 40
-  points-bound top v r a b c room =
+  points-bound top v r a b room =
       weighed w (pointsLeft (newCount l - p) p l ks Q) (newCount l * 2 ^ units ks) (le-trans (le-of-eq (sym (NatL.mul-assoc (natAbs w) (newCount l) (2 ^ units ks)))) room)
       (le-trans (points-size 8 top ks Q v r (newCount l - p) p l a b (omega arith))
       (le-trans (mul-le-mul (NatL.sub-le (newCount l) p) (le-refl (2 ^ units ks * 1048576))) (le-of-eq (sym (NatL.mul-assoc (newCount l) (2 ^ units ks) 1048576)))))

@@ -31,10 +31,11 @@ fn weighed_reading(place: usize, rank: usize, weight: i64, cells: &[u32], store:
 }
 
 // Goes through the levels of an axis from `level` on: the record at `place` stands at that level there, and at level 1 on the later
-// axes. Past the last axis it takes the reading.
+// axes. Past the last axis it takes the reading. An axis where the index is at level 1 has one point of weight 1, so that the walk
+// goes straight to the next. Both walks take the index by reference, so that no call copies its levels.
 fn level_walk(
     axes: usize,
-    target: [u32; 8],
+    target: &[u32; 8],
     axis: usize,
     level: u32,
     place: usize,
@@ -43,13 +44,16 @@ fn level_walk(
     cells: &[u32],
     store: &[i32],
 ) -> i64
-    requires { ⌜ Ready axes (recordsOf (now cells)) (now store) target × Stands (recordsOf (now cells)) target axis place rank ⌝ }
+    requires { ⌜ Ready axes (recordsOf (now cells)) (now store) (now target) × Stands (recordsOf (now cells)) (now target) axis place rank ⌝ }
     requires { ⌜ (axis ≤ axes) × (axis < axes → level ≡ levelOf (recordAt (recordsOf (now cells)) place .levels) axis) ⌝ }
-    requires { ⌜ natAbs weight * 2 ^ units (drop axis target) ≤ 2 ^ 20 ⌝ }
-    ensures { λ r. ⌜ r ≡ weight *ℤ walkLeft axes target axis level (leftAt (recordsOf (now (cells .entry))) (now (store .entry)) axis place rank) ⌝ }
+    requires { ⌜ natAbs weight * 2 ^ units (drop axis (now target)) ≤ 2 ^ 20 ⌝ }
+    ensures { λ r. ⌜ r ≡ weight *ℤ walkLeft axes (now (target .entry)) axis level (leftAt (recordsOf (now (cells .entry))) (now (store .entry)) axis place rank) ⌝ }
 {
     if axis < axes {
         let top = target[axis];
+        if top == 1 {
+            return level_walk(axes, target, axis + 1, 1, place, rank, weight, cells, store);
+        }
         let inner = weight * rule::difference_weight(top, level);
         let here = point_walk(
             axes,
@@ -85,10 +89,11 @@ fn level_walk(
     }
 }
 
-// Goes through the new points of a level from `point` on; below each, the next axis.
+// Goes through the new points of a level from `point` on; below each, the next axis. It calls itself only where a point is left, so
+// that no call is spent on finding the end.
 fn point_walk(
     axes: usize,
-    target: [u32; 8],
+    target: &[u32; 8],
     axis: usize,
     level: u32,
     point: usize,
@@ -98,31 +103,32 @@ fn point_walk(
     cells: &[u32],
     store: &[i32],
 ) -> i64
-    requires { ⌜ Ready axes (recordsOf (now cells)) (now store) target × Stands (recordsOf (now cells)) target axis place rank ⌝ }
-    requires { ⌜ (axis < axes) × (level ≡ levelOf (recordAt (recordsOf (now cells)) place .levels) axis) × (point ≤ newCount level) ⌝ }
-    requires { ⌜ natAbs weight * newCount level * 2 ^ units (drop (axis + 1) target) ≤ 2 ^ 20 ⌝ }
-    ensures { λ r. ⌜ r ≡ weight *ℤ pointsLeft (newCount level - point) point level (drop (axis + 1) target) (leftAt (recordsOf (now (cells .entry))) (now (store .entry)) axis place rank) ⌝ }
+    requires { ⌜ Ready axes (recordsOf (now cells)) (now store) (now target) × Stands (recordsOf (now cells)) (now target) axis place rank ⌝ }
+    requires { ⌜ (axis < axes) × (level ≡ levelOf (recordAt (recordsOf (now cells)) place .levels) axis) × (point < newCount level) ⌝ }
+    requires { ⌜ natAbs weight * newCount level * 2 ^ units (drop (axis + 1) (now target)) ≤ 2 ^ 20 ⌝ }
+    ensures { λ r. ⌜ r ≡ weight *ℤ pointsLeft (newCount level - point) point level (drop (axis + 1) (now (target .entry))) (leftAt (recordsOf (now (cells .entry))) (now (store .entry)) axis place rank) ⌝ }
 {
     let count = rule::new_count(level);
-    if point < count {
-        let below = rank * count + point;
-        let here = level_walk(
-            axes,
-            target,
-            axis + 1,
-            1,
-            place,
-            below,
-            weight,
-            cells,
-            store,
-        );
+    let below = rank * count + point;
+    let here = level_walk(
+        axes,
+        target,
+        axis + 1,
+        1,
+        place,
+        below,
+        weight,
+        cells,
+        store,
+    );
+    let next = point + 1;
+    if next < count {
         let rest = point_walk(
             axes,
             target,
             axis,
             level,
-            point + 1,
+            next,
             place,
             rank,
             weight,
@@ -131,7 +137,7 @@ fn point_walk(
         );
         here + rest
     } else {
-        0
+        here
     }
 }
 
@@ -167,7 +173,7 @@ pub fn scaled_difference(axes: usize, target: [u32; 8], cells: &[u32], store: &[
     ensures is { λ r. ⌜ r ≡ scaledDifference target (fetched (recordsOf (now (cells .entry))) (now (store .entry))) ⌝ }
     ensures small { λ r. ⌜ natAbs r ≤ 2 ^ 40 ⌝ }
 {
-    let sum = level_walk(axes, target, 0, 1, 0, 0, 1, cells, store);
+    let sum = level_walk(axes, &target, 0, 1, 0, 0, 1, cells, store);
     scaled(target, sum)
 }
 

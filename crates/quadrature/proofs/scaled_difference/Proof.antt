@@ -43,17 +43,17 @@ module _ {d : ℕ} {rs : List IndexRecord} {s : List ℤ} {k : List ℕ} (ready 
 
 level-walk-requires : tie.Need-level-walk-requires
 level-walk-requires c κs =
-    let ready = c .before .pre in
+    let ready = c .before .before .pre in
     ((ready, stands-start ready), ((omega arith, λ h. sym (first-level ready)), room-start ready))
 
 scaled-requires : tie.Need-scaled-requires
 scaled-requires c κs =
-    let ready = c .before .before .pre in
+    let ready = c .before .before .before .pre in
     (ready .ceilings, units-in ready, subst (λ x. natAbs x ≤ 2 ^ 40) (sym (walk-is ready _ (back (c .level-walk .result) (sfits-of (c .level-walk .ok)) ∙ c .level-walk .ensures))) (small ready))
 
 returns : tie.Need-returns
 returns c =
-    let ready = c .before .before .before .pre in
+    let ready = c .before .before .before .before .pre in
     let e = back (c .scaled .result) (sfits-of (c .scaled .ok)) ∙ c .scaled .ensures ∙ walk-is ready _ (back (c .before .level-walk .result) (sfits-of (c .before .level-walk .ok)) ∙ c .before .level-walk .ensures) in
     (e, subst (λ x. natAbs x ≤ 2 ^ 40) (sym e) (small ready))
 
