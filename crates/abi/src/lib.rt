@@ -1,19 +1,6 @@
 // The calls, exported for C and Rust: the proved functions, with nothing asked of what the storage holds. A job record is ten words
 // (specs/Words.antt). The length of cells counts words, 27 to a record; that of the store counts readings. A call returns 0 if it was
-// not refused, else the number of the cause. In C:
-//     bool     wihupya_check(const uint32_t job[10], const uint32_t *cells, size_t words, const int32_t *store, size_t readings);
-//     uint32_t wihupya_start(uint32_t job[10], uint32_t axes, uint64_t threshold, uint32_t budget, uint32_t *cells, size_t words,
-//                            const int32_t *store, size_t readings);
-//     uint32_t wihupya_point(const uint32_t job[10], size_t n, const uint32_t *cells, size_t words, const int32_t *store,
-//                            size_t readings, uint8_t *buffer, size_t bytes);
-//     uint32_t wihupya_deliver(uint32_t job[10], const int32_t *block, size_t count, uint32_t indicator, uint32_t *cells,
-//                              size_t words, int32_t *store, size_t readings);
-//     uint32_t wihupya_promote(uint32_t job[10], uint32_t outcome[1], uint32_t *cells, size_t words, const int32_t *store,
-//                              size_t readings);
-//     uint32_t wihupya_result(const uint32_t job[10], uint32_t counts[9], const uint32_t *cells, size_t words, const int32_t *store,
-//                             size_t readings);
-//     uint32_t wihupya_cross_total(const uint32_t job[10], uint32_t total[2], const uint32_t *cells, size_t words,
-//                                  const int32_t *store, size_t readings);
+// not refused, else the number of the cause. include/wihupya.h says it for C, and bindings/ for Rust.
 ghost use mathlib.Core.Path.{_≡_};
 ghost use mathlib.Core.List.{[]};
 ghost use Prim.Native.Nat.{_+_, _*_, _^_};

@@ -1,0 +1,204 @@
+//! The sparse-grid integrator for callers in Rust: safe calls over the proved
+//! library, in storage that the caller lends.
+//!
+//! The integrator decides which points to measure and averages the readings;
+//! the caller measures. While a block is wanted, the caller asks for its
+//! points and delivers their readings; else it promotes, until the job is met
+//! or spent:
+//!
+//! ```
+//! use wihupya::{Integrator, Promotion, Refusal, CELLS, SCALE};
+//!
+//! # fn main() -> Result<(), Refusal> {
+//! // Two axes; the reading at (x, y) is x squared plus y.
+//! let (mut cells, mut store) = (vec![0; CELLS], vec![0; 64]);
+//! let mut job = Integrator::new(&mut cells, &mut store);
+//! job.start(2, 40, 64)?;
+//! loop {
+//!     let mut readings = Vec::new();
+//!     let mut point = [0; 2];
+//!     while job.point(readings.len(), &mut point).is_ok() {
+//!         let [x, y] = point.map(i32::from);
+//!         readings.push(x * x + y);
+//!     }
+//!     if !readings.is_empty() {
+//!         // How much the block matters is the caller's to say.
+//!         let indicator = readings.len() as u32 * 30;
+//!         job.deliver(&readings, indicator)?;
+//!     } else if job.promote()? != Promotion::Promoted {
+//!         break;
+//!     }
+//! }
+//! let counts = job.result()?;
+//! assert_eq!(counts.scaled_mean, job.cross_total()?);
+//! println!("the mean is {} / {SCALE}", counts.scaled_mean);
+//! # Ok(())
+//! # }
+//! ```
+
+#![deny(missing_docs)]
+#![deny(unsafe_code)]
+
+#[allow(unsafe_code)]
+mod exported;
+mod job;
+mod refusal;
+
+pub use job::{JobRecord, JobWords, JOB_WORDS};
+pub use refusal::Refusal;
+
+/// The most axes of a job.
+pub const MOST_AXES: usize = 8;
+/// The most indices of a job, and the fewest records to lend.
+pub const RECORDS: usize = 512;
+/// The cells of an index record; `include/wihupya.h` says what each one holds.
+pub const RECORD_CELLS: usize = 27;
+/// The fewest cells to lend.
+pub const CELLS: usize = RECORDS * RECORD_CELLS;
+/// The largest budget; a store of this length is long enough for every job.
+pub const LARGEST_BUDGET: u32 = 8_192;
+/// A reading lies between minus this and this.
+pub const LARGEST_READING: i32 = 1_048_576;
+/// The scaled mean is the mean times this.
+pub const SCALE: i64 = 1_048_576;
+
+/// A job in lent storage. Its work area is the job record, the index records
+/// and the reading store; the first is kept here, the others are lent.
+///
+/// A call that is refused changes nothing.
+#[derive(Debug)]
+pub struct Integrator<'a> {
+    job: JobWords,
+    cells: &'a mut [u32],
+    store: &'a mut [i32],
+}
+
+/// How a promotion came out.
+#[derive(Clone, Copy, Debug, PartialEq, Eq, Hash)]
+pub enum Promotion {
+    /// The pending error is at most the threshold: the job is done.
+    Met,
+    /// The next refinement would take more readings than the budget, or more
+    /// than 512 indices.
+    Spent,
+    /// The active index of largest indicator is refined.
+    Promoted,
+}
+
+/// What a job has come to.
+#[derive(Clone, Copy, Debug, PartialEq, Eq, Hash)]
+pub struct Counts {
+    /// The sum of the active indices' indicators.
+    pub pending_error: u64,
+    /// The mean times [`SCALE`].
+    pub scaled_mean: i64,
+    /// Indices that are refined.
+    pub old: u32,
+    /// Indices that are delivered and not refined.
+    pub active: u32,
+    /// Indices whose block is not delivered.
+    pub wanted: u32,
+    /// The readings that all their blocks take together.
+    pub reserved: u32,
+    /// How often refining would have passed level 8 or excess 12.
+    pub ceiling: u32,
+}
+
+impl<'a> Integrator<'a> {
+    /// Storage in which no job was started: every call but [`start`] and
+    /// [`check`] is refused. At least [`CELLS`] cells and as many readings as
+    /// the budget make it long enough.
+    ///
+    /// [`start`]: Integrator::start
+    /// [`check`]: Integrator::check
+    pub fn new(cells: &'a mut [u32], store: &'a mut [i32]) -> Self {
+        Integrator::resume(JobRecord::default(), cells, store)
+    }
+
+    /// A work area as it is: one that was copied or saved, or any other.
+    /// Nothing is asked of it; each call judges what it finds.
+    pub fn resume(job: JobRecord, cells: &'a mut [u32], store: &'a mut [i32]) -> Self {
+        Integrator { job: job.to_words(), cells, store }
+    }
+
+    /// The job record.
+    pub fn job(&self) -> JobRecord {
+        JobRecord::from_words(self.job)
+    }
+
+    /// The lent cells.
+    pub fn cells(&self) -> &[u32] {
+        self.cells
+    }
+
+    /// The lent store.
+    pub fn store(&self) -> &[i32] {
+        self.store
+    }
+
+    /// Starts a job, whatever the work area held: its first block, the single
+    /// centre point, is wanted. There are 1 to 8 axes; the job is met when the
+    /// pending error is at most the threshold, and asks for no more readings
+    /// than the budget, 1 to 8,192.
+    pub fn start(&mut self, axes: u32, threshold: u64, budget: u32) -> Result<(), Refusal> {
+        let Integrator { job, cells, store } = self;
+        Refusal::judge(exported::start(job, axes, threshold, budget, cells, store))
+    }
+
+    /// Writes the positions, 0 to 128, of the n-th point, from 0, of the first
+    /// wanted block: one for each axis, to the front of the buffer.
+    pub fn point(&self, n: usize, buffer: &mut [u8]) -> Result<(), Refusal> {
+        Refusal::judge(exported::point(&self.job, n, self.cells, self.store, buffer))
+    }
+
+    /// Delivers the first wanted block: its readings in the order of its
+    /// points, and an indicator of how much it matters, in any unit.
+    pub fn deliver(&mut self, readings: &[i32], indicator: u32) -> Result<(), Refusal> {
+        let Integrator { job, cells, store } = self;
+        Refusal::judge(exported::deliver(job, readings, indicator, cells, store))
+    }
+
+    /// Refines the active index of largest indicator, unless the job is met or
+    /// its budget spent; these two change nothing.
+    pub fn promote(&mut self) -> Result<Promotion, Refusal> {
+        let mut outcome = [u32::MAX];
+        Refusal::judge(exported::promote(&mut self.job, &mut outcome, self.cells, self.store))?;
+        Ok(match outcome {
+            [0] => Promotion::Met,
+            [1] => Promotion::Spent,
+            [2] => Promotion::Promoted,
+            [other] => panic!("{other} is no outcome of promote"),
+        })
+    }
+
+    /// The counts, and pending error and mean as they are recorded.
+    pub fn result(&self) -> Result<Counts, Refusal> {
+        let mut counts = [0; 9];
+        Refusal::judge(exported::result(&self.job, &mut counts, self.cells, self.store))?;
+        Ok(Counts {
+            pending_error: job::wide(counts[0], counts[1]),
+            scaled_mean: job::signed(counts[2], counts[3]),
+            old: counts[4],
+            active: counts[5],
+            wanted: counts[6],
+            reserved: counts[7],
+            ceiling: counts[8],
+        })
+    }
+
+    /// The scaled mean worked out anew, from the readings and by another
+    /// formula. In a work area that only calls have written it is that of
+    /// [`result`](Integrator::result).
+    pub fn cross_total(&self) -> Result<i64, Refusal> {
+        let mut total = [0; 2];
+        Refusal::judge(exported::cross_total(&self.job, &mut total, self.cells, self.store))?;
+        let [low, high] = total;
+        Ok(job::signed(low, high))
+    }
+
+    /// Whether the work area is sound and its storage long enough. It cannot
+    /// be refused: short storage is a no.
+    pub fn check(&self) -> bool {
+        exported::check(&self.job, self.cells, self.store)
+    }
+}

@@ -1,0 +1,138 @@
+/*
+ * The header's functions as C calls them: every cause, a number of full width for every parameter, and every word that is
+ * written. Says nothing if all is well.
+ */
+#include "wihupya.h"
+
+#include <stdio.h>
+#include <stdlib.h>
+#include <string.h>
+
+enum { AXES = 2, BUDGET = 64, MARK = 77 };
+
+static struct area {
+    uint32_t job[WIHUPYA_JOB_WORDS];
+    uint32_t cells[WIHUPYA_CELLS];
+    int32_t store[BUDGET];
+} area, before;
+
+static uint8_t position[WIHUPYA_MOST_AXES];
+static uint32_t outcome[WIHUPYA_OUTCOME_WORDS], counts[WIHUPYA_COUNT_WORDS], total[WIHUPYA_TOTAL_WORDS];
+
+#define EXPECT(holds) expect((holds), #holds, __LINE__)
+/* The call is refused with this number and leaves the area. */
+#define REFUSED(number, call) (before = area, EXPECT((call) == (number)), EXPECT(memcmp(&before, &area, sizeof area) == 0))
+
+/* The area, whole or with so many words and readings of it. */
+#define LENT(words, readings) area.cells, (words), area.store, (readings)
+#define WHOLE LENT(WIHUPYA_CELLS, BUDGET)
+
+static void expect(bool holds, const char *what, int line)
+{
+    if (!holds) {
+        fprintf(stderr, "header.c, line %d: not so: %s\n", line, what);
+        exit(EXIT_FAILURE);
+    }
+}
+
+static uint32_t start(uint64_t threshold)
+{
+    return wihupya_start(area.job, AXES, threshold, BUDGET, WHOLE);
+}
+
+static uint32_t deliver(const int32_t *block, size_t count, uint32_t indicator)
+{
+    return wihupya_deliver(area.job, block, count, indicator, WHOLE);
+}
+
+static void test_start(void)
+{
+    /* Cut to its low half, each number with a high bit set would be accepted. */
+    REFUSED(WIHUPYA_AXES_OUT_OF_RANGE, wihupya_start(area.job, 0, 0, BUDGET, WHOLE));
+    REFUSED(WIHUPYA_AXES_OUT_OF_RANGE, wihupya_start(area.job, UINT32_C(1) << 31 | AXES, 0, BUDGET, WHOLE));
+    REFUSED(WIHUPYA_BUDGET_OUT_OF_RANGE, wihupya_start(area.job, AXES, 0, 0, WHOLE));
+    REFUSED(WIHUPYA_BUDGET_OUT_OF_RANGE, wihupya_start(area.job, AXES, 0, UINT32_C(1) << 31 | BUDGET, WHOLE));
+    REFUSED(WIHUPYA_TOO_SHORT, wihupya_start(area.job, AXES, 0, BUDGET, LENT(WIHUPYA_CELLS - 1, BUDGET)));
+    REFUSED(WIHUPYA_TOO_SHORT, wihupya_start(area.job, AXES, 0, BUDGET, LENT(WIHUPYA_CELLS, BUDGET - 1)));
+    REFUSED(WIHUPYA_NOT_SOUND, wihupya_result(area.job, counts, WHOLE));
+    EXPECT(!wihupya_check(area.job, WHOLE));
+
+    const uint64_t threshold = UINT64_C(0xfedcba9876543210);
+    EXPECT(start(threshold) == WIHUPYA_ACCEPTED);
+    EXPECT(wihupya_check(area.job, WHOLE));
+    EXPECT(!wihupya_check(area.job, LENT(WIHUPYA_CELLS - 1, BUDGET)));
+    EXPECT(!wihupya_check(area.job, LENT(WIHUPYA_CELLS, BUDGET - 1)));
+    EXPECT(wihupya_unsigned_at(area.job, WIHUPYA_JOB_THRESHOLD) == threshold);
+    EXPECT(area.job[WIHUPYA_JOB_AXES] == AXES && area.job[WIHUPYA_JOB_BUDGET] == BUDGET);
+    EXPECT(area.job[WIHUPYA_JOB_HELD] == 1 && area.job[WIHUPYA_JOB_RESERVED] == 1);
+    EXPECT(area.cells[WIHUPYA_CELL_LEVELS] == 1 && area.cells[WIHUPYA_CELL_STATE] == WIHUPYA_WANTED);
+    EXPECT(area.cells[WIHUPYA_CELL_FORWARD] == WIHUPYA_NONE && area.cells[WIHUPYA_CELL_BACKWARD + 7] == WIHUPYA_NONE);
+}
+
+/* From a start with threshold 0 on: the root comes, then (2,1) and (1,2) are wanted. */
+static void test_steps(void)
+{
+    const int32_t root[1] = {-WIHUPYA_LARGEST_READING}, ends[2] = {5, WIHUPYA_LARGEST_READING};
+    const int32_t beyond[2] = {5, -WIHUPYA_LARGEST_READING - 1};
+    EXPECT(start(0) == WIHUPYA_ACCEPTED);
+    outcome[0] = MARK;
+    REFUSED(WIHUPYA_BLOCK_WANTED, wihupya_promote(area.job, outcome, WHOLE));
+    EXPECT(outcome[0] == MARK);
+    EXPECT(deliver(root, 1, UINT32_MAX) == WIHUPYA_ACCEPTED);
+    EXPECT(area.cells[WIHUPYA_CELL_INDICATOR] == UINT32_MAX && area.store[0] == root[0]);
+    REFUSED(WIHUPYA_NO_BLOCK_WANTED, wihupya_point(area.job, 0, WHOLE, position, AXES));
+    EXPECT(wihupya_promote(area.job, outcome, WHOLE) == WIHUPYA_ACCEPTED && outcome[0] == WIHUPYA_PROMOTED);
+
+    memset(position, MARK, sizeof position);
+    REFUSED(WIHUPYA_TOO_SHORT, wihupya_point(area.job, 0, WHOLE, position, AXES - 1));
+    REFUSED(WIHUPYA_NO_SUCH_POINT, wihupya_point(area.job, 2, WHOLE, position, AXES));
+    REFUSED(WIHUPYA_NO_SUCH_POINT, wihupya_point(area.job, (size_t)1 << 32, WHOLE, position, AXES));
+    REFUSED(WIHUPYA_NO_SUCH_POINT, wihupya_point(area.job, SIZE_MAX, WHOLE, position, AXES));
+    EXPECT(position[0] == MARK);
+    EXPECT(wihupya_point(area.job, 1, WHOLE, position, sizeof position) == WIHUPYA_ACCEPTED);
+    EXPECT(position[0] == WIHUPYA_LARGEST_POSITION && position[1] == 64 && position[2] == MARK);
+
+    REFUSED(WIHUPYA_WRONG_COUNT, deliver(ends, 0, 1));
+    REFUSED(WIHUPYA_WRONG_COUNT, deliver(ends, 1, 1));
+    REFUSED(WIHUPYA_READING_OUT_OF_RANGE, deliver(beyond, 2, 1));
+    EXPECT(deliver(ends, 2, UINT32_MAX) == WIHUPYA_ACCEPTED);
+    EXPECT(deliver(ends, 2, UINT32_MAX) == WIHUPYA_ACCEPTED);
+}
+
+/* After these: the mean in 64 signed bits, the pending error above 32 bits. */
+static void test_result(void)
+{
+    /* The difference of an axis of level 2 is a quarter of (end - 2 centre + end). */
+    const int64_t root = -WIHUPYA_LARGEST_READING, ends = 5 + WIHUPYA_LARGEST_READING;
+    const int64_t mean = WIHUPYA_SCALE * root + 2 * (WIHUPYA_SCALE / 4) * (ends - 2 * root);
+    EXPECT(wihupya_result(area.job, counts, WHOLE) == WIHUPYA_ACCEPTED);
+    EXPECT(wihupya_unsigned_at(counts, WIHUPYA_COUNT_PENDING) == 2 * (uint64_t)UINT32_MAX);
+    EXPECT(wihupya_signed_at(counts, WIHUPYA_COUNT_MEAN) == mean);
+    EXPECT(counts[WIHUPYA_COUNT_OLD] == 1 && counts[WIHUPYA_COUNT_ACTIVE] == 2 && counts[WIHUPYA_COUNT_WANTED] == 0);
+    EXPECT(counts[WIHUPYA_COUNT_RESERVED] == 5 && counts[WIHUPYA_COUNT_CEILING] == 0);
+    EXPECT(wihupya_cross_total(area.job, total, WHOLE) == WIHUPYA_ACCEPTED && wihupya_signed_at(total, 0) == mean);
+
+    area.job[WIHUPYA_JOB_PENDING] ^= 1;
+    total[0] = counts[0] = MARK;
+    REFUSED(WIHUPYA_NOT_SOUND, wihupya_cross_total(area.job, total, WHOLE));
+    REFUSED(WIHUPYA_NOT_SOUND, wihupya_result(area.job, counts, WHOLE));
+    EXPECT(total[0] == MARK && counts[0] == MARK);
+}
+
+static void test_negative_mean(void)
+{
+    const int32_t root[1] = {-1};
+    EXPECT(start(UINT32_MAX) == WIHUPYA_ACCEPTED && deliver(root, 1, UINT32_MAX) == WIHUPYA_ACCEPTED);
+    EXPECT(wihupya_signed_at(area.job, WIHUPYA_JOB_MEAN) == -WIHUPYA_SCALE);
+    EXPECT(wihupya_cross_total(area.job, total, WHOLE) == WIHUPYA_ACCEPTED && wihupya_signed_at(total, 0) == -WIHUPYA_SCALE);
+    EXPECT(wihupya_promote(area.job, outcome, WHOLE) == WIHUPYA_ACCEPTED && outcome[0] == WIHUPYA_MET);
+}
+
+int main(void)
+{
+    test_start();
+    test_steps();
+    test_result();
+    test_negative_mean();
+    return EXIT_SUCCESS;
+}

@@ -1,0 +1,89 @@
+//! Storage to lend, and calls that must be refused.
+
+// Each file of tests uses its own part of this.
+#![allow(dead_code)]
+
+use std::fmt::Debug;
+use wihupya::{Integrator, JobRecord, Promotion, Refusal, CELLS};
+
+const MARK: u32 = 0xa5a5_a5a5;
+
+/// A work area of the test's own, so that it can be altered and lent in part.
+#[derive(Clone, Debug, PartialEq, Eq)]
+pub struct Storage {
+    pub job: JobRecord,
+    pub cells: Vec<u32>,
+    pub store: Vec<i32>,
+}
+
+impl Storage {
+    /// Full of marks: 512 records, a part of another, a store of 100 readings.
+    pub fn marked() -> Storage {
+        let job = JobRecord::from_words([MARK; 10]);
+        Storage { job, cells: vec![MARK; CELLS + 5], store: vec![MARK as i32; 100] }
+    }
+
+    pub fn started(axes: u32, threshold: u64, budget: u32) -> Storage {
+        let mut storage = Storage::marked();
+        storage.call(|job| job.start(axes, threshold, budget)).unwrap();
+        storage
+    }
+
+    /// Two axes, budget 64, threshold 0; (2,1) and (1,2) are wanted, two
+    /// readings each.
+    pub fn wanting_two() -> Storage {
+        let mut storage = Storage::started(2, 0, 64);
+        storage.call(|job| job.deliver(&[4_160], 100)).unwrap();
+        assert_eq!(storage.call(|job| job.promote()), Ok(Promotion::Promoted));
+        storage
+    }
+
+    /// The same job when both have come.
+    pub fn wanting_nothing() -> Storage {
+        let mut storage = Storage::wanting_two();
+        storage.call(|job| job.deliver(&[64, 16_448], 50)).unwrap();
+        storage.call(|job| job.deliver(&[4_096, 4_224], 0)).unwrap();
+        storage
+    }
+
+    /// A call on all of the storage.
+    pub fn call<T>(&mut self, call: impl FnOnce(&mut Integrator) -> T) -> T {
+        let whole = (self.cells.len(), self.store.len());
+        self.call_in(whole, call)
+    }
+
+    /// A call on so many cells and readings of it.
+    pub fn call_in<T>(
+        &mut self,
+        (cells, store): (usize, usize),
+        call: impl FnOnce(&mut Integrator) -> T,
+    ) -> T {
+        let (cells, store) = (&mut self.cells[..cells], &mut self.store[..store]);
+        let mut job = Integrator::resume(self.job, cells, store);
+        let answer = call(&mut job);
+        self.job = job.job();
+        answer
+    }
+}
+
+/// The call is refused for this cause, and all storage is as it was.
+pub fn refused<T: Debug + PartialEq>(
+    storage: &mut Storage,
+    cause: Refusal,
+    call: impl FnOnce(&mut Integrator) -> Result<T, Refusal>,
+) {
+    let whole = (storage.cells.len(), storage.store.len());
+    refused_in(storage, whole, cause, call);
+}
+
+/// The same in a part of the storage.
+pub fn refused_in<T: Debug + PartialEq>(
+    storage: &mut Storage,
+    part: (usize, usize),
+    cause: Refusal,
+    call: impl FnOnce(&mut Integrator) -> Result<T, Refusal>,
+) {
+    let before = storage.clone();
+    assert_eq!(storage.call_in(part, call), Err(cause));
+    assert!(*storage == before, "a refusal changes nothing");
+}

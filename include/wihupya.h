@@ -1,0 +1,211 @@
+/*
+ * Wihupya, the sparse-grid integrator, for callers in C (C99) and C++. Link target/staticlib/libabi.a, which `make exported`
+ * writes for x86-64 Linux; of other libraries it needs memcpy alone.
+ *
+ * The library decides which points to measure and averages the readings. You measure. A job runs like this (as a program:
+ * examples/pump-in-c/pump.c):
+ *
+ *     wihupya_start    once: the number of axes, the threshold, the budget
+ *     wihupya_point    n = 0, 1, 2, ...: the points of the block that is wanted, until WIHUPYA_NO_SUCH_POINT
+ *     wihupya_deliver  the readings at these points, in the same order, and an indicator of how much the block matters
+ *     ...              the next block, until wihupya_point says WIHUPYA_NO_BLOCK_WANTED
+ *     wihupya_promote  refines where the indicator is largest, so that new blocks are wanted; ends with met or spent
+ *     wihupya_result   the mean
+ *
+ * WHAT YOU LEND. The library has no memory of its own. A job lives in three arrays of yours, its work area, which you hand to
+ * every call; between calls you may copy them, save them or move them, for they hold numbers and no pointers.
+ *
+ *     job      WIHUPYA_JOB_WORDS words
+ *     cells    at least WIHUPYA_CELLS words: WIHUPYA_RECORDS index records of WIHUPYA_RECORD_CELLS each; `words` is its length
+ *     store    at least as many readings as the budget, so WIHUPYA_LARGEST_BUDGET always do; `readings` is its length
+ *
+ * WHAT YOU SEE TO.
+ *   - A pointer is never null, not even with a length of 0, and points to an array of the type declared here.
+ *   - That array has as many elements as the parameter's brackets or the length after it say. Lengths count elements, not bytes.
+ *   - An array that a call may write (no const) overlaps no other array of the same call: the readings that you deliver may not
+ *     lie in the store.
+ *   - While a call runs nothing else writes its arrays, nor reads those that it may write. Jobs in different work areas can run
+ *     in different threads.
+ *
+ * Everything else is the library's. Every call has a defined answer to every number, reading and length, and to every content of
+ * the arrays: old, altered, garbage or never set.
+ *
+ * WHAT A CALL RETURNS. 0 if it did what you asked, else the number of the cause for which it refused; a refused call leaves
+ * everything that you lent as it was. Only wihupya_check cannot be refused: it returns its answer.
+ */
+#ifndef WIHUPYA_H
+#define WIHUPYA_H
+
+#include <stdbool.h>
+#include <stddef.h>
+#include <stdint.h>
+
+#ifdef __cplusplus
+extern "C" {
+#endif
+
+/* Limits. */
+#define WIHUPYA_MOST_AXES 8
+#define WIHUPYA_HIGHEST_LEVEL 8         /* of an axis, from 1 */
+#define WIHUPYA_HIGHEST_EXCESS 12       /* of an index: the sum of (level - 1) over its axes */
+#define WIHUPYA_RECORDS 512             /* the most indices of a job, and the fewest records to lend */
+#define WIHUPYA_LARGEST_BUDGET 8192     /* so a block, too, has at most this many readings */
+#define WIHUPYA_LARGEST_READING 1048576 /* a reading lies between minus this and this */
+#define WIHUPYA_LARGEST_POSITION 128    /* a position on an axis lies between 0 and this; 64 is the centre */
+#define WIHUPYA_SCALE 1048576           /* the scaled mean is the mean times this */
+
+/* Lengths in 32-bit words. */
+#define WIHUPYA_JOB_WORDS 10
+#define WIHUPYA_RECORD_CELLS 27
+#define WIHUPYA_CELLS (WIHUPYA_RECORDS * WIHUPYA_RECORD_CELLS)
+#define WIHUPYA_OUTCOME_WORDS 1
+#define WIHUPYA_COUNT_WORDS 9
+#define WIHUPYA_TOTAL_WORDS 2
+
+/* Causes of a refusal. Where several apply, the lowest number is returned. (10 is the program's: a malformed job file.) */
+#define WIHUPYA_ACCEPTED 0             /* not refused */
+#define WIHUPYA_AXES_OUT_OF_RANGE 1    /* start: the axes are not 1 to 8 */
+#define WIHUPYA_BUDGET_OUT_OF_RANGE 2  /* start: the budget is not 1 to 8,192 */
+/* 3: fewer than 512 records, a store under the budget, or point's buffer under the axes. But for start, the budget and the axes are those
+ * that the job record holds, whatever they are: an area that was never started may answer 3 as well as 4. */
+#define WIHUPYA_TOO_SHORT 3
+#define WIHUPYA_NOT_SOUND 4            /* the work area is not sound: it was never started, or something else wrote it */
+#define WIHUPYA_NO_BLOCK_WANTED 5      /* point, deliver: all blocks are delivered, so promote */
+#define WIHUPYA_BLOCK_WANTED 6         /* promote: a block is not delivered yet */
+#define WIHUPYA_WRONG_COUNT 7          /* deliver: the block has another number of readings */
+#define WIHUPYA_READING_OUT_OF_RANGE 8 /* deliver: a reading is below -1,048,576 or above 1,048,576 */
+#define WIHUPYA_NO_SUCH_POINT 9        /* point: n is not below the number of the block's points */
+
+/* Outcomes of wihupya_promote. */
+#define WIHUPYA_MET 0      /* the pending error is at most the threshold: the job is done */
+#define WIHUPYA_SPENT 1    /* the next refinement would take more readings than the budget, or more than 512 indices */
+#define WIHUPYA_PROMOTED 2 /* refined; wihupya_point tells whether a block is wanted now */
+
+/* The words of a job record. A 64-bit number takes two words, the low one first: see wihupya_unsigned_at. */
+#define WIHUPYA_JOB_THRESHOLD 0 /* 64 bits */
+#define WIHUPYA_JOB_PENDING 2   /* 64 bits: the pending error */
+#define WIHUPYA_JOB_MEAN 4      /* 64 bits, signed: the scaled mean */
+#define WIHUPYA_JOB_AXES 6
+#define WIHUPYA_JOB_BUDGET 7
+#define WIHUPYA_JOB_HELD 8     /* the number of indices */
+#define WIHUPYA_JOB_RESERVED 9 /* the readings that their blocks take together */
+
+/* The words that wihupya_result writes. */
+#define WIHUPYA_COUNT_PENDING 0  /* 64 bits: the pending error, the sum of the active indices' indicators */
+#define WIHUPYA_COUNT_MEAN 2     /* 64 bits, signed: the scaled mean */
+#define WIHUPYA_COUNT_OLD 4      /* indices that are refined */
+#define WIHUPYA_COUNT_ACTIVE 5   /* indices that are delivered and not refined */
+#define WIHUPYA_COUNT_WANTED 6   /* indices whose block is not delivered */
+#define WIHUPYA_COUNT_RESERVED 7 /* the readings that all their blocks take together */
+#define WIHUPYA_COUNT_CEILING 8  /* how often refining would have passed level 8 or excess 12 */
+
+/*
+ * The cells of an index record, for callers who want to look into the grid. The record of place p begins at cell
+ * p * WIHUPYA_RECORD_CELLS. Axis a, from 1, has cell a - 1 of the eight that belong to levels and to each kind of link.
+ */
+#define WIHUPYA_CELL_LEVELS 0    /* 8 cells: the levels; 1 beyond the job's axes */
+#define WIHUPYA_CELL_STATE 8     /* WIHUPYA_WANTED, WIHUPYA_ACTIVE or WIHUPYA_OLD */
+#define WIHUPYA_CELL_INDICATOR 9 /* the indicator that came with the block; 0 while it is wanted */
+#define WIHUPYA_CELL_FIRST 10    /* where the block's readings begin in the store */
+#define WIHUPYA_CELL_FORWARD 11  /* 8 cells: the place of the index with this axis' level one higher, or WIHUPYA_NONE */
+#define WIHUPYA_CELL_BACKWARD 19 /* 8 cells: the place of the index with this axis' level one lower, or WIHUPYA_NONE */
+
+#define WIHUPYA_WANTED 0
+#define WIHUPYA_ACTIVE 1
+#define WIHUPYA_OLD 2
+#define WIHUPYA_NONE 4294967295u
+
+/*
+ * Starts a job: its first block, the single centre point, is wanted. What the work area held before does not matter. Writes the
+ * job record and the first record.
+ *
+ *   axes       the number of varying dimensions, 1 to 8
+ *   threshold  the pending error, in the unit of your indicators, at which the job is done; any number
+ *   budget     the most readings that the job may ask for, 1 to 8,192
+ *
+ * Refused with 1, 2 or 3.
+ */
+uint32_t wihupya_start(uint32_t job[WIHUPYA_JOB_WORDS], uint32_t axes, uint64_t threshold, uint32_t budget, uint32_t *cells,
+                       size_t words, const int32_t *store, size_t readings);
+
+/*
+ * Tells a point to measure: point n, from 0, of the first block that is wanted. Writes its positions, one byte for each axis of
+ * the job, axis 1 first, to the front of the buffer, and no other byte. Position p stands for lower + p / 128 * (upper - lower) of the
+ * dimension's limits: 0 for the lower one, 128 for the upper one. The mean weighs all values between the limits alike.
+ *
+ *   n       the number of the point in its block; readings are delivered in this order
+ *   buffer  at least as many bytes as the job has axes (8 suffice for every job); `bytes` is its length
+ *
+ * Refused with 3, 4, 5 or 9.
+ */
+uint32_t wihupya_point(const uint32_t job[WIHUPYA_JOB_WORDS], size_t n, const uint32_t *cells, size_t words, const int32_t *store,
+                       size_t readings, uint8_t *buffer, size_t bytes);
+
+/*
+ * Delivers the first block that is wanted: stores its readings, adds the indicator to the pending error and the block's difference
+ * to the mean.
+ *
+ *   block      the readings at points 0, 1, 2, ...; `count` is their number
+ *   indicator  how much the block promises to matter, in any unit of yours; any number. The job refines where it is largest
+ *
+ * Refused with 3, 4, 5, 7 or 8.
+ */
+uint32_t wihupya_deliver(uint32_t job[WIHUPYA_JOB_WORDS], const int32_t *block, size_t count, uint32_t indicator, uint32_t *cells,
+                         size_t words, int32_t *store, size_t readings);
+
+/*
+ * Promotes: if the pending error is above the threshold, refines the active index of largest indicator. Does not write the store.
+ *
+ *   outcome  becomes WIHUPYA_MET, WIHUPYA_SPENT (both leave the work area as it was) or WIHUPYA_PROMOTED
+ *
+ * Refused with 3, 4 or 6; outcome is then left as it was.
+ */
+uint32_t wihupya_promote(uint32_t job[WIHUPYA_JOB_WORDS], uint32_t outcome[WIHUPYA_OUTCOME_WORDS], uint32_t *cells, size_t words,
+                         const int32_t *store, size_t readings);
+
+/*
+ * Gives the counts of the job, its pending error and its scaled mean as they are recorded. Can be called at any time.
+ *
+ *   counts  becomes the nine words WIHUPYA_COUNT_...
+ *
+ * Refused with 3 or 4; counts is then left as it was.
+ */
+uint32_t wihupya_result(const uint32_t job[WIHUPYA_JOB_WORDS], uint32_t counts[WIHUPYA_COUNT_WORDS], const uint32_t *cells,
+                        size_t words, const int32_t *store, size_t readings);
+
+/*
+ * Works the scaled mean out anew, from the readings in the store and by another formula. In a work area that only calls have
+ * written it is the mean of wihupya_result.
+ *
+ *   total  becomes the signed 64-bit number, its low word first: wihupya_signed_at(total, 0)
+ *
+ * Refused with 3 or 4; total is then left as it was.
+ */
+uint32_t wihupya_cross_total(const uint32_t job[WIHUPYA_JOB_WORDS], uint32_t total[WIHUPYA_TOTAL_WORDS], const uint32_t *cells,
+                             size_t words, const int32_t *store, size_t readings);
+
+/*
+ * Whether the work area is sound and what was lent is long enough, so that no call but start would be refused with 4, or with 3 but for
+ * point's buffer. (Start has a budget of its own, for which the store may be too short.) True after every start that was accepted; worth asking after an area came from a file or from elsewhere.
+ */
+bool wihupya_check(const uint32_t job[WIHUPYA_JOB_WORDS], const uint32_t *cells, size_t words, const int32_t *store,
+                   size_t readings);
+
+/* The 64-bit number whose low word stands at `at`, its high word after it: wihupya_unsigned_at(counts, WIHUPYA_COUNT_PENDING). */
+static inline uint64_t wihupya_unsigned_at(const uint32_t *words, size_t at)
+{
+    return (uint64_t)words[at] | (uint64_t)words[at + 1] << 32;
+}
+
+/* The same for a signed number: wihupya_signed_at(counts, WIHUPYA_COUNT_MEAN). */
+static inline int64_t wihupya_signed_at(const uint32_t *words, size_t at)
+{
+    uint64_t bits = wihupya_unsigned_at(words, at);
+    return bits <= (uint64_t)INT64_MAX ? (int64_t)bits : -1 - (int64_t)(UINT64_MAX - bits);
+}
+
+#ifdef __cplusplus
+}
+#endif
+
+#endif
