@@ -1,0 +1,54 @@
+-- `records::flat_deliver` meets its contract: the first cells hold the first records. Assumes nothing.
+use borrow.Author.Needs.{needs}
+use mathlib.Core.Path.{_≡_, ap, _∙_}
+use denote.Ref.{now}
+use lib.ListN.{length}
+use Rattle.area.specs.Records.{Run}
+use Rattle.calls.specs.Replies.{replyOf}
+use Rattle.calls.specs.Calls.{deliverCall}
+use Rattle.records.proofs.Cuts.{room-for, cut-count, cut-run, cut-after}
+use Rattle.records.proofs.flat_deliver.Statement.{statement}
+use Rattle.records.proofs.flat_deliver.Tie as tie
+
+mul-words : tie.Need-mul-words
+mul-words c = search needs
+
+array-borrow-prefix-words : tie.Need-array-borrow-prefix-words
+array-borrow-prefix-words c =
+    let flat = c .before .before .args .flat in
+    let count : length (flat .words) ≡ 13824 = search needs in
+    room-for (flat .count) (flat .words) (c .before .before .pre) count
+
+slice-aggregate-deliver : tie.Need-slice-aggregate-deliver
+slice-aggregate-deliver c =
+    let flat = c .before .before .before .args .flat in
+    let count : length (flat .words) ≡ 13824 = search needs in
+    cut-count (flat .count) (flat .words) (c .before .before .before .pre) count
+
+deliver-requires : tie.Need-deliver-requires
+deliver-requires c κs = search needs
+
+same-length : tie.Need-same-length
+same-length c = search needs
+
+returns : tie.Need-returns
+returns c =
+    let s = c .before .before .before .before .before .before .before in
+    let r = c .before .before .deliver .result in
+    let flat = s .args .flat in
+    let count : length (flat .words) ≡ 13824 = search needs in
+    ap (λ (u : Run). record { reply = replyOf (r .answer); area = record { job = r .job; run = u; store = c .before .before .deliver .last .1 .1 .1 .1 .0 } })
+    (cut-after (flat .count) (flat .words) (s .pre) count (c .before .before .deliver .last .1 .1 .1 .0) (c .before .before .deliver .kept .1 .1 .1 .0))
+    ∙ c .before .before .deliver .ensures
+    ∙ ap (λ (u : Run). deliverCall (record { job = s .args .job; run = u; store = now (s .args .store) }) (now (s .args .readings)) (s .args .indicator)) (cut-run (flat .count) (flat .words) (s .pre) count)
+
+pub flat-deliver-spec : {M : Type 1} → statement M
+flat-deliver-spec =
+    tie.close
+    (tie.spec
+    mul-words
+    array-borrow-prefix-words
+    slice-aggregate-deliver
+    deliver-requires
+    same-length
+    returns)

@@ -1,0 +1,283 @@
+// The calls over a lent run of index record structs. Each spreads the records into cells, makes the call on the cells, and writes the
+// records back. A job holds at most 512 records, so no more are spread; a call never looks at the others or changes them.
+ghost use mathlib.Core.Path.{_≡_};
+ghost use Prim.Native.Nat.{_*_, _<_, _≤_};
+ghost use lib.ListN.{length, getD, set, take};
+ghost use Rattle.area.specs.Records.{recordsOf, runOf, blank};
+ghost use Rattle.soundness.specs.Clauses.{checked};
+ghost use Rattle.calls.specs.Replies.{replyOf, resultedOf, totalledOf};
+ghost use Rattle.calls.specs.Calls.{startCall, pointCall, deliverCall, promoteCall, resultCall, crossCall};
+ghost use Rattle.records.specs.Lent.{areaOn, calledOn, lesser, over, overRun, front};
+
+// As many records as a job can hold.
+const MOST: usize = 512;
+
+// Records as cells: so many of them, 27 words to a record, with room for 512.
+pub struct Flat {
+    pub count: usize,
+    pub words: [u32; 13824],
+}
+
+// What a call on cells leaves: its answer, and the cells.
+pub struct FlatCalled {
+    pub answer: calls::Answered,
+    pub words: [u32; 13824],
+}
+
+fn count(records: &[area::IndexRecord]) -> usize
+    ensures { λ r. ⌜ r ≡ length (now (records .entry)) ⌝ }
+{
+    records.len()
+}
+
+fn load(records: &[area::IndexRecord], place: usize) -> area::IndexRecord
+    requires { ⌜ place < length (now records) ⌝ }
+    ensures { λ r. ⌜ r ≡ getD (now (records .entry)) place blank ⌝ }
+{
+    records[place]
+}
+
+fn store(records: &mut [area::IndexRecord], place: usize, index: area::IndexRecord)
+    requires { ⌜ place < length (now records) ⌝ }
+    ensures { λ r. ⌜ now (records .exit) ≡ set (now (records .entry)) place index ⌝ }
+{
+    records[place] = index;
+}
+
+// The first n records, into the cells.
+fn spread(records: &[area::IndexRecord], n: usize, cells: &mut [u32])
+    requires { ⌜ (n ≤ length (now records)) × (n * 27 ≤ length (now cells)) ⌝ }
+    ensures { λ r. ⌜ runOf (now (cells .exit)) ≡ overRun n (now (records .entry)) (runOf (now (cells .entry))) ⌝ }
+{
+    let mut place = 0usize;
+    while place < n {
+        let index = load(records, place);
+        area::store(cells, place, index);
+        place += 1;
+    }
+}
+
+// The first n records of the cells, into the records.
+fn gather(records: &mut [area::IndexRecord], n: usize, cells: &[u32])
+    requires { ⌜ (n ≤ length (now records)) × (n * 27 ≤ length (now cells)) ⌝ }
+    ensures { λ r. ⌜ now (records .exit) ≡ over n (recordsOf (now (cells .entry))) (now (records .entry)) ⌝ }
+{
+    let mut place = 0usize;
+    while place < n {
+        let index = area::load(cells, place);
+        store(records, place, index);
+        place += 1;
+    }
+}
+
+fn capped(count: usize) -> usize
+    ensures { λ r. ⌜ r ≡ lesser count 512 ⌝ }
+{
+    if count < MOST { count } else { MOST }
+}
+
+fn no_words() -> [u32; 13824] {
+    [0u32; 13824]
+}
+
+// The records as cells, no more than a job can hold.
+fn flatten(records: &[area::IndexRecord]) -> Flat
+    ensures { λ r. ⌜ (r .count ≡ lesser (length (now (records .entry))) 512) × (front (r .count) (r .words) ≡ take (r .count) (now (records .entry))) ⌝ }
+{
+    let n = capped(count(records));
+    let mut words = no_words();
+    spread(records, n, &mut words);
+    Flat { count: n, words }
+}
+
+// The first n records of the words, into the records.
+fn put_back(records: &mut [area::IndexRecord], n: usize, words: [u32; 13824])
+    requires { ⌜ (n ≤ length (now records)) × (n ≤ 512) ⌝ }
+    ensures { λ r. ⌜ now (records .exit) ≡ over n (recordsOf words) (now (records .entry)) ⌝ }
+{
+    gather(records, n, &words);
+}
+
+// ---- the calls on records as cells
+
+fn flat_start(
+    job: area::JobRecord,
+    axes: u32,
+    threshold: u64,
+    budget: u32,
+    flat: Flat,
+    store: &[i32],
+) -> FlatCalled
+    requires { ⌜ flat .count ≤ 512 ⌝ }
+    ensures { λ r. ⌜ calledOn (r .answer) (front (flat .count) (r .words)) (now (store .entry)) ≡ startCall (areaOn job (front (flat .count) (flat .words)) (now (store .entry))) axes threshold budget ⌝ }
+{
+    let mut words = flat.words;
+    let answer = calls::start(
+        job,
+        axes,
+        threshold,
+        budget,
+        &mut words[..flat.count * 27],
+        store,
+    );
+    FlatCalled { answer, words }
+}
+
+fn flat_point(
+    job: area::JobRecord,
+    n: usize,
+    flat: Flat,
+    store: &[i32],
+    buffer: &mut [u8],
+) -> calls::Answer
+    requires { ⌜ flat .count ≤ 512 ⌝ }
+    ensures { λ r. ⌜ record { reply = replyOf r; buffer = now (buffer .exit) } ≡ pointCall (areaOn job (front (flat .count) (flat .words)) (now (store .entry))) n (now (buffer .entry)) ⌝ }
+{
+    let words = flat.words;
+    calls::point(job, n, &words[..flat.count * 27], store, buffer)
+}
+
+fn flat_deliver(
+    job: area::JobRecord,
+    readings: &[i32],
+    indicator: u32,
+    flat: Flat,
+    store: &mut [i32],
+) -> FlatCalled
+    requires { ⌜ flat .count ≤ 512 ⌝ }
+    ensures { λ r. ⌜ calledOn (r .answer) (front (flat .count) (r .words)) (now (store .exit)) ≡ deliverCall (areaOn job (front (flat .count) (flat .words)) (now (store .entry))) (now (readings .entry)) indicator ⌝ }
+{
+    let mut words = flat.words;
+    let answer = calls::deliver(
+        job,
+        readings,
+        indicator,
+        &mut words[..flat.count * 27],
+        store,
+    );
+    FlatCalled { answer, words }
+}
+
+fn flat_promote(job: area::JobRecord, flat: Flat, store: &[i32]) -> FlatCalled
+    requires { ⌜ flat .count ≤ 512 ⌝ }
+    ensures { λ r. ⌜ calledOn (r .answer) (front (flat .count) (r .words)) (now (store .entry)) ≡ promoteCall (areaOn job (front (flat .count) (flat .words)) (now (store .entry))) ⌝ }
+{
+    let mut words = flat.words;
+    let answer = calls::promote(job, &mut words[..flat.count * 27], store);
+    FlatCalled { answer, words }
+}
+
+fn flat_result(job: area::JobRecord, flat: Flat, store: &[i32]) -> calls::Resulted
+    requires { ⌜ flat .count ≤ 512 ⌝ }
+    ensures { λ r. ⌜ resultedOf r ≡ resultCall (areaOn job (front (flat .count) (flat .words)) (now (store .entry))) ⌝ }
+{
+    let words = flat.words;
+    calls::result(job, &words[..flat.count * 27], store)
+}
+
+fn flat_cross_total(job: area::JobRecord, flat: Flat, store: &[i32]) -> calls::Totalled
+    requires { ⌜ flat .count ≤ 512 ⌝ }
+    ensures { λ r. ⌜ totalledOf r ≡ crossCall (areaOn job (front (flat .count) (flat .words)) (now (store .entry))) ⌝ }
+{
+    let words = flat.words;
+    calls::cross_total(job, &words[..flat.count * 27], store)
+}
+
+fn flat_check(job: area::JobRecord, flat: Flat, store: &[i32]) -> bool
+    requires { ⌜ flat .count ≤ 512 ⌝ }
+    ensures { λ r. ⌜ r ≡ checked (areaOn job (front (flat .count) (flat .words)) (now (store .entry))) ⌝ }
+{
+    let words = flat.words;
+    checking::check(job, &words[..flat.count * 27], store)
+}
+
+// ---- the calls
+
+// Starts a job. The old job record is taken only to hand it back on refusal.
+pub fn start(
+    job: area::JobRecord,
+    axes: u32,
+    threshold: u64,
+    budget: u32,
+    records: &mut [area::IndexRecord],
+    store: &[i32],
+) -> calls::Answered
+    ensures { λ r. ⌜ calledOn r (now (records .exit)) (now (store .entry)) ≡ startCall (areaOn job (now (records .entry)) (now (store .entry))) axes threshold budget ⌝ }
+{
+    let flat = flatten(records);
+    let done = flat_start(job, axes, threshold, budget, flat, store);
+    put_back(records, flat.count, done.words);
+    done.answer
+}
+
+// Writes the positions of the n-th point of the first wanted block into the buffer, later bytes untouched.
+pub fn point(
+    job: area::JobRecord,
+    n: usize,
+    records: &[area::IndexRecord],
+    store: &[i32],
+    buffer: &mut [u8],
+) -> calls::Answer
+    ensures { λ r. ⌜ record { reply = replyOf r; buffer = now (buffer .exit) } ≡ pointCall (areaOn job (now (records .entry)) (now (store .entry))) n (now (buffer .entry)) ⌝ }
+{
+    let flat = flatten(records);
+    flat_point(job, n, flat, store, buffer)
+}
+
+// Delivers the first wanted block.
+pub fn deliver(
+    job: area::JobRecord,
+    readings: &[i32],
+    indicator: u32,
+    records: &mut [area::IndexRecord],
+    store: &mut [i32],
+) -> calls::Answered
+    ensures { λ r. ⌜ calledOn r (now (records .exit)) (now (store .exit)) ≡ deliverCall (areaOn job (now (records .entry)) (now (store .entry))) (now (readings .entry)) indicator ⌝ }
+{
+    let flat = flatten(records);
+    let done = flat_deliver(job, readings, indicator, flat, store);
+    put_back(records, flat.count, done.words);
+    done.answer
+}
+
+// Promotes: met, or the selected index refined, unless that is spent.
+pub fn promote(
+    job: area::JobRecord,
+    records: &mut [area::IndexRecord],
+    store: &[i32],
+) -> calls::Answered
+    ensures { λ r. ⌜ calledOn r (now (records .exit)) (now (store .entry)) ≡ promoteCall (areaOn job (now (records .entry)) (now (store .entry))) ⌝ }
+{
+    let flat = flatten(records);
+    let done = flat_promote(job, flat, store);
+    put_back(records, flat.count, done.words);
+    done.answer
+}
+
+// The counts of the area.
+pub fn result(job: area::JobRecord, records: &[area::IndexRecord], store: &[i32]) -> calls::Resulted
+    ensures { λ r. ⌜ resultedOf r ≡ resultCall (areaOn job (now (records .entry)) (now (store .entry))) ⌝ }
+{
+    let flat = flatten(records);
+    flat_result(job, flat, store)
+}
+
+// The scaled mean worked out from the readings, whatever mean is recorded.
+pub fn cross_total(
+    job: area::JobRecord,
+    records: &[area::IndexRecord],
+    store: &[i32],
+) -> calls::Totalled
+    ensures { λ r. ⌜ totalledOf r ≡ crossCall (areaOn job (now (records .entry)) (now (store .entry))) ⌝ }
+{
+    let flat = flatten(records);
+    flat_cross_total(job, flat, store)
+}
+
+// Whether the area is sound and lies in storage that is long enough.
+pub fn check(job: area::JobRecord, records: &[area::IndexRecord], store: &[i32]) -> bool
+    ensures { λ r. ⌜ r ≡ checked (areaOn job (now (records .entry)) (now (store .entry))) ⌝ }
+{
+    let flat = flatten(records);
+    flat_check(job, flat, store)
+}
