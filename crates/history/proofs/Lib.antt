@@ -16,3 +16,6 @@ pub mod Answered
 pub mod Standing
 pub mod Published
 pub mod Moments
+pub mod Formed
+pub mod RecordCells
+pub mod Recorded

@@ -1,0 +1,131 @@
+-- What a call leaves of records that are formed: as many, formed, with the same cells past them.
+-- The idea: an accepted call leaves a settled area, whose held records are formed, and does not touch the others; a refused one leaves all.
+-- Assumes nothing.
+use mathlib.Core.Path.{_≡_, refl, ap, sym, _∙_, subst}
+use mathlib.Core.Logic.{_⊎_, inl, inr}
+use mathlib.Core.List.{List, _++_}
+use Prim.Native.Nat.{ℕ, _+_, _-_, _<_, _≤_}
+use native.Mathlib.Omega.{arith}
+use lib.IntN.{ℤ}
+use lib.ListN.{length, getD, take, drop, length-append, length-drop, List·getD-append}
+use lib.Seq.{getD-take, getD-drop, getD-append-add, length-take-le, take-all}
+use Rattle.area.specs.declared.IndexRecord.{IndexRecord}
+use Rattle.area.specs.Records.{blank}
+use Rattle.area.specs.Encoding.{Area, heldOf}
+use Rattle.quadrature.specs.Readings.{recordAt}
+use Rattle.encoding.specs.Encodes.{Formed}
+use Rattle.machine.specs.Areas.{promoteOn}
+use Rattle.machine.specs.Causes.{Lengths}
+use Rattle.writing.specs.Settled.{Settled}
+use Rattle.calls.specs.Replies.{accepted, promotion, lengthsOf, Called}
+use Rattle.calls.specs.Calls.{startCall, deliverCall, promoteCall}
+use Rattle.calls.specs.Facts.{PastUnchanged}
+use Rattle.calls.proofs.Facts.{call-facts}
+use Rattle.calls.proofs.Ways.{start-ways, deliver-ways, promote-ways}
+use Rattle.records.proofs.Orders.{less-or}
+use Rattle.history.specs.Calls.{Call, start, point, deliver, promote, result, crossTotal, check}
+use Rattle.history.specs.Storage.{callOn}
+
+-- ---- parts of formed records
+
+abbrev FormedAt : List IndexRecord → ℕ → Type 0
+FormedAt rs p = (length (recordAt rs p .levels) ≡ 8) × (length (recordAt rs p .links) ≡ 16)
+
+-- one record for another
+at-same : (r s : IndexRecord) → r ≡ s → (length (s .levels) ≡ 8) × (length (s .links) ≡ 16) → (length (r .levels) ≡ 8) × (length (r .links) ≡ 16)
+at-same r s e h = subst (λ (x : IndexRecord). (length (x .levels) ≡ 8) × (length (x .links) ≡ 16)) (sym e) h
+
+pub formed-take : (n : ℕ) (rs : List IndexRecord) → Formed rs → Formed (take n rs)
+formed-take n rs f = elim (less-or (length rs) n) [ inl h ↦ subst Formed (sym (take-all n rs (omega (arith, h)))) f | inr h ↦ front h ]
+  where
+    front : n ≤ length rs → Formed (take n rs)
+    front h p q =
+        let l : p < n = omega (arith, q, length-take-le n rs h) in
+        at-same (recordAt (take n rs) p) (recordAt rs p) (getD-take n rs p blank l) (f p (omega (arith, l, h)))
+
+pub formed-drop : (n : ℕ) (rs : List IndexRecord) → Formed rs → Formed (drop n rs)
+formed-drop n rs f p h = at-same (recordAt (drop n rs) p) (recordAt rs (n + p)) (getD-drop n rs p blank) (f (n + p) (omega (arith, h, length-drop n rs)))
+
+pub formed-append : (rs ss : List IndexRecord) → Formed rs → Formed ss → Formed (rs ++ ss)
+formed-append rs ss f g p h = elim (less-or p (length rs)) [ inl l ↦ first l | inr l ↦ second l ]
+  where
+    first : p < length rs → FormedAt (rs ++ ss) p
+    first l = at-same (recordAt (rs ++ ss) p) (recordAt rs p) (List·getD-append rs ss blank p l) (f p l)
+
+    second : length rs ≤ p → FormedAt (rs ++ ss) p
+    second l =
+        let e : length rs + (p - length rs) ≡ p = omega (arith, l) in
+        at-same (recordAt (rs ++ ss) p) (recordAt ss (p - length rs)) (ap (λ k. getD (rs ++ ss) k blank) (sym e) ∙ getD-append-add rs ss (p - length rs) blank)
+        (g (p - length rs) (omega (arith, h, l, length-append rs ss)))
+
+-- ---- what a call leaves
+
+pub record Leaves (a b : Area) : Type 0 where
+  pub formed : Formed (b .run .records)
+  pub rest : b .run .rest ≡ a .run .rest
+  pub lengths : lengthsOf b ≡ lengthsOf a
+
+-- the held records of a settled area, and the others as they were
+settled-formed : (a b : Area) → Formed (a .run .records) → Settled b → PastUnchanged a b → lengthsOf b ≡ lengthsOf a → Formed (b .run .records)
+settled-formed a b f s past e p h = elim (less-or p (b .job .held)) [ inl l ↦ front l | inr l ↦ behind l ]
+  where
+    front : p < b .job .held → FormedAt (b .run .records) p
+    front l =
+        at-same (recordAt (b .run .records) p) (recordAt (heldOf b) p) (sym (getD-take (b .job .held) (b .run .records) p blank l))
+        (s .formed p (omega (arith, l, length-take-le (b .job .held) (b .run .records) (s .sound .held-lent))))
+
+    behind : b .job .held ≤ p → FormedAt (b .run .records) p
+    behind l =
+        let n = b .job .held in
+        let k : n + (p - n) ≡ p = omega (arith, l) in
+        at-same (recordAt (b .run .records) p) (recordAt (a .run .records) p)
+        (ap (λ i. getD (b .run .records) i blank) (sym k)
+        ∙ sym (getD-drop n (b .run .records) (p - n) blank)
+        ∙ ap (λ (rs : List IndexRecord). getD rs (p - n) blank) (past .records)
+        ∙ getD-drop n (a .run .records) (p - n) blank
+        ∙ ap (λ i. getD (a .run .records) i blank) k)
+        (f p (omega (arith, h, ap (λ (z : Lengths). z .records) e)))
+
+module _ (a : Area) (f : Formed (a .run .records)) where
+  itself : Leaves a a
+  itself = record { formed = f; rest = refl; lengths = refl }
+
+  kept : (b : Area) → b ≡ a → Leaves a b
+  kept b e = subst (Leaves a) (sym e) itself
+
+  settles : (b : Area) → Settled b → PastUnchanged a b → lengthsOf b ≡ lengthsOf a → Leaves a b
+  settles b s past e = record { formed = settled-formed a b f s past e; rest = past .rest; lengths = e }
+
+  held-formed : Formed (heldOf a)
+  held-formed = formed-take (a .job .held) (a .run .records) f
+
+  start-leaves : (d t b : ℕ) → Leaves a (startCall a d t b .area)
+  start-leaves d t b =
+      elim (start-ways (λ (x : Called). (x .reply ≡ accepted) ⊎ (x .area ≡ a)) a d t b (λ none. inl refl) (λ some. inr refl)) [
+        | inl e ↦ settles (startCall a d t b .area) (call-facts .start-settles a d t b e) (call-facts .start-past a d t b) (call-facts .start-lengths a d t b)
+        | inr e ↦ kept (startCall a d t b .area) e
+      ]
+
+  deliver-leaves : (rs : List ℤ) (i : ℕ) → Leaves a (deliverCall a rs i .area)
+  deliver-leaves rs i =
+      elim (deliver-ways (λ (x : Called). (x .reply ≡ accepted) ⊎ (x .area ≡ a)) a rs i (λ none. inl refl) (λ some. inr refl)) [
+        | inl e ↦ settles (deliverCall a rs i .area) (call-facts .deliver-settles a rs i held-formed e) (call-facts .deliver-past a rs i) (call-facts .deliver-lengths a rs i held-formed)
+        | inr e ↦ kept (deliverCall a rs i .area) e
+      ]
+
+  promote-leaves : Leaves a (promoteCall a .area)
+  promote-leaves =
+      elim (promote-ways (λ (x : Called). (x .reply ≡ promotion (promoteOn a .outcome)) ⊎ (x .area ≡ a)) a (λ none. inl refl) (λ some. inr refl)) [
+        | inl e ↦ settles (promoteCall a .area) (call-facts .promote-settles a (promoteOn a .outcome) held-formed e) (call-facts .promote-past a) (call-facts .promote-lengths a held-formed)
+        | inr e ↦ kept (promoteCall a .area) e
+      ]
+
+  pub call-leaves : (c : Call) → Leaves a (callOn a c .area)
+  unfolding callOn
+  call-leaves (start d t b) = start-leaves d t b
+  call-leaves (point n buffer) = itself
+  call-leaves (deliver rs i) = deliver-leaves rs i
+  call-leaves promote = promote-leaves
+  call-leaves result = itself
+  call-leaves crossTotal = itself
+  call-leaves check = itself

@@ -1,0 +1,54 @@
+-- The third demand over lent records.
+-- The idea: what is found in the cells of the records is found in the records; the demand on cells is cited, not proved again.
+-- Assumes nothing.
+use mathlib.Core.Path.{_≡_, ap, sym, _∙_, subst}
+use mathlib.Core.List.{_∷_, map, List·Memᴰ}
+use native.Mathlib.Omega.{arith}
+use Rattle.area.specs.Records.{Run, cellsFor}
+use Rattle.area.specs.Encoding.{Area, areaOf, entriesOf}
+use Rattle.encoding.specs.Encodes.{Formed}
+use Rattle.machine.specs.Log.{Log}
+use Rattle.machine.specs.Steps.{startLog}
+use Rattle.soundness.specs.Clauses.{checked}
+use Rattle.calls.specs.Calls.{startCall, resultCall, crossCall}
+use Rattle.records.specs.Lent.{areaOn}
+use Rattle.history.specs.Logged.{logAfter}
+use Rattle.history.specs.Storage.{Storage}
+use Rattle.history.specs.Found.{Found, LinksAgree, Demand}
+use Rattle.history.specs.Recorded.{RecordStorage, inCells, callInCells, recordsAfter, RecordsFound, ThirdDemandOnRecords}
+use Rattle.history.proofs.Demand.{third-demand}
+use Rattle.history.proofs.RecordCells.{cells-run, inStorage, lent-cells, lent-area, all-lent, together}
+
+-- what is found in the cells of the records is found in the records
+module _ (w : RecordStorage) (l : Log) (f : Formed (w .records)) (found : Found (inStorage w) l) where
+  same-area : areaOf (w .job) (cellsFor (w .records)) (w .store) ≡ areaOn (w .job) (w .records) (w .store)
+  same-area = ap (λ (u : Run). record { job = w .job; run = u; store = w .store }) (cells-run (w .records) f)
+
+  in-records : RecordsFound w l
+  in-records =
+      record {
+        entries = ap entriesOf (sym same-area) ∙ found .entries;
+        idle = found .idle;
+        job = found .job;
+        sound = ap checked (sym same-area) ∙ found .sound;
+        neighbours = found .neighbours;
+        links = subst (LinksAgree (l .entries)) (ap (λ (u : Run). u .records) (cells-run (w .records) f)) (found .links);
+        result = λ x lent long room. ap resultCall (sym (lent-area w x f lent)) ∙ found .result (inCells x) (lent-cells w x f lent) (omega (arith, long)) room;
+        cross = λ x lent long room. ap crossCall (sym (lent-area w x f lent)) ∙ found .cross (inCells x) (lent-cells w x f lent) (omega (arith, long)) room;
+        mean = found .mean;
+      }
+
+pub third-demand-on-records : ThirdDemandOnRecords
+third-demand-on-records w first later d t b f lent is taken =
+    let both = together w (first ∷ later) f lent in
+    let demand : Demand (inStorage w) (callInCells first) (map callInCells later) d t b
+    = third-demand (inStorage w) (callInCells first) (map callInCells later) d t b (all-lent w (first ∷ later) f lent) is
+    (ap (λ (a : Area). startCall a d t b .reply) (lent-area w (first .part) f (lent .0)) ∙ taken) in
+    record {
+      answers = sym (both .answers) ∙ demand .answers;
+      never-unsound = λ y m. demand .never-unsound y (subst (List·Memᴰ y) (sym (both .answers)) m);
+      records = both .records;
+      store = both .store;
+      found = in-records (recordsAfter w (first ∷ later)) (logAfter (startLog d t b) (map callInCells later)) (both .formed)
+          (subst (λ (v : Storage). Found v (logAfter (startLog d t b) (map callInCells later))) (both .after) (demand .found));
+    }
