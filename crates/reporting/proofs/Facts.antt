@@ -1,6 +1,6 @@
 -- The laws of decimal numbers and of the texts, in one record.
 -- Assumes nothing.
-use mathlib.Core.Path.{_≡_, ap, _∙_}
+use mathlib.Core.Path.{_≡_, refl, ap, _∙_}
 use mathlib.Core.Bool.{cond}
 use mathlib.Core.List.{List, [], _∷_}
 use Prim.Native.Nat.{ℕ, suc, _^_, _<_, _≤_}
@@ -40,11 +40,16 @@ unfolding signedDecimal
 signed-value (pos n) h = unsigned (decimal n) (some n) (bytes n) ∙ ap pos (value n h)
 signed-value (negsuc n) h = unfold signedValue in ap (λ k. negℤ (pos k)) (value (suc n) h)
 
+no-sign : (n : ℕ) → signedDecimal (pos n) ≡ decimal n
+unfolding signedDecimal
+no-sign n = refl
+
 pub text-facts : TextFacts
 text-facts =
     record {
       value = value;
       signed-value = signed-value;
+      unsigned = no-sign;
       digits = bytes;
       some = some;
       no-leading-zero = lead;

@@ -2,7 +2,7 @@
 use mathlib.Core.Path.{_≡_}
 use mathlib.Core.List.{List}
 use Prim.Native.Nat.{ℕ, _^_, _<_, _≤_}
-use lib.IntN.{ℤ, natAbs}
+use lib.IntN.{ℤ, pos, natAbs}
 use lib.ListN.{length, getD}
 use Rattle.reporting.specs.Decimal.{decimal, signedDecimal, valueFrom, signedValue}
 use Rattle.reporting.specs.Text.{Figures, reportText, refusalText}
@@ -10,8 +10,10 @@ use Rattle.reporting.specs.Text.{Figures, reportText, refusalText}
 pub record TextFacts : Type 0 where
   -- a number below 10^20 is what its digits say
   pub value : (n : ℕ) → n < 10 ^ 20 → valueFrom 0 (decimal n) ≡ n
-  -- and with its sign too; a minus sign stands in front of a number below 0 only
+  -- and with its sign too
   pub signed-value : (z : ℤ) → natAbs z < 10 ^ 20 → signedValue (signedDecimal z) ≡ z
+  -- a minus sign stands in front of a number below 0 only
+  pub unsigned : (n : ℕ) → signedDecimal (pos n) ≡ decimal n
   -- every byte is a digit's
   pub digits : (n i : ℕ) → i < length (decimal n) → (48 ≤ getD (decimal n) i 0) × (getD (decimal n) i 0 ≤ 57)
   -- there is one at least, and the first is no 0 unless the number is
