@@ -6,11 +6,15 @@ CARGO = cargo
 REFERENCE = --release --offline --quiet --manifest-path reference/Cargo.toml
 COMPARISON = --release --offline --quiet --manifest-path comparison/Cargo.toml
 HARNESS = --release --offline --quiet --manifest-path harness/Cargo.toml
+BENCH = --release --offline --quiet --manifest-path bench/Cargo.toml
+BINDINGS = --release --offline --quiet --manifest-path bindings/Cargo.toml
+PUMP_IN_RUST = --release --offline --quiet --manifest-path examples/pump-in-rust/Cargo.toml
+C = $(CC) -std=c99 -Wall -Wextra -Werror -O2 -I include
 
 # What `make compare` and `make soak` run over; both can be set on the command line.
 SEED = 1
 
-.PHONY: run program tools test proofs reference-test reference-runs compared exported harness-test altered listed programs-compared compare soak pack clean
+.PHONY: run program tools test proofs reference-test reference-runs compared exported harness-test altered listed callers baseline-test programs-compared compare soak bench pack clean
 
 # The main job on an example, with its report.
 run: program
@@ -24,7 +28,7 @@ tools:
 	@$(CARGO) build $(REFERENCE)
 
 # Every test. The proofs come first, since the other tests run what they build; their verdict, the last line of `rt ci`, is said again at the end.
-test: proofs reference-test reference-runs compared harness-test altered listed programs-compared
+test: proofs reference-test reference-runs compared harness-test altered listed callers baseline-test programs-compared
 	@tail -n 1 .verdict
 
 proofs:
@@ -60,6 +64,19 @@ altered: exported
 listed: exported
 	@$(CARGO) run $(HARNESS) --bin listed -- 1 20000
 
+# The callers' side: the tests of the bindings and of the header, in C and as C++ where there is a compiler for it; then a job run by calls
+# in C and in Rust, whose report is that of the same job as a file.
+callers: exported
+	@$(CARGO) test $(BINDINGS)
+	@$(C) -pedantic -o bindings/tests/header bindings/tests/header.c target/staticlib/libabi.a
+	@bindings/tests/header
+	@if command -v $(CXX) > /dev/null; then $(CXX) -std=c++11 -Wall -Wextra -Werror -I include -fsyntax-only -x c++ bindings/tests/header.c; fi
+	@$(C) -o examples/pump-in-c/pump examples/pump-in-c/pump.c target/staticlib/libabi.a
+	@examples/pump-in-c/pump | diff examples/four-axis-pump.report -
+	@$(CARGO) run $(PUMP_IN_RUST) | diff examples/four-axis-pump.report -
+	@$(CARGO) test $(PUMP_IN_RUST)
+	@echo "callers: the pump in C and the pump in Rust print the report of examples/four-axis-pump.job"
+
 # The proved program against the reference's on generated job files, every byte that they print; about half a minute.
 programs-compared: program tools
 	@reference/target/release/compare target/bin/integrator 1 2000
@@ -75,9 +92,20 @@ soak: exported
 	@$(CARGO) run $(HARNESS) --bin altered -- $(SEED) $(COUNT)
 	@$(CARGO) run $(HARNESS) --bin listed -- $(SEED) $(COUNT)
 
+# The integrator in idiomatic Rust, beside which the speed is measured, against the reference; some twenty seconds.
+baseline-test: exported
+	@$(CARGO) test $(BENCH)
+
+# The proved library and program beside the same integrator in idiomatic Rust: ratios of times, then counts of instructions. No test.
+bench: baseline-test program
+	@$(CARGO) build $(BENCH)
+	@bench/target/release/measure target/bin/integrator
+	@bench/target/release/measure instructions target/bin/integrator
+
 # Writes the named and generated job files of the crate `vectors` anew, and what they must print.
 pack: tools
 	@reference/target/release/pack crates/vectors
 
 clean:
-	rm -rf target .verdict reference/target comparison/target harness/target
+	rm -rf target .verdict reference/target comparison/target harness/target bench/target bindings/target examples/pump-in-rust/target
+	rm -f bindings/tests/header examples/pump-in-c/pump
