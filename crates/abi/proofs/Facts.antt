@@ -31,14 +31,12 @@ high-of : (a b : ℕ) → a < 2 ^ 32 → highWord (a + b * 2 ^ 32) ≡ b
 unfolding highWord
 high-of a b h = omega arith
 
-job-again : (j : JobRecord) → j .threshold < 2 ^ 64 → j .pending < 2 ^ 64 → SFits w64 (j .mean) → jobOf (wordsOf j) ≡ j
+job-again : (j : JobRecord) → j .settings .threshold < 2 ^ 64 → j .pending < 2 ^ 64 → SFits w64 (j .mean) → jobOf (wordsOf j) ≡ j
 unfolding jobOf wordsOf
 job-again j h k f =
     λ i.
     record {
-      axes = j .axes;
-      threshold = both (j .threshold) i;
-      budget = j .budget;
+      settings = record { axes = j .settings .axes; threshold = both (j .settings .threshold) i; budget = j .settings .budget };
       held = j .held;
       reserved = j .reserved;
       pending = both (j .pending) i;
@@ -46,7 +44,7 @@ job-again j h k f =
     }
 
 -- in a sound area pending error and mean have room in 64 bits
-sound-again : (a : Area) → Sound a → a .job .threshold < 2 ^ 64 → ((p : ℕ) → p < length (heldOf a) → recordAt (heldOf a) p .indicator < 2 ^ 32)
+sound-again : (a : Area) → Sound a → a .job .settings .threshold < 2 ^ 64 → ((p : ℕ) → p < length (heldOf a) → recordAt (heldOf a) p .indicator < 2 ^ 32)
     → jobOf (wordsOf (a .job)) ≡ a .job
 sound-again a s h k =
     job-again (a .job) h (omega (arith, range-facts .pending a s k)) (record { sfits = omega (arith, mag-le (a .job .mean), range-facts .mean a s) })

@@ -19,9 +19,7 @@ wide w i = word w i + word w (i + 1) * 2 ^ 32
 unfoldable pub jobOf : List ℕ → JobRecord
 jobOf w =
     record {
-      axes = word w 6;
-      threshold = wide w 0;
-      budget = word w 7;
+      settings = record { axes = word w 6; threshold = wide w 0; budget = word w 7 };
       held = word w 8;
       reserved = word w 9;
       pending = wide w 2;
@@ -37,14 +35,14 @@ highWord x = x / 2 ^ 32
 
 unfoldable pub wordsOf : JobRecord → List ℕ
 wordsOf j =
-    lowWord (j .threshold)
-    ∷ highWord (j .threshold)
+    lowWord (j .settings .threshold)
+    ∷ highWord (j .settings .threshold)
     ∷ lowWord (j .pending)
     ∷ highWord (j .pending)
     ∷ lowWord (ofZ w64 (j .mean))
     ∷ highWord (ofZ w64 (j .mean))
-    ∷ j .axes
-    ∷ j .budget
+    ∷ j .settings .axes
+    ∷ j .settings .budget
     ∷ j .held
     ∷ j .reserved
     ∷ []

@@ -6,6 +6,7 @@ ghost use mathlib.Core.List.{[]};
 ghost use Prim.Native.Nat.{_+_, _*_, _^_};
 ghost use mir.Syntax.{w64};
 ghost use mir.Val.{toZ, ofZ};
+ghost use Rattle.area.specs.Settings.{settingsOf};
 ghost use Rattle.area.specs.Encoding.{areaOf};
 ghost use Rattle.soundness.specs.Clauses.{checked};
 ghost use Rattle.area.specs.Records.{runOf};
@@ -39,9 +40,11 @@ fn job_of(words: &[u32; 10]) -> area::JobRecord
     ensures { λ r. ⌜ r ≡ jobOf (now (words .entry)) ⌝ }
 {
     area::JobRecord {
-        axes: words[6],
-        threshold: wide(words[0], words[1]),
-        budget: words[7],
+        settings: area::Settings {
+            axes: words[6],
+            threshold: wide(words[0], words[1]),
+            budget: words[7],
+        },
         held: words[8],
         reserved: words[9],
         pending: wide(words[2], words[3]),
@@ -80,14 +83,14 @@ fn words_of(job: area::JobRecord) -> [u32; 10]
 {
     let mean = bits_of(job.mean);
     let mut words = [0u32; 10];
-    words[0] = low_word(job.threshold);
-    words[1] = high_word(job.threshold);
+    words[0] = low_word(job.settings.threshold);
+    words[1] = high_word(job.settings.threshold);
     words[2] = low_word(job.pending);
     words[3] = high_word(job.pending);
     words[4] = low_word(mean);
     words[5] = high_word(mean);
-    words[6] = job.axes;
-    words[7] = job.budget;
+    words[6] = job.settings.axes;
+    words[7] = job.settings.budget;
     words[8] = job.held;
     words[9] = job.reserved;
     words
@@ -166,9 +169,14 @@ pub extern "C" fn wihupya_start(
     cells: &mut [u32],
     store: &[i32],
 ) -> u32
-    ensures { λ r. ⌜ record { number = r; job = now (job .exit); run = runOf (now (cells .exit)); store = now (store .entry) } ≡ exported (startCall (areaOf (jobOf (now (job .entry))) (now (cells .entry)) (now (store .entry))) axes threshold budget) ⌝ }
+    ensures { λ r. ⌜ record { number = r; job = now (job .exit); run = runOf (now (cells .exit)); store = now (store .entry) } ≡ exported (startCall (areaOf (jobOf (now (job .entry))) (now (cells .entry)) (now (store .entry))) (settingsOf axes threshold budget)) ⌝ }
 {
-    let answered = calls::start(job_of(job), axes, threshold, budget, cells, store);
+    let settings = area::Settings {
+        axes,
+        threshold,
+        budget,
+    };
+    let answered = calls::start(job_of(job), settings, cells, store);
     let after = answered.job;
     let answer = answered.answer;
     *job = words_of(after);

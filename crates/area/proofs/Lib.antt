@@ -1,4 +1,5 @@
 -- The laws, lowest first.
+pub mod Readings
 pub mod Slices
 pub mod Records
 pub mod Cells

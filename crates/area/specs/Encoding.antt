@@ -1,4 +1,4 @@
--- How an area encodes a list of entries. The *area* is the job record, the index records and the reading store.
+-- How an area encodes the machine's state. The *area* is the job record, the index records and the reading store.
 use mathlib.Core.Bool.{cond}
 use mathlib.Core.List.{List, [], _∷_, _++_, map}
 use Prim.Native.Nat.{ℕ, _+_}
@@ -7,12 +7,14 @@ use lib.IntN.{ℤ}
 use lib.ListN.{length, take, drop}
 use Rattle.sums.specs.Lists.{tab}
 use Rattle.grid.specs.Index.{forward, backward}
-use Rattle.grid.specs.Block.{blockSize}
 use Rattle.grid.specs.Coefficient.{sameLevels}
 use Rattle.area.specs.declared.IndexRecord.{IndexRecord}
 use Rattle.area.specs.declared.JobRecord.{JobRecord}
+use Rattle.area.specs.declared.Settings.{Settings}
+use Rattle.area.specs.Settings.{readingCount}
 use Rattle.area.specs.Records.{Run, runOf}
 use Rattle.area.specs.Entry.{Entry, indicesOf, reservedBy, pendingOf}
+use Rattle.area.specs.Log.{Log, Machine}
 
 pub record Area : Type 0 where
   pub job : JobRecord
@@ -29,17 +31,22 @@ heldOf a = take (a .job .held) (a .run .records)
 -- ---- reading an area
 
 -- What a record says, with its readings, which lie in the store from its first reading on once its block is delivered.
-unfoldable pub entryOf : List ℤ → IndexRecord → Entry
-entryOf s r =
+unfoldable pub entryOf : Settings → List ℤ → IndexRecord → Entry
+entryOf g s r =
     record {
       levels = r .levels;
       state = r .state;
       indicator = r .indicator;
-      readings = cond (leb 1 (r .state)) (take (blockSize (r .levels)) (drop (r .first) s)) [];
+      readings = cond (leb 1 (r .state)) (take (readingCount g (r .levels)) (drop (r .first) s)) [];
     }
 
 unfoldable pub entriesOf : Area → List Entry
-entriesOf a = map (entryOf (a .store)) (heldOf a)
+entriesOf a = map (entryOf (a .job .settings) (a .store)) (heldOf a)
+
+-- What an area says, in the form of the machine's state. The log of a list of calls is worked from the calls' arguments and not from
+-- here.
+unfoldable pub machineOf : Area → Machine
+machineOf a = record { log = record { settings = a .job .settings; entries = entriesOf a }; mean = a .job .mean }
 
 -- ---- writing entries into an area
 
@@ -64,27 +71,37 @@ linksOf ls k = tab 8 (λ a. placeOf ls (forward k a)) ++ tab 8 (λ a. placeOf ls
 unfoldable pub encoded : List (List ℕ) → ℕ → Entry → IndexRecord
 encoded ls f e = record { levels = e .levels; state = e .state; indicator = e .indicator; first = f; links = linksOf ls (e .levels) }
 
--- First readings are the running sum of block sizes.
-unfoldable pub encodedFrom : List (List ℕ) → ℕ → List Entry → List IndexRecord
-encodedFrom ls f [] = []
-encodedFrom ls f (e ∷ es) = encoded ls f e ∷ encodedFrom ls (f + blockSize (e .levels)) es
+-- First readings are the running sum of the blocks' readings.
+unfoldable pub encodedFrom : Settings → List (List ℕ) → ℕ → List Entry → List IndexRecord
+encodedFrom g ls f [] = []
+encodedFrom g ls f (e ∷ es) = encoded ls f e ∷ encodedFrom g ls (f + readingCount g (e .levels)) es
 
-unfoldable pub recordsFor : List Entry → List IndexRecord
-recordsFor es = encodedFrom (indicesOf es) 0 es
+unfoldable pub recordsFor : Settings → List Entry → List IndexRecord
+recordsFor g es = encodedFrom g (indicesOf es) 0 es
 
 -- The readings of all entries, one block after the other.
 unfoldable pub storeFor : List Entry → List ℤ
 storeFor [] = []
 storeFor (e ∷ es) = e .readings ++ storeFor es
 
--- The records and readings of the entries from the start on; what lies past them stays as it was.
-unfoldable pub runWith : Run → List Entry → Run
-runWith u es = record { records = recordsFor es ++ drop (length es) (u .records); rest = u .rest }
+-- The records and readings of the log from the start on; what lies past them stays as it was.
+unfoldable pub runWith : Run → Log → Run
+runWith u l = record { records = recordsFor (l .settings) (l .entries) ++ drop (length (l .entries)) (u .records); rest = u .rest }
 
 unfoldable pub storeWith : List ℤ → List Entry → List ℤ
 storeWith s es = storeFor es ++ drop (length (storeFor es)) s
 
--- The job record of a list of entries.
-unfoldable pub jobWith : (axes threshold budget : ℕ) → List Entry → ℤ → JobRecord
-jobWith d t b es m =
-    record { axes = d; threshold = t; budget = b; held = length es; reserved = reservedBy es; pending = pendingOf es; mean = m }
+-- The job record of a state.
+unfoldable pub jobWith : Machine → JobRecord
+jobWith m =
+    record {
+      settings = m .log .settings;
+      held = length (m .log .entries);
+      reserved = reservedBy (m .log .entries);
+      pending = pendingOf (m .log .entries);
+      mean = m .mean;
+    }
+
+-- The area with a state written into it; what lies past its records and readings stays as it was.
+unfoldable pub written : Area → Machine → Area
+written a m = record { job = jobWith m; run = runWith (a .run) (m .log); store = storeWith (a .store) (m .log .entries) }

@@ -1,11 +1,13 @@
-// Storage: the job record by value, and index records in one lent slice of cells, 27 words to a record. Only the functions of
-// this file touch a cell; their contracts speak of the records that the cells hold.
+// Storage: what a job is started with and how many readings its points have; the job record by value, and index records in one lent
+// slice of cells, 27 words to a record. Only the functions of this file touch a cell; their contracts speak of the records that the
+// cells hold.
 ghost use mathlib.Core.Path.{_≡_};
 ghost use Prim.Native.Nat.{_+_, _*_, _<_, _≤_};
 ghost use lib.ListN.{length, getD, take, drop};
 ghost use lib.Seq.{sets};
-ghost use Rattle.grid.specs.Index.{level};
+ghost use Rattle.grid.specs.Index.{level, Within};
 ghost use Rattle.grid.specs.Coefficient.{sameLevels};
+ghost use Rattle.area.specs.Settings.{readingsFor, readingCount, leastStore};
 ghost use Rattle.area.specs.Records.{recordsOf, runOf, stored, blank, heldIn};
 ghost use Rattle.area.specs.Lookup.{foundIn};
 
@@ -18,10 +20,15 @@ pub const ACTIVE: u32 = 1;
 
 pub const OLD: u32 = 2;
 
-pub struct JobRecord {
+// What a job is started with.
+pub struct Settings {
     pub axes: u32,
     pub threshold: u64,
     pub budget: u32,
+}
+
+pub struct JobRecord {
+    pub settings: Settings,
     pub held: u32,
     pub reserved: u32,
     pub pending: u64,
@@ -41,6 +48,28 @@ pub struct IndexRecord {
 pub enum Found {
     At(usize),
     Nothing,
+}
+
+// How many readings so many points have.
+pub fn readings_for(settings: Settings, points: usize) -> usize
+    ensures { λ r. ⌜ r ≡ readingsFor settings points ⌝ }
+{
+    points
+}
+
+// How many readings an index's block has.
+pub fn reading_count(settings: Settings, levels: [u32; 8]) -> usize
+    requires { ⌜ Within levels ⌝ }
+    ensures { λ r. ⌜ r ≡ readingCount settings levels ⌝ }
+{
+    readings_for(settings, grid::block_size(levels))
+}
+
+// The fewest readings that a reading store may have.
+pub fn least_store(settings: Settings) -> usize
+    ensures { λ r. ⌜ r ≡ leastStore settings ⌝ }
+{
+    readings_for(settings, settings.budget as usize)
 }
 
 // Eight cells in a row.

@@ -10,9 +10,13 @@ use borrow.Author.Tests.{not-false, eqb-true, ltb-true, ltb-false, leb-true, leb
 use lib.Dec.{leb, ltb, eqb}
 use lib.IntN.{ℤ}
 use lib.ListN.{length}
+use Rattle.area.specs.declared.Settings.{Settings}
+use Rattle.soundness.proofs.Settings.{reads-axes, reads-budget}
+use Rattle.area.specs.Settings.{SettingsFit, axesFit, budgetFit, readingCount, leastStore}
 use Rattle.grid.specs.Block.{blockSize}
 use Rattle.soundness.proofs.Exactly.{reads-and, reads-le}
-use Rattle.machine.specs.Log.{Log, firstWanted, anyWanted, wantedIndex}
+use Rattle.area.specs.Log.{Log}
+use Rattle.machine.specs.Log.{firstWanted, anyWanted, wantedIndex}
 use Rattle.machine.specs.Causes.{Cause, Lengths, cause, firstCause, short, inRange, startCauses, pointCauses, deliverCauses, promoteCauses, resultCauses}
 
 -- no test of the list refuses
@@ -25,30 +29,28 @@ unfolding firstCause
 missed true n cs e = absurd (omega (arith, e))
 missed false n cs e = record { here = refl; later = e }
 
-both : (m n b : ℕ) → not (leb m n && leb n b) ≡ false → (m ≤ n) × (n ≤ b)
-both m n b e = reads-and _ _ (reads-le m n) (reads-le n b) .sure (not-false (leb m n && leb n b) e)
-
-pub record Startable (z : Lengths) (d b : ℕ) : Type 0 where
-  pub axes : (1 ≤ d) × (d ≤ 8)
-  pub budget : (1 ≤ b) × (b ≤ 8192)
+pub record Startable (z : Lengths) (g : Settings) : Type 0 where
+  pub settings : SettingsFit g
   pub records : 512 ≤ z .records
-  pub readings : b ≤ z .readings
+  pub readings : leastStore g ≤ z .readings
 
-pub startable : (z : Lengths) (d b : ℕ) → firstCause (startCauses z d b) ≡ 0 → Startable z d b
+pub startable : (z : Lengths) (g : Settings) → firstCause (startCauses z g) ≡ 0 → Startable z g
 unfolding startCauses short
-startable z d b e =
+startable z g e =
     let one = missed _ 0 _ e in
     let two = missed _ 1 _ (one .later) in
     let three = missed _ 2 _ (two .later) in
-    let long = reads-and _ _ (reads-le 512 (z .records)) (reads-le b (z .readings)) .sure (not-false (leb 512 (z .records) && leb b (z .readings)) (three .here)) in
-    record { axes = both 1 d 8 (one .here); budget = both 1 b 8192 (two .here); records = long .0; readings = long .1 }
+    let long = reads-and _ _ (reads-le 512 (z .records)) (reads-le (leastStore g) (z .readings)) .sure (not-false (leb 512 (z .records) && leb (leastStore g) (z .readings)) (three .here)) in
+    let axes = reads-axes g .sure (not-false (axesFit g) (one .here)) in
+    let budget = reads-budget g .sure (not-false (budgetFit g) (two .here)) in
+    record { settings = record { axes = axes; budget = budget }; records = long .0; readings = long .1 }
 
 module _ (z : Lengths) (sound : Bool) (l : Log) where
   abbrev common : ℕ
   common = firstCause (resultCauses z sound l)
 
   -- the first two tests alone
-  first-two : (cs : List Cause) → short z (l .budget) ≡ false → not sound ≡ false → common ≡ 0
+  first-two : (cs : List Cause) → short z (l .settings) ≡ false → not sound ≡ false → common ≡ 0
   unfolding resultCauses firstCause
   first-two cs e f = rw (e, f)
 
@@ -71,7 +73,7 @@ module _ (z : Lengths) (sound : Bool) (l : Log) where
   pub record Deliverable (rs : List ℤ) : Type 0 where
     pub clear : common ≡ 0
     pub wanted : firstWanted (l .entries) < length (l .entries)
-    pub whole : length rs ≡ blockSize (wantedIndex (l .entries))
+    pub whole : length rs ≡ readingCount (l .settings) (wantedIndex (l .entries))
     pub range : inRange rs ≡ true
 
   pub deliverable : (rs : List ℤ) → firstCause (deliverCauses z sound l rs) ≡ 0 → Deliverable rs
@@ -85,13 +87,15 @@ module _ (z : Lengths) (sound : Bool) (l : Log) where
       record {
         clear = first-two [] (one .here) (two .here);
         wanted = wanted-is (three .here);
-        whole = eqb-true (length rs) (blockSize (wantedIndex (l .entries))) (not-false (eqb (length rs) (blockSize (wantedIndex (l .entries)))) (four .here));
+        whole =
+            eqb-true (length rs) (readingCount (l .settings) (wantedIndex (l .entries)))
+            (not-false (eqb (length rs) (readingCount (l .settings) (wantedIndex (l .entries)))) (four .here));
         range = not-false (inRange rs) (five .here);
       }
 
   pub record Pointable (n w : ℕ) : Type 0 where
     pub clear : common ≡ 0
-    pub room : l .axes ≤ w
+    pub room : l .settings .axes ≤ w
     pub wanted : firstWanted (l .entries) < length (l .entries)
     pub inside : n < blockSize (wantedIndex (l .entries))
 
@@ -105,7 +109,7 @@ module _ (z : Lengths) (sound : Bool) (l : Log) where
       let four = missed _ 8 _ (three .later) in
       record {
         clear = first-two [] (one .here) (two .here);
-        room = leb-true (l .axes) w (not-false (leb (l .axes) w) (buffer .here));
+        room = leb-true (l .settings .axes) w (not-false (leb (l .settings .axes) w) (buffer .here));
         wanted = wanted-is (three .here);
         inside = leb-false (blockSize (wantedIndex (l .entries))) n (four .here);
       }

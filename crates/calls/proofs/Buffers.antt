@@ -10,14 +10,15 @@ use borrow.Author.Tests.{not-false}
 use lib.Dec.{leb}
 use lib.ListN.{length, getD, take, drop, length-append, length-drop}
 use lib.Seq.{length-take-le, getD-drop, getD-append-add}
+use Rattle.area.specs.Settings.{leastStore}
 use Rattle.grid.specs.Block.{blockSize, pointOf}
-use Rattle.area.specs.Encoding.{Area, entriesOf}
+use Rattle.area.specs.Encoding.{Area, entriesOf, machineOf}
 use Rattle.soundness.specs.Clauses.{isSound}
 use Rattle.soundness.proofs.Exactly.{reads-and, reads-le}
 use Rattle.soundness.proofs.Clauses.{clause-facts}
-use Rattle.encoding.specs.Entries.{SoundEntries}
+use Rattle.encoding.specs.Entries.{SoundMachine}
 use Rattle.encoding.proofs.Facts.{encoding-facts}
-use Rattle.machine.specs.Log.{machineOf, firstWanted, wantedIndex}
+use Rattle.machine.specs.Log.{firstWanted, wantedIndex}
 use Rattle.machine.specs.Causes.{short, firstCause, pointCauses}
 use Rattle.calls.specs.Replies.{lengthsOf}
 use Rattle.calls.proofs.Causes.{common-clear}
@@ -56,29 +57,29 @@ module _ (a : Area) (n : ℕ) (buffer : List ℕ) (none : firstCause (pointCause
   point = pointOf (wantedIndex (entriesOf a)) n
 
   abbrev laid : List ℕ
-  laid = take (a .job .axes) point ++ drop (a .job .axes) buffer
+  laid = take (a .job .settings .axes) point ++ drop (a .job .settings .axes) buffer
 
-  clauses : SoundEntries (a .job .axes) (a .job .budget) (a .job .mean) (entriesOf a)
+  clauses : SoundMachine (machineOf a)
   unfolding machineOf short
   clauses =
       let clear = common-clear (lengthsOf a) (isSound a) (machineOf a .log) (pointable (lengthsOf a) (isSound a) (machineOf a .log) n (length buffer) none .clear) in
-      let long = reads-and _ _ (reads-le 512 (length (a .run .records))) (reads-le (a .job .budget) (length (a .store))) .sure
-      (not-false (leb 512 (length (a .run .records)) && leb (a .job .budget) (length (a .store))) (clear .first)) in
-      encoding-facts .entries a (clause-facts .agree a .sure (not-false (isSound a) (clear .second))) (long .1)
+      let long = reads-and _ _ (reads-le 512 (length (a .run .records))) (reads-le (leastStore (a .job .settings)) (length (a .store))) .sure
+      (not-false (leb 512 (length (a .run .records)) && leb (leastStore (a .job .settings)) (length (a .store))) (clear .first)) in
+      encoding-facts .clauses a (clause-facts .agree a .sure (not-false (isSound a) (clear .second))) (long .1)
 
-  positions : a .job .axes ≤ length point
+  positions : a .job .settings .axes ≤ length point
   unfolding machineOf
   positions =
       omega (
         arith,
         points-length (wantedIndex (entriesOf a)) n,
         clauses .index (firstWanted (entriesOf a)) (pointable (lengthsOf a) (isSound a) (machineOf a .log) n (length buffer) none .wanted) .eight,
-        clauses .axes .1,
+        clauses .settings .axes .1,
       )
 
   pub laid-length : length laid ≡ length buffer
   unfolding machineOf
-  laid-length = over-length point buffer (a .job .axes) positions (pointable (lengthsOf a) (isSound a) (machineOf a .log) n (length buffer) none .room)
+  laid-length = over-length point buffer (a .job .settings .axes) positions (pointable (lengthsOf a) (isSound a) (machineOf a .log) n (length buffer) none .room)
 
-  pub laid-later : (i : ℕ) → a .job .axes ≤ i → getD laid i 0 ≡ getD buffer i 0
-  laid-later = over-later point buffer (a .job .axes) positions
+  pub laid-later : (i : ℕ) → a .job .settings .axes ≤ i → getD laid i 0 ≡ getD buffer i 0
+  laid-later = over-later point buffer (a .job .settings .axes) positions

@@ -8,57 +8,54 @@ use borrow.Author.Tests.{eq-eqb, ne-eqb, le-leb, lt-leb, lt-ltb, le-ltb}
 use lib.Dec.{leb}
 use lib.IntN.{ℤ}
 use lib.ListN.{length}
+use Rattle.area.specs.declared.Settings.{Settings}
+use Rattle.area.specs.Settings.{SettingsFit, axesFit, budgetFit, readingCount}
 use Rattle.grid.specs.Block.{blockSize}
-use Rattle.machine.specs.Log.{Log, firstWanted, anyWanted, wantedIndex}
+use Rattle.area.specs.Log.{Log}
+use Rattle.soundness.proofs.Settings.{reads-axes, reads-budget}
+use Rattle.machine.specs.Log.{firstWanted, anyWanted, wantedIndex}
 use Rattle.machine.specs.Causes.{Lengths, cause, firstCause, short, inRange, startCauses, pointCauses, deliverCauses, promoteCauses, resultCauses}
-use Rattle.calls.proofs.Tests.{hit, miss, end, Clear, clear, refusing, passing, out-low, out-high, inside}
+use Rattle.calls.proofs.Tests.{hit, miss, end, Clear, clear, refusing, passing}
 
 -- ---- start
-module _ (z : Lengths) (d b : ℕ) where
-  pub start-axes-low : d < 1 → firstCause (startCauses z d b) ≡ 1
+module _ (z : Lengths) (g : Settings) where
+  pub start-axes : axesFit g ≡ false → firstCause (startCauses z g) ≡ 1
   unfolding startCauses
-  start-axes-low h = hit _ 1 _ (out-low d 8 h)
+  start-axes e = hit _ 1 _ (ap not e)
 
-  pub start-axes-high : 1 ≤ d → 8 < d → firstCause (startCauses z d b) ≡ 1
-  unfolding startCauses
-  start-axes-high l h = hit _ 1 _ (out-high d 8 l h)
-
-  module _ (low : 1 ≤ d) (high : d ≤ 8) where
-    pub start-budget-low : b < 1 → firstCause (startCauses z d b) ≡ 2
+  module _ (axes : axesFit g ≡ true) where
+    pub start-budget : budgetFit g ≡ false → firstCause (startCauses z g) ≡ 2
     unfolding startCauses
-    start-budget-low h = miss _ 1 _ (inside d 8 low high) ∙ hit _ 2 _ (out-low b 8192 h)
+    start-budget e = miss _ 1 _ (ap not axes) ∙ hit _ 2 _ (ap not e)
 
-    pub start-budget-high : 1 ≤ b → 8192 < b → firstCause (startCauses z d b) ≡ 2
+  -- settings in range
+  module _ (fit : SettingsFit g) where
+    pub start-short : short z g ≡ true → firstCause (startCauses z g) ≡ 3
     unfolding startCauses
-    start-budget-high l h = miss _ 1 _ (inside d 8 low high) ∙ hit _ 2 _ (out-high b 8192 l h)
+    start-short e = miss _ 1 _ (ap not (reads-axes g .back (fit .axes))) ∙ (miss _ 2 _ (ap not (reads-budget g .back (fit .budget))) ∙ hit _ 3 _ e)
 
-    module _ (some : 1 ≤ b) (most : b ≤ 8192) where
-      pub start-short : short z b ≡ true → firstCause (startCauses z d b) ≡ 3
-      unfolding startCauses
-      start-short e = miss _ 1 _ (inside d 8 low high) ∙ (miss _ 2 _ (inside b 8192 some most) ∙ hit _ 3 _ e)
-
-      pub start-fits : short z b ≡ false → firstCause (startCauses z d b) ≡ 0
-      unfolding startCauses
-      start-fits e = miss _ 1 _ (inside d 8 low high) ∙ (miss _ 2 _ (inside b 8192 some most) ∙ (miss _ 3 _ e ∙ end))
+    pub start-fits : short z g ≡ false → firstCause (startCauses z g) ≡ 0
+    unfolding startCauses
+    start-fits e = miss _ 1 _ (ap not (reads-axes g .back (fit .axes))) ∙ (miss _ 2 _ (ap not (reads-budget g .back (fit .budget))) ∙ (miss _ 3 _ e ∙ end))
 
 -- ---- storage and area, which every later call asks first
 module _ (z : Lengths) (sound : Bool) (l : Log) where
   abbrev pub common : ℕ
   common = firstCause (resultCauses z sound l)
 
-  pub common-short : short z (l .budget) ≡ true → common ≡ 3
+  pub common-short : short z (l .settings) ≡ true → common ≡ 3
   unfolding resultCauses
   common-short e = hit _ 3 _ e
 
-  pub common-unsound : short z (l .budget) ≡ false → sound ≡ false → common ≡ 4
+  pub common-unsound : short z (l .settings) ≡ false → sound ≡ false → common ≡ 4
   unfolding resultCauses
   common-unsound e f = miss _ 3 _ e ∙ hit _ 4 _ (ap not f)
 
-  pub common-none : short z (l .budget) ≡ false → sound ≡ true → common ≡ 0
+  pub common-none : short z (l .settings) ≡ false → sound ≡ true → common ≡ 0
   unfolding resultCauses
   common-none e f = miss _ 3 _ e ∙ (miss _ 4 _ (ap not f) ∙ end)
 
-  pub common-clear : common ≡ 0 → Clear (short z (l .budget)) (not sound)
+  pub common-clear : common ≡ 0 → Clear (short z (l .settings)) (not sound)
   unfolding resultCauses
   common-clear e = clear _ _ e
 
@@ -88,14 +85,14 @@ module _ (z : Lengths) (sound : Bool) (l : Log) where
       deliver-nothing e = passing _ _ _ none ∙ hit _ 5 _ (ap not e)
 
       module _ (wanted : anyWanted (l .entries) ≡ true) where
-        pub deliver-count : (length rs ≡ blockSize (wantedIndex (l .entries)) → ⊥) → firstCause (deliverCauses z sound l rs) ≡ 7
+        pub deliver-count : (length rs ≡ readingCount (l .settings) (wantedIndex (l .entries)) → ⊥) → firstCause (deliverCauses z sound l rs) ≡ 7
         unfolding deliverCauses resultCauses
-        deliver-count n = passing _ _ _ none ∙ (miss _ 5 _ (ap not wanted) ∙ hit _ 7 _ (ap not (ne-eqb (length rs) (blockSize (wantedIndex (l .entries))) n)))
+        deliver-count n = passing _ _ _ none ∙ (miss _ 5 _ (ap not wanted) ∙ hit _ 7 _ (ap not (ne-eqb (length rs) (readingCount (l .settings) (wantedIndex (l .entries))) n)))
 
-        module _ (whole : length rs ≡ blockSize (wantedIndex (l .entries))) where
+        module _ (whole : length rs ≡ readingCount (l .settings) (wantedIndex (l .entries))) where
           after-count : firstCause (deliverCauses z sound l rs) ≡ firstCause (cause (not (inRange rs)) 8 ∷ [])
           unfolding deliverCauses resultCauses
-          after-count = passing _ _ _ none ∙ (miss _ 5 _ (ap not wanted) ∙ miss _ 7 _ (ap not (eq-eqb (length rs) (blockSize (wantedIndex (l .entries))) whole)))
+          after-count = passing _ _ _ none ∙ (miss _ 5 _ (ap not wanted) ∙ miss _ 7 _ (ap not (eq-eqb (length rs) (readingCount (l .settings) (wantedIndex (l .entries))) whole)))
 
           pub deliver-range : inRange rs ≡ false → firstCause (deliverCauses z sound l rs) ≡ 8
           deliver-range e = after-count ∙ hit _ 8 _ (ap not e)
@@ -105,24 +102,24 @@ module _ (z : Lengths) (sound : Bool) (l : Log) where
 
   -- ---- point
   module _ (n w : ℕ) where
-    pub point-buffer : w < l .axes → firstCause (pointCauses z sound l n w) ≡ 3
+    pub point-buffer : w < l .settings .axes → firstCause (pointCauses z sound l n w) ≡ 3
     unfolding pointCauses
-    point-buffer h = step (short z (l .budget)) (ap not (lt-leb (l .axes) w h))
+    point-buffer h = step (short z (l .settings)) (ap not (lt-leb (l .settings .axes) w h))
       where
-        step : (t : Bool) → not (leb (l .axes) w) ≡ true
-            → firstCause (cause t 3 ∷ cause (not (leb (l .axes) w)) 3 ∷ cause (not sound) 4 ∷ cause (not (anyWanted (l .entries))) 5 ∷ cause (leb (blockSize (wantedIndex (l .entries))) n) 9 ∷ []) ≡ 3
+        step : (t : Bool) → not (leb (l .settings .axes) w) ≡ true
+            → firstCause (cause t 3 ∷ cause (not (leb (l .settings .axes) w)) 3 ∷ cause (not sound) 4 ∷ cause (not (anyWanted (l .entries))) 5 ∷ cause (leb (blockSize (wantedIndex (l .entries))) n) 9 ∷ []) ≡ 3
         step true e = hit true 3 _ refl
         step false e = miss false 3 _ refl ∙ hit _ 3 _ e
 
-    module _ (room : l .axes ≤ w) where
+    module _ (room : l .settings .axes ≤ w) where
       -- the buffer's row falls out
       buffered : firstCause (pointCauses z sound l n w)
-          ≡ firstCause (cause (short z (l .budget)) 3 ∷ cause (not sound) 4 ∷ cause (not (anyWanted (l .entries))) 5 ∷ cause (leb (blockSize (wantedIndex (l .entries))) n) 9 ∷ [])
+          ≡ firstCause (cause (short z (l .settings)) 3 ∷ cause (not sound) 4 ∷ cause (not (anyWanted (l .entries))) 5 ∷ cause (leb (blockSize (wantedIndex (l .entries))) n) 9 ∷ [])
       unfolding pointCauses
-      buffered = step (short z (l .budget)) (ap not (le-leb (l .axes) w room))
+      buffered = step (short z (l .settings)) (ap not (le-leb (l .settings .axes) w room))
         where
-          step : (t : Bool) → not (leb (l .axes) w) ≡ false
-              → firstCause (cause t 3 ∷ cause (not (leb (l .axes) w)) 3 ∷ cause (not sound) 4 ∷ cause (not (anyWanted (l .entries))) 5 ∷ cause (leb (blockSize (wantedIndex (l .entries))) n) 9 ∷ [])
+          step : (t : Bool) → not (leb (l .settings .axes) w) ≡ false
+              → firstCause (cause t 3 ∷ cause (not (leb (l .settings .axes) w)) 3 ∷ cause (not sound) 4 ∷ cause (not (anyWanted (l .entries))) 5 ∷ cause (leb (blockSize (wantedIndex (l .entries))) n) 9 ∷ [])
               ≡ firstCause (cause t 3 ∷ cause (not sound) 4 ∷ cause (not (anyWanted (l .entries))) 5 ∷ cause (leb (blockSize (wantedIndex (l .entries))) n) 9 ∷ [])
           step true e = hit true 3 _ refl ∙ sym (hit true 3 _ refl)
           step false e = miss false 3 _ refl ∙ (miss _ 3 _ e ∙ sym (miss false 3 _ refl))

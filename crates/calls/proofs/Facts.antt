@@ -8,11 +8,12 @@ use Prim.Native.Nat.{ℕ, _+_, _<_, _≤_}
 use native.Mathlib.Omega.{arith}
 use lib.IntN.{ℤ, pos}
 use lib.ListN.{length, getD}
-use Rattle.area.specs.Encoding.{Area, heldOf, entriesOf}
+use Rattle.area.specs.declared.Settings.{Settings}
+use Rattle.area.specs.Encoding.{Area, heldOf, entriesOf, machineOf}
 use Rattle.quadrature.specs.Readings.{recordAt}
 use Rattle.soundness.specs.Clauses.{isSound}
 use Rattle.encoding.specs.Encodes.{Formed}
-use Rattle.machine.specs.Log.{machineOf, firstWanted}
+use Rattle.machine.specs.Log.{firstWanted}
 use Rattle.machine.specs.Promote.{Outcome, met, spent}
 use Rattle.machine.specs.Causes.{firstCause, startCauses}
 use Rattle.machine.specs.Counts.{Counts}
@@ -53,52 +54,52 @@ itself a = record { records = refl; rest = refl }
 
 -- ---- start
 
-start-settles : (a : Area) (d t b : ℕ) → startCall a d t b .reply ≡ accepted → Settled (startCall a d t b .area)
-start-settles a d t b =
-    start-ways (λ x. x .reply ≡ accepted → Settled (x .area)) a d t b (λ none e. started-settled a d t b none) (λ some e. absurd (accepted-not _ (sym e)))
+start-settles : (a : Area) (g : Settings) → startCall a g .reply ≡ accepted → Settled (startCall a g .area)
+start-settles a g =
+    start-ways (λ x. x .reply ≡ accepted → Settled (x .area)) a g (λ none e. started-settled a g none) (λ some e. absurd (accepted-not _ (sym e)))
 
-start-state : (a : Area) (d t b : ℕ) → startCall a d t b .reply ≡ accepted → machineOf (startCall a d t b .area) ≡ started d t b
-start-state a d t b =
-    start-ways (λ x. x .reply ≡ accepted → machineOf (x .area) ≡ started d t b) a d t b (λ none e. started-state a d t b none)
+start-state : (a : Area) (g : Settings) → startCall a g .reply ≡ accepted → machineOf (startCall a g .area) ≡ started g
+start-state a g =
+    start-ways (λ x. x .reply ≡ accepted → machineOf (x .area) ≡ started g) a g (λ none e. started-state a g none)
     (λ some e. absurd (accepted-not _ (sym e)))
 
-start-refused : (a : Area) (d t b n : ℕ) → startCall a d t b .reply ≡ refused n → (startCall a d t b .area ≡ a) × List·Memᴰ n (1 ∷ 2 ∷ 3 ∷ [])
-start-refused a d t b n =
-    start-ways (λ x. x .reply ≡ refused n → (x .area ≡ a) × List·Memᴰ n (1 ∷ 2 ∷ 3 ∷ [])) a d t b (λ none e. absurd (accepted-not n e))
-    (λ some e. (refl, refused-number _ n _ (start-number (lengthsOf a) d b some) e))
+start-refused : (a : Area) (g : Settings) (n : ℕ) → startCall a g .reply ≡ refused n → (startCall a g .area ≡ a) × List·Memᴰ n (1 ∷ 2 ∷ 3 ∷ [])
+start-refused a g n =
+    start-ways (λ x. x .reply ≡ refused n → (x .area ≡ a) × List·Memᴰ n (1 ∷ 2 ∷ 3 ∷ [])) a g (λ none e. absurd (accepted-not n e))
+    (λ some e. (refl, refused-number _ n _ (start-number (lengthsOf a) g some) e))
 
-start-lengths : (a : Area) (d t b : ℕ) → lengthsOf (startCall a d t b .area) ≡ lengthsOf a
-start-lengths a d t b = start-ways (λ x. lengthsOf (x .area) ≡ lengthsOf a) a d t b (λ none. started-lengths a d t b none) (λ some. refl)
+start-lengths : (a : Area) (g : Settings) → lengthsOf (startCall a g .area) ≡ lengthsOf a
+start-lengths a g = start-ways (λ x. lengthsOf (x .area) ≡ lengthsOf a) a g (λ none. started-lengths a g none) (λ some. refl)
 
-start-past : (a : Area) (d t b : ℕ) → PastUnchanged a (startCall a d t b .area)
+start-past : (a : Area) (g : Settings) → PastUnchanged a (startCall a g .area)
 unfolding startOn
-start-past a d t b = start-ways (λ x. PastUnchanged a (x .area)) a d t b (λ none. written-past a (started d t b)) (λ some. itself a)
+start-past a g = start-ways (λ x. PastUnchanged a (x .area)) a g (λ none. written-past a (started g)) (λ some. itself a)
 
-start-store : (a : Area) (d t b : ℕ) → startCall a d t b .area .store ≡ a .store
-start-store a d t b = start-ways (λ x. x .area .store ≡ a .store) a d t b (λ none. started-store a d t b) (λ some. refl)
+start-store : (a : Area) (g : Settings) → startCall a g .area .store ≡ a .store
+start-store a g = start-ways (λ x. x .area .store ≡ a .store) a g (λ none. started-store a g) (λ some. refl)
 
-module _ (a b : Area) (d t m : ℕ) (same : lengthsOf a ≡ lengthsOf b) where
+module _ (a b : Area) (g : Settings) (same : lengthsOf a ≡ lengthsOf b) where
   abbrev startCause : ℕ
-  startCause = firstCause (startCauses (lengthsOf a) d m)
+  startCause = firstCause (startCauses (lengthsOf a) g)
 
-  one-cause : startCause ≡ firstCause (startCauses (lengthsOf b) d m)
-  one-cause = ap (λ z. firstCause (startCauses z d m)) same
+  one-cause : startCause ≡ firstCause (startCauses (lengthsOf b) g)
+  one-cause = ap (λ z. firstCause (startCauses z g)) same
 
-  start-answer : startCall a d t m .reply ≡ startCall b d t m .reply
+  start-answer : startCall a g .reply ≡ startCall b g .reply
   start-answer =
-      start-ways (λ x. x .reply ≡ startCall b d t m .reply) a d t m (λ none. ap (λ (x : Called). x .reply) (start-accepts b d t m startCause one-cause none))
-      (λ some. ap (λ (x : Called). x .reply) (start-refuses b d t m startCause one-cause some))
+      start-ways (λ x. x .reply ≡ startCall b g .reply) a g (λ none. ap (λ (x : Called). x .reply) (start-accepts b g startCause one-cause none))
+      (λ some. ap (λ (x : Called). x .reply) (start-refuses b g startCause one-cause some))
 
-  start-none : startCall a d t m .reply ≡ accepted → startCause ≡ 0
-  start-none = start-ways (λ x. x .reply ≡ accepted → startCause ≡ 0) a d t m (λ none e. none) (λ some e. absurd (accepted-not _ (sym e)))
+  start-none : startCall a g .reply ≡ accepted → startCause ≡ 0
+  start-none = start-ways (λ x. x .reply ≡ accepted → startCause ≡ 0) a g (λ none e. none) (λ some e. absurd (accepted-not _ (sym e)))
 
-  start-job : startCall a d t m .reply ≡ accepted
-      → (startCall a d t m .area .job ≡ startCall b d t m .area .job)
-      × (recordAt (startCall a d t m .area .run .records) 0 ≡ recordAt (startCall b d t m .area .run .records) 0)
+  start-job : startCall a g .reply ≡ accepted
+      → (startCall a g .area .job ≡ startCall b g .area .job)
+      × (recordAt (startCall a g .area .run .records) 0 ≡ recordAt (startCall b g .area .run .records) 0)
   start-job e =
       rw
-      (← start-accepts a d t m startCause refl (start-none e), ← start-accepts b d t m startCause one-cause (start-none e))
-      (started-same a b d t m)
+      (← start-accepts a g startCause refl (start-none e), ← start-accepts b g startCause one-cause (start-none e))
+      (started-same a b g)
 
 -- ---- point
 
@@ -112,7 +113,7 @@ module _ (a : Area) (m : ℕ) where
   point-length : (buffer : List ℕ) → length (pointCall a m buffer .buffer) ≡ length buffer
   point-length buffer = point-ways (λ x. length (x .buffer) ≡ length buffer) a m buffer (laid-length a m buffer) (λ some. refl)
 
-  point-later : (i : ℕ) (buffer : List ℕ) → a .job .axes ≤ i → getD (pointCall a m buffer .buffer) i 0 ≡ getD buffer i 0
+  point-later : (i : ℕ) (buffer : List ℕ) → a .job .settings .axes ≤ i → getD (pointCall a m buffer .buffer) i 0 ≡ getD buffer i 0
   point-later i buffer h =
       point-ways (λ x. getD (x .buffer) i 0 ≡ getD buffer i 0) a m buffer (λ none. laid-later a m buffer none i h) (λ some. refl)
 

@@ -10,10 +10,11 @@ use native.Mathlib.Omega.{arith}
 use lib.IntN.{ℤ, pos, natAbs}
 use lib.ListN.{length, getD, set, take, drop, length-append, length-set, List·getD-append}
 use lib.Seq.{sets, sets-eq, length-sets, length-take-le, getD-set-other, getD-append-add}
-use Rattle.grid.specs.Block.{blockSize}
+use Rattle.area.specs.Settings.{readingsFor, readingCount}
+use Rattle.area.specs.declared.Settings.{Settings}
 use Rattle.grid.specs.Terms.{IsReading}
 use Rattle.area.specs.declared.IndexRecord.{IndexRecord}
-use Rattle.area.specs.Encoding.{Area, heldOf, entriesOf, recordsFor, encodedFrom, runWith}
+use Rattle.area.specs.Encoding.{Area, heldOf, entriesOf, recordsFor, encodedFrom, runWith, machineOf, written}
 use Rattle.quadrature.specs.Readings.{recordAt}
 use Rattle.soundness.specs.Clauses.{isSound}
 use Rattle.soundness.specs.Held.{levelsAt}
@@ -22,10 +23,10 @@ use Rattle.soundness.proofs.Exactly.{reads-le, reads-all}
 use Rattle.encoding.specs.Encodes.{Formed}
 use Rattle.encoding.proofs.Places.{entries-length, levels-at}
 use Rattle.encoding.proofs.Facts.{range-facts}
-use Rattle.machine.specs.Log.{machineOf, written, firstWanted}
+use Rattle.machine.specs.Log.{firstWanted}
 use Rattle.machine.specs.Promote.{selected, isMet, fits, retire, admittedAxes, refine}
 use Rattle.machine.specs.Steps.{started, deliver, promoteStep}
-use Rattle.machine.specs.Facts.{SoundMachine}
+use Rattle.encoding.specs.Entries.{SoundMachine}
 use Rattle.machine.specs.Causes.{inRange, firstCause, startCauses, deliverCauses, promoteCauses, resultCauses}
 use Rattle.machine.specs.Areas.{startOn, deliverOn, promoteOn}
 use Rattle.machine.proofs.Facts.{step-facts}
@@ -46,38 +47,37 @@ use Rattle.calls.proofs.Written.{written-past, written-settled, written
 
 -- ---- start
 
-module _ (a : Area) (d t b : ℕ) (none : firstCause (startCauses (lengthsOf a) d b) ≡ 0) where
-  started-sound : SoundMachine (started d t b)
+module _ (a : Area) (g : Settings) (none : firstCause (startCauses (lengthsOf a) g) ≡ 0) where
+  started-sound : SoundMachine (started g)
   started-sound =
-      let s = startable (lengthsOf a) d b none in
-      step-facts .start d t b (s .axes .0) (s .axes .1) (s .budget .0) (s .budget .1)
+      step-facts .start g (startable (lengthsOf a) g none .settings)
 
-  pub started-settled : Settled (startOn a d t b)
+  pub started-settled : Settled (startOn a g)
   unfolding startOn started
   started-settled =
-      let s = startable (lengthsOf a) d b none in
-      written-settled a (started d t b) started-sound (s .records) (s .readings)
+      let s = startable (lengthsOf a) g none in
+      written-settled a (started g) started-sound (s .records) (s .readings)
 
-  pub started-state : machineOf (startOn a d t b) ≡ started d t b
+  pub started-state : machineOf (startOn a g) ≡ started g
   unfolding startOn
-  started-state = written-state a (started d t b) started-sound
+  started-state = written-state a (started g) started-sound
 
-  pub started-lengths : lengthsOf (startOn a d t b) ≡ lengthsOf a
+  pub started-lengths : lengthsOf (startOn a g) ≡ lengthsOf a
   unfolding startOn
   started-lengths =
-      let e = write-facts .start a d t b (omega (arith, startable (lengthsOf a) d b none .records)) in
-      same-lengths a (written a (started d t b)) (ap (λ (x : Area). length (x .run .records)) e ∙ length-set (a .run .records) 0 rootRecord)
+      let e = write-facts .start a g (omega (arith, startable (lengthsOf a) g none .records)) in
+      same-lengths a (written a (started g)) (ap (λ (x : Area). length (x .run .records)) e ∙ length-set (a .run .records) 0 rootRecord)
       (ap (λ (x : Area). length (x .store)) e)
 
-pub started-store : (a : Area) (d t b : ℕ) → startOn a d t b .store ≡ a .store
+pub started-store : (a : Area) (g : Settings) → startOn a g .store ≡ a .store
 unfolding startOn started written
-started-store a d t b = root-store (a .store)
+started-store a g = root-store (a .store)
 
 -- the job record and record 0 are made of the arguments alone
-pub started-same : (a b : Area) (d t m : ℕ)
-    → (startOn a d t m .job ≡ startOn b d t m .job) × (recordAt (startOn a d t m .run .records) 0 ≡ recordAt (startOn b d t m .run .records) 0)
+pub started-same : (a b : Area) (g : Settings)
+    → (startOn a g .job ≡ startOn b g .job) × (recordAt (startOn a g .run .records) 0 ≡ recordAt (startOn b g .run .records) 0)
 unfolding startOn started written runWith recordsFor encodedFrom
-started-same a b d t m = (refl, refl)
+started-same a b g = (refl, refl)
 
 -- ---- the store after a delivery
 
@@ -160,9 +160,9 @@ module _ (a : Area) (formed : Formed (heldOf a)) where
     room =
         omega (
           arith,
-          range-facts .block a (set-up .sound) w (omega (arith, entries-length (a .store) (heldOf a), accepted .wanted)),
+          range-facts .block a (set-up .sound) w (omega (arith, entries-length (a .job .settings) (a .store) (heldOf a), accepted .wanted)),
           accepted .whole,
-          ap blockSize (levels-at (a .store) (heldOf a) w),
+          ap (readingCount (a .job .settings)) (levels-at (a .job .settings) (a .store) (heldOf a) w),
           set-up .lent .store,
         )
 
@@ -188,12 +188,12 @@ module _ (a : Area) (formed : Formed (heldOf a)) where
     unfolding machineOf
     free = promotable (lengthsOf a) (isSound a) (machineOf a .log) none .free
 
-    module _ (above : isMet (machineOf a .log) ≡ true → ⊥) (fit : fits (a .job .budget) (refine (a .job .axes) (entriesOf a) p) ≡ true) where
+    module _ (above : isMet (machineOf a .log) ≡ true → ⊥) (fit : fits (a .job .settings .budget) (refine (a .job .settings .axes) (entriesOf a) p) ≡ true) where
       grown-settled : Settled (grown a p)
       unfolding machineOf
       grown-settled =
           let s = step-facts .selects (machineOf a .log) above in
-          written-settled a _ (step-facts .refine (a .job .axes) (a .job .budget) (a .job .mean) (entriesOf a) p (machine-sound a ready) free (s .0) (s .1) fit)
+          written-settled a _ (step-facts .refine (machineOf a) p (machine-sound a ready) free (s .0) (s .1) fit)
           (ready .lent .records) (ready .lent .store)
 
       grown-store : grown a p .store ≡ a .store
@@ -209,8 +209,8 @@ module _ (a : Area) (formed : Formed (heldOf a)) where
           let e = write-facts .refine a p ready free (omega (arith, held-is a ready, s .0)) (sym (state-is a ready p (s .0)) ∙ s .1) fit in
           same-lengths a (grown a p)
           (ap (λ (x : Area). length (x .run .records)) e
-          ∙ appended-all-length (set all p retiring) (a .job .held) (a .job .reserved) (levelsAt all p)
-          (admittedAxes (a .job .axes) (retire (entriesOf a) p) (levelsAt all p))
+          ∙ appended-all-length (a .job .settings) (set all p retiring) (a .job .held) (readingsFor (a .job .settings) (a .job .reserved)) (levelsAt all p)
+          (admittedAxes (a .job .settings .axes) (retire (entriesOf a) p) (levelsAt all p))
           ∙ length-set all p retiring)
           (ap (λ (x : Area). length (x .store)) e)
 

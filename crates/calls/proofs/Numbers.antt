@@ -5,7 +5,8 @@ use mathlib.Core.Bool.{Bool, true, false, cond}
 use mathlib.Core.List.{List, [], _∷_, map, List·Memᴰ, List·Memᴰ·head, List·Memᴰ·tail}
 use Prim.Native.Nat.{ℕ}
 use lib.IntN.{ℤ}
-use Rattle.machine.specs.Log.{Log}
+use Rattle.area.specs.declared.Settings.{Settings}
+use Rattle.area.specs.Log.{Log}
 use Rattle.machine.specs.Causes.{Cause, Lengths, firstCause, startCauses, pointCauses, deliverCauses, promoteCauses, resultCauses}
 
 abbrev numbers : List Cause → List ℕ
@@ -29,9 +30,9 @@ once : (n m : ℕ) (ns : List ℕ) → List·Memᴰ n (m ∷ m ∷ ns) → List�
 once n m ns (List·Memᴰ·head e) = List·Memᴰ·head e
 once n m ns (List·Memᴰ·tail h) = h
 
-pub start-number : (z : Lengths) (d b : ℕ) → Among (startCauses z d b) (1 ∷ 2 ∷ 3 ∷ [])
+pub start-number : (z : Lengths) (g : Settings) → Among (startCauses z g) (1 ∷ 2 ∷ 3 ∷ [])
 unfolding startCauses
-start-number z d b = numbered (startCauses z d b)
+start-number z g = numbered (startCauses z g)
 
 module _ (z : Lengths) (sound : Bool) (l : Log) where
   -- the row of lent storage stands for the buffer too

@@ -6,8 +6,8 @@ use mathlib.Core.Logic.{_⊎_, inl, inr}
 use mathlib.Core.Bool.{Bool, true, false, cond}
 use Prim.Native.Nat.{ℕ}
 use native.Mathlib.Omega.{arith}
-use Rattle.area.specs.Encoding.{Area, entriesOf}
-use Rattle.machine.specs.Log.{Log, Machine, machineOf, written, withEntries}
+use Rattle.area.specs.Encoding.{Area, entriesOf, machineOf, written}
+use Rattle.area.specs.Log.{Log, Machine, withEntries}
 use Rattle.machine.specs.Promote.{Outcome, met, spent, promoted, selected, isMet, fits, refine, Promotion, promoteAt, promote}
 use Rattle.machine.specs.Steps.{promoteStep}
 use Rattle.machine.specs.Areas.{AreaPromotion, changedBy, refineOn, promoteOn}
@@ -17,7 +17,7 @@ use Rattle.machine.proofs.Promotes.{promote-by}
 
 module _ (a : Area) where
   abbrev pub grownLog : ℕ → Log
-  grownLog p = withEntries (machineOf a .log) (refine (a .job .axes) (entriesOf a) p)
+  grownLog p = withEntries (machineOf a .log) (refine (a .job .settings .axes) (entriesOf a) p)
 
   abbrev pub grown : ℕ → Area
   grown p = written a (record { log = grownLog p; mean = a .job .mean })
@@ -26,16 +26,16 @@ module _ (a : Area) where
   chosen t p = cond t (record { outcome = promoted; log = grownLog p }) (record { outcome = spent; log = machineOf a .log })
 
   module _ (P : Area → Type 0) (same : P a) where
-    refine-ways : (p : ℕ) → (fits (a .job .budget) (refine (a .job .axes) (entriesOf a) p) ≡ true → P (grown p)) → P (refineOn a p .area)
+    refine-ways : (p : ℕ) → (fits (a .job .settings .budget) (refine (a .job .settings .axes) (entriesOf a) p) ≡ true → P (grown p)) → P (refineOn a p .area)
     unfolding refineOn promoteAt changedBy machineOf
-    refine-ways p more = step (fits (a .job .budget) (refine (a .job .axes) (entriesOf a) p)) refl
+    refine-ways p more = step (fits (a .job .settings .budget) (refine (a .job .settings .axes) (entriesOf a) p)) refl
       where
-        step : (t : Bool) → fits (a .job .budget) (refine (a .job .axes) (entriesOf a) p) ≡ t
+        step : (t : Bool) → fits (a .job .settings .budget) (refine (a .job .settings .axes) (entriesOf a) p) ≡ t
             → P (changedBy (chosen t p .outcome) a (written a (record { log = chosen t p .log; mean = a .job .mean })))
         step true e = more e
         step false e = same
 
-    pub outcome-ways : ((isMet (machineOf a .log) ≡ true → ⊥) → fits (a .job .budget) (refine (a .job .axes) (entriesOf a) (selected (entriesOf a))) ≡ true
+    pub outcome-ways : ((isMet (machineOf a .log) ≡ true → ⊥) → fits (a .job .settings .budget) (refine (a .job .settings .axes) (entriesOf a) (selected (entriesOf a))) ≡ true
         → P (grown (selected (entriesOf a)))) → P (promoteOn a .area)
     outcome-ways more = subst (λ (x : AreaPromotion). P (x .area)) (sym (promote-by a)) (step (isMet (machineOf a .log)) refl)
       where
@@ -48,11 +48,11 @@ module _ (a : Area) where
 abbrev given : Log → Bool → Bool → Promotion
 given l t u =
     cond t (record { outcome = met; log = l })
-    (cond u (record { outcome = promoted; log = withEntries l (refine (l .axes) (l .entries) (selected (l .entries))) }) (record { outcome = spent; log = l }))
+    (cond u (record { outcome = promoted; log = withEntries l (refine (l .settings .axes) (l .entries) (selected (l .entries))) }) (record { outcome = spent; log = l }))
 
 pub same-log : (l : Log) → (promote l .outcome ≡ promoted → ⊥) → promote l .log ≡ l
 unfolding promote promoteAt
-same-log l = step (isMet l) (fits (l .budget) (refine (l .axes) (l .entries) (selected (l .entries))))
+same-log l = step (isMet l) (fits (l .settings .budget) (refine (l .settings .axes) (l .entries) (selected (l .entries))))
   where
     step : (t u : Bool) → (given l t u .outcome ≡ promoted → ⊥) → given l t u .log ≡ l
     step true u n = refl

@@ -6,10 +6,11 @@ use Prim.Native.Nat.{ℕ}
 use borrow.Author.Tests.{eq-eqb, ne-eqb}
 use lib.IntN.{ℤ}
 use lib.ListN.{length, take, drop}
+use Rattle.area.specs.declared.Settings.{Settings}
 use Rattle.grid.specs.Block.{pointOf}
-use Rattle.area.specs.Encoding.{Area, entriesOf}
+use Rattle.area.specs.Encoding.{Area, entriesOf, machineOf}
 use Rattle.soundness.specs.Clauses.{isSound}
-use Rattle.machine.specs.Log.{machineOf, wantedIndex}
+use Rattle.machine.specs.Log.{wantedIndex}
 use Rattle.machine.specs.Causes.{firstCause, startCauses, pointCauses, deliverCauses, promoteCauses, resultCauses}
 use Rattle.machine.specs.Areas.{startOn, deliverOn, promoteOn}
 use Rattle.machine.specs.Counts.{countsOf}
@@ -26,12 +27,12 @@ module _ (n m : ℕ) (a : Area) (x : Called) (is : n ≡ m) where
   unfolding unless
   accepts e = rw (sym is, eq-eqb n 0 e) refl
 
-module _ (a : Area) (d t b n : ℕ) (is : n ≡ firstCause (startCauses (lengthsOf a) d b)) where
-  pub start-refuses : (n ≡ 0 → ⊥) → record { reply = refused n; area = a } ≡ startCall a d t b
+module _ (a : Area) (g : Settings) (n : ℕ) (is : n ≡ firstCause (startCauses (lengthsOf a) g)) where
+  pub start-refuses : (n ≡ 0 → ⊥) → record { reply = refused n; area = a } ≡ startCall a g
   unfolding startCall
   start-refuses f = refuses n _ a _ is f
 
-  pub start-accepts : n ≡ 0 → record { reply = accepted; area = startOn a d t b } ≡ startCall a d t b
+  pub start-accepts : n ≡ 0 → record { reply = accepted; area = startOn a g } ≡ startCall a g
   unfolding startCall
   start-accepts e = accepts n _ a _ is e
 
@@ -58,7 +59,7 @@ module _ (a : Area) (n : ℕ) (buffer : List ℕ) (m : ℕ) (is : m ≡ firstCau
   unfolding pointCall
   point-refuses f = rw (sym is, ne-eqb m 0 f) refl
 
-  pub point-accepts : m ≡ 0 → record { reply = accepted; buffer = take (a .job .axes) (pointOf (wantedIndex (entriesOf a)) n) ++ drop (a .job .axes) buffer } ≡ pointCall a n buffer
+  pub point-accepts : m ≡ 0 → record { reply = accepted; buffer = take (a .job .settings .axes) (pointOf (wantedIndex (entriesOf a)) n) ++ drop (a .job .settings .axes) buffer } ≡ pointCall a n buffer
   unfolding pointCall
   point-accepts e = rw (sym is, eq-eqb m 0 e) refl
 

@@ -9,11 +9,12 @@ use borrow.Author.Tests.{not-false, le-leb}
 use lib.Dec.{leb}
 use lib.IntN.{ℤ}
 use lib.ListN.{length}
+use Rattle.area.specs.Settings.{leastStore, readingCount}
 use Rattle.grid.specs.Index.{Within}
 use Rattle.grid.specs.Block.{blockSize}
 use Rattle.area.specs.declared.JobRecord.{JobRecord}
 use Rattle.area.specs.Records.{recordsOf, heldIn}
-use Rattle.area.specs.Encoding.{Area, areaOf, entriesOf}
+use Rattle.area.specs.Encoding.{Area, areaOf, entriesOf, machineOf}
 use Rattle.area.proofs.Records.{length-recordsOf}
 use Rattle.quadrature.specs.Readings.{recordAt}
 use Rattle.soundness.specs.Sound.{Sound, LongEnough}
@@ -21,7 +22,7 @@ use Rattle.soundness.specs.Clauses.{isSound, checked}
 use Rattle.soundness.proofs.Exactly.{reads-and, reads-le}
 use Rattle.soundness.proofs.Clauses.{clause-facts}
 use Rattle.encoding.proofs.Facts.{encoding-facts}
-use Rattle.machine.specs.Log.{machineOf, firstWanted, anyWanted, wantedIndex}
+use Rattle.machine.specs.Log.{firstWanted, anyWanted, wantedIndex}
 use Rattle.machine.specs.Causes.{short, firstCause, resultCauses}
 use Rattle.writing.specs.Heads.{headsOf}
 use Rattle.writing.specs.Settled.{Settled}
@@ -37,8 +38,8 @@ module _ (a : Area) (none : firstCause (resultCauses (lengthsOf a) (isSound a) (
   pub long-there : LongEnough a
   unfolding machineOf short
   long-there =
-      let long = reads-and _ _ (reads-le 512 (length (a .run .records))) (reads-le (a .job .budget) (length (a .store))) .sure
-      (not-false (leb 512 (length (a .run .records)) && leb (a .job .budget) (length (a .store))) (common-clear (lengthsOf a) (isSound a) (machineOf a .log) none .first)) in
+      let long = reads-and _ _ (reads-le 512 (length (a .run .records))) (reads-le (leastStore (a .job .settings)) (length (a .store))) .sure
+      (not-false (leb 512 (length (a .run .records)) && leb (leastStore (a .job .settings)) (length (a .store))) (common-clear (lengthsOf a) (isSound a) (machineOf a .log) none .first)) in
       record { records = long .0; store = long .1 }
 
 module _ (j : JobRecord) (c : List ℕ) (s : List ℤ) where
@@ -46,9 +47,9 @@ module _ (j : JobRecord) (c : List ℕ) (s : List ℤ) where
   a = areaOf j c s
 
   -- where storage is long enough, check answers by soundness alone
-  pub checked-sound : 512 ≤ length c / 27 → j .budget ≤ length s → checked a ≡ isSound a
+  pub checked-sound : 512 ≤ length c / 27 → leastStore (j .settings) ≤ length s → checked a ≡ isSound a
   unfolding checked
-  checked-sound h k = rw (length-recordsOf c, le-leb 512 (length c / 27) h, le-leb (j .budget) (length s) k)
+  checked-sound h k = rw (length-recordsOf c, le-leb 512 (length c / 27) h, le-leb (leastStore (j .settings)) (length s) k)
 
   pub settled : firstCause (resultCauses (lengthsOf a) (isSound a) (machineOf a .log)) ≡ 0 → Settled a
   settled none = record { sound = sound-there a none; lent = long-there a none; formed = encoding-facts .formed j c s }
@@ -71,6 +72,7 @@ module _ (j : JobRecord) (c : List ℕ) (s : List ℤ) where
       wanted-levels = ap (λ q. recordAt (recordsOf c) q .levels) is ∙ sym (levels-is a st (firstWanted (entriesOf a)) there)
 
       pub wanted-within : Within (recordAt (recordsOf c) p .levels)
+      unfolding machineOf
       wanted-within = subst Within (sym wanted-levels) (clauses a st .index (firstWanted (entriesOf a)) there .ceilings)
 
 -- ---- where storage and area do not refuse: what the scan for the first wanted place tells
@@ -96,6 +98,14 @@ module _ (j : JobRecord) (cells : List ℕ) (store : List ℤ) (n : ℕ)
         pub within : Within k
         within = subst Within (sym l) (wanted-within j cells store st p log-wanted h)
 
-        pub size-is : (x : ℕ) → x ≡ blockSize k → x ≡ blockSize (wantedIndex (machineOf (areaOf j cells store) .log .entries))
+        levels-are : k ≡ wantedIndex (machineOf (areaOf j cells store) .log .entries)
         unfolding machineOf
-        size-is x f = f ∙ ap blockSize (l ∙ wanted-levels j cells store st p log-wanted h)
+        levels-are = l ∙ wanted-levels j cells store st p log-wanted h
+
+        pub size-is : (x : ℕ) → x ≡ blockSize k → x ≡ blockSize (wantedIndex (machineOf (areaOf j cells store) .log .entries))
+        size-is x f = f ∙ ap blockSize levels-are
+
+        pub count-is : (x : ℕ) → x ≡ readingCount (j .settings) k
+            → x ≡ readingCount (machineOf (areaOf j cells store) .log .settings) (wantedIndex (machineOf (areaOf j cells store) .log .entries))
+        unfolding machineOf
+        count-is x f = f ∙ ap (readingCount (j .settings)) levels-are

@@ -1,12 +1,15 @@
 -- The first cause of a list, test by test.
 -- Assumes nothing.
 use mathlib.Core.Path.{_≡_, refl}
-use mathlib.Core.Bool.{Bool, true, false, not, _&&_}
+use mathlib.Core.Bool.{Bool, true, false}
 use mathlib.Core.List.{List, [], _∷_}
 use Prim.Native.Nat.{ℕ, _<_, _≤_}
 use native.Mathlib.Omega.{arith}
 use borrow.Author.Tests.{le-leb, lt-leb}
-use lib.Dec.{leb}
+use Rattle.soundness.proofs.Exactly.{refuted}
+use Rattle.soundness.proofs.Settings.{reads-axes, reads-budget}
+use Rattle.area.specs.declared.Settings.{Settings}
+use Rattle.area.specs.Settings.{axesFit, budgetFit, leastStore}
 use Rattle.machine.specs.Causes.{Cause, cause, firstCause, Lengths, short}
 
 pub hit : (t : Bool) (n : ℕ) (cs : List Cause) → t ≡ true → firstCause (cause t n ∷ cs) ≡ n
@@ -45,25 +48,22 @@ passing true u rest e = absurd (omega (arith, e))
 passing false true rest e = absurd (omega (arith, e))
 passing false false rest e = refl
 
--- a test for a range that fails
-pub out-low : (n b : ℕ) → n < 1 → not (leb 1 n && leb n b) ≡ true
-out-low n b h = rw (lt-leb 1 n h)
+-- a number out of its range
+pub axes-out : (g : Settings) → (1 ≤ g .axes → g .axes ≤ 8 → ⊥) → axesFit g ≡ false
+axes-out g n = refuted (axesFit g) (reads-axes g) (λ x. n (x .0) (x .1))
 
-pub out-high : (n b : ℕ) → 1 ≤ n → b < n → not (leb 1 n && leb n b) ≡ true
-out-high n b l h = rw (le-leb 1 n l, lt-leb n b h)
-
-pub inside : (n b : ℕ) → 1 ≤ n → n ≤ b → not (leb 1 n && leb n b) ≡ false
-inside n b l h = rw (le-leb 1 n l, le-leb n b h)
+pub budget-out : (g : Settings) → (1 ≤ g .budget → g .budget ≤ 8192 → ⊥) → budgetFit g ≡ false
+budget-out g n = refuted (budgetFit g) (reads-budget g) (λ x. n (x .0) (x .1))
 
 -- lent storage
-pub few-records : (z : Lengths) (b : ℕ) → z .records < 512 → short z b ≡ true
+pub few-records : (z : Lengths) (g : Settings) → z .records < 512 → short z g ≡ true
 unfolding short
-few-records z b h = rw (lt-leb 512 (z .records) h)
+few-records z g h = rw (lt-leb 512 (z .records) h)
 
-pub few-readings : (z : Lengths) (b : ℕ) → 512 ≤ z .records → z .readings < b → short z b ≡ true
+pub few-readings : (z : Lengths) (g : Settings) → 512 ≤ z .records → z .readings < leastStore g → short z g ≡ true
 unfolding short
-few-readings z b l h = rw (le-leb 512 (z .records) l, lt-leb b (z .readings) h)
+few-readings z g l h = rw (le-leb 512 (z .records) l, lt-leb (leastStore g) (z .readings) h)
 
-pub enough : (z : Lengths) (b : ℕ) → 512 ≤ z .records → b ≤ z .readings → short z b ≡ false
+pub enough : (z : Lengths) (g : Settings) → 512 ≤ z .records → leastStore g ≤ z .readings → short z g ≡ false
 unfolding short
-enough z b l h = rw (le-leb 512 (z .records) l, le-leb b (z .readings) h)
+enough z g l h = rw (le-leb 512 (z .records) l, le-leb (leastStore g) (z .readings) h)

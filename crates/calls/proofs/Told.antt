@@ -5,14 +5,13 @@ use mathlib.Core.Path.{_≡_, refl, sym, _∙_, subst}
 use Prim.Native.Nat.{ℕ}
 use native.Mathlib.Omega.{arith}
 use lib.IntN.{ℤ}
-use Rattle.area.specs.Encoding.{Area, entriesOf}
+use Rattle.area.specs.Encoding.{Area, entriesOf, machineOf}
 use Rattle.soundness.specs.Sound.{Sound}
 use Rattle.soundness.specs.Clauses.{isSound}
 use Rattle.encoding.proofs.Facts.{encoding-facts}
-use Rattle.machine.specs.Log.{machineOf}
 use Rattle.machine.specs.Causes.{firstCause, resultCauses}
 use Rattle.machine.specs.Counts.{Counts, countsOf}
-use Rattle.machine.specs.Facts.{SoundMachine}
+use Rattle.encoding.specs.Entries.{SoundMachine}
 use Rattle.machine.specs.Means.{meanOf, crossOf}
 use Rattle.machine.proofs.Means.{mean-facts}
 use Rattle.calls.specs.Replies.{counts, total, lengthsOf}
@@ -23,8 +22,7 @@ use Rattle.calls.proofs.Ways.{result-ways, cross-ways}
 module _ (a : Area) where
   module _ (none : firstCause (resultCauses (lengthsOf a) (isSound a) (machineOf a .log)) ≡ 0) where
     clauses-there : SoundMachine (machineOf a)
-    unfolding machineOf
-    clauses-there = encoding-facts .entries a (sound-there a none) (long-there a none .store)
+    clauses-there = encoding-facts .clauses a (sound-there a none) (long-there a none .store)
 
     crossed : crossOf (entriesOf a) ≡ meanOf (entriesOf a)
     unfolding machineOf
@@ -40,7 +38,7 @@ module _ (a : Area) where
 
   recorded : Sound a → Recorded (countsOf (machineOf a))
   unfolding countsOf machineOf
-  recorded s = (sym (s .reserved), sym (s .pending), refl)
+  recorded s = (sym (s .numbers .reserved), sym (s .numbers .pending), refl)
 
   pub result-recorded : (c : Counts) → resultCall a ≡ counts c → Recorded c
   result-recorded c =

@@ -9,10 +9,11 @@ use borrow.Author.Tests.{eqb-true, eqb-false}
 use lib.Dec.{eqb}
 use lib.IntN.{ℤ}
 use lib.ListN.{length, take, drop}
+use Rattle.area.specs.declared.Settings.{Settings}
 use Rattle.grid.specs.Block.{pointOf}
-use Rattle.area.specs.Encoding.{Area, entriesOf}
+use Rattle.area.specs.Encoding.{Area, entriesOf, machineOf}
 use Rattle.soundness.specs.Clauses.{isSound}
-use Rattle.machine.specs.Log.{machineOf, wantedIndex}
+use Rattle.machine.specs.Log.{wantedIndex}
 use Rattle.machine.specs.Causes.{firstCause, startCauses, pointCauses, deliverCauses, promoteCauses, resultCauses}
 use Rattle.machine.specs.Counts.{countsOf}
 use Rattle.machine.specs.Means.{crossOf}
@@ -28,8 +29,8 @@ by-cause P n x y f g = step (eqb n 0) refl
     step false e = g (eqb-false n 0 e)
 
 module _ (a : Area) where
-  abbrev startCause : ℕ → ℕ → ℕ
-  startCause d b = firstCause (startCauses (lengthsOf a) d b)
+  abbrev startCause : Settings → ℕ
+  startCause g = firstCause (startCauses (lengthsOf a) g)
 
   abbrev pointCause : ℕ → List ℕ → ℕ
   pointCause m buffer = firstCause (pointCauses (lengthsOf a) (isSound a) (machineOf a .log) m (length buffer))
@@ -44,10 +45,10 @@ module _ (a : Area) where
   resultCause = firstCause (resultCauses (lengthsOf a) (isSound a) (machineOf a .log))
 
 module _ (P : Called → Type 0) (a : Area) where
-  pub start-ways : (d t b : ℕ) → (startCause a d b ≡ 0 → P (record { reply = accepted; area = startOn a d t b }))
-      → ((startCause a d b ≡ 0 → ⊥) → P (record { reply = refused (startCause a d b); area = a })) → P (startCall a d t b)
+  pub start-ways : (g : Settings) → (startCause a g ≡ 0 → P (record { reply = accepted; area = startOn a g }))
+      → ((startCause a g ≡ 0 → ⊥) → P (record { reply = refused (startCause a g); area = a })) → P (startCall a g)
   unfolding startCall unless
-  start-ways d t b = by-cause P (startCause a d b) _ _
+  start-ways g = by-cause P (startCause a g) _ _
 
   pub deliver-ways : (rs : List ℤ) (i : ℕ) → (deliverCause a rs ≡ 0 → P (record { reply = accepted; area = deliverOn a rs i }))
       → ((deliverCause a rs ≡ 0 → ⊥) → P (record { reply = refused (deliverCause a rs); area = a })) → P (deliverCall a rs i)
@@ -61,7 +62,7 @@ module _ (P : Called → Type 0) (a : Area) where
 
 pub point-ways : (P : Pointed → Type 0) (a : Area) (m : ℕ) (buffer : List ℕ)
     → (pointCause a m buffer ≡ 0
-    → P (record { reply = accepted; buffer = take (a .job .axes) (pointOf (wantedIndex (entriesOf a)) m) ++ drop (a .job .axes) buffer }))
+    → P (record { reply = accepted; buffer = take (a .job .settings .axes) (pointOf (wantedIndex (entriesOf a)) m) ++ drop (a .job .settings .axes) buffer }))
     → ((pointCause a m buffer ≡ 0 → ⊥) → P (record { reply = refused (pointCause a m buffer); buffer = buffer })) → P (pointCall a m buffer)
 unfolding pointCall
 point-ways P a m buffer = by-cause P (pointCause a m buffer) _ _

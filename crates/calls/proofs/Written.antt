@@ -7,19 +7,20 @@ use Prim.Native.Nat.{ℕ, _+_, _<_, _≤_}
 use native.Mathlib.Omega.{arith}
 use lib.ListN.{length, drop, length-append}
 use lib.Seq.{take-at, drop-at}
+use Rattle.area.specs.Settings.{leastStore}
 use Rattle.sums.specs.Lists.{tab}
 use Rattle.sums.proofs.Lists.{length-tab}
 use Rattle.grid.specs.Index.{forward, backward}
 use Rattle.area.specs.declared.IndexRecord.{IndexRecord}
 use Rattle.area.specs.Entry.{Entry, indicesOf}
-use Rattle.area.specs.Encoding.{Area, heldOf, placeOf, linksOf, encoded, recordsFor, runWith, jobWith}
+use Rattle.area.specs.Encoding.{Area, heldOf, placeOf, linksOf, encoded, recordsFor, runWith, jobWith, machineOf, written}
 use Rattle.encoding.specs.Entries.{entryAt}
 use Rattle.encoding.specs.Encodes.{Formed}
 use Rattle.encoding.proofs.Places.{record-at, records-length}
-use Rattle.machine.specs.Log.{Machine, machineOf, written, withEntries}
-use Rattle.machine.specs.Facts.{SoundMachine}
+use Rattle.area.specs.Log.{Machine}
+use Rattle.encoding.specs.Entries.{SoundMachine}
 use Rattle.writing.specs.Settled.{Settled}
-use Rattle.writing.proofs.After.{written-sound, written-long, written-entries}
+use Rattle.writing.proofs.After.{written-sound, written-long, written-machine}
 use Rattle.calls.specs.Replies.{lengthsOf}
 use Rattle.calls.specs.Facts.{PastUnchanged}
 
@@ -33,34 +34,33 @@ module _ (a : Area) (m : Machine) where
   abbrev es : List Entry
   es = m .log .entries
 
-  held-records : heldOf (written a m) ≡ recordsFor es
+  held-records : heldOf (written a m) ≡ recordsFor (m .log .settings) es
   unfolding written jobWith runWith
-  held-records = take-at (recordsFor es) (drop (length es) (a .run .records)) (length es) (records-length es)
+  held-records = take-at (recordsFor (m .log .settings) es) (drop (length es) (a .run .records)) (length es) (records-length (m .log .settings) es)
 
   pub written-past : PastUnchanged a (written a m)
   unfolding written jobWith runWith
   written-past =
       record {
-        records = drop-at (recordsFor es) (drop (length es) (a .run .records)) (length es) (records-length es);
+        records = drop-at (recordsFor (m .log .settings) es) (drop (length es) (a .run .records)) (length es) (records-length (m .log .settings) es);
         rest = refl;
       }
 
   module _ (v : SoundMachine m) where
-    pub formed-records : Formed (recordsFor es)
+    pub formed-records : Formed (recordsFor (m .log .settings) es)
     unfolding encoded
     formed-records p h =
-        let l : p < length es = omega (arith, h, records-length es) in (
-          ap (λ (r : IndexRecord). length (r .levels)) (record-at es p l) ∙ v .index p l .eight,
-          ap (λ (r : IndexRecord). length (r .links)) (record-at es p l) ∙ links-length (indicesOf es) (entryAt es p .levels),
+        let l : p < length es = omega (arith, h, records-length (m .log .settings) es) in (
+          ap (λ (r : IndexRecord). length (r .levels)) (record-at (m .log .settings) es p l) ∙ v .index p l .eight,
+          ap (λ (r : IndexRecord). length (r .links)) (record-at (m .log .settings) es p l) ∙ links-length (indicesOf es) (entryAt es p .levels),
         )
 
-    pub written-settled : 512 ≤ length (a .run .records) → m .log .budget ≤ length (a .store) → Settled (written a m)
+    pub written-settled : 512 ≤ length (a .run .records) → leastStore (m .log .settings) ≤ length (a .store) → Settled (written a m)
     written-settled long room =
         record { sound = written-sound a m v; lent = written-long a m v long room; formed = subst Formed (sym held-records) formed-records }
 
     pub written-state : machineOf (written a m) ≡ m
-    unfolding machineOf written jobWith
-    written-state = ap {B = Machine} (λ x. record { log = withEntries (m .log) x; mean = m .mean }) (written-entries a m v)
+    written-state = written-machine a m v
 
 -- the lengths of two areas
 pub same-lengths : (a b : Area) → length (b .run .records) ≡ length (a .run .records) → length (b .store) ≡ length (a .store) → lengthsOf b ≡ lengthsOf a

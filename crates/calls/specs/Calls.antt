@@ -7,9 +7,10 @@ use lib.Dec.{eqb}
 use lib.IntN.{ℤ}
 use lib.ListN.{length, take, drop}
 use Rattle.grid.specs.Block.{pointOf}
-use Rattle.area.specs.Encoding.{Area, entriesOf}
+use Rattle.area.specs.declared.Settings.{Settings}
+use Rattle.area.specs.Encoding.{Area, entriesOf, machineOf}
 use Rattle.soundness.specs.Clauses.{isSound}
-use Rattle.machine.specs.Log.{machineOf, wantedIndex}
+use Rattle.machine.specs.Log.{wantedIndex}
 use Rattle.machine.specs.Causes.{firstCause, startCauses, pointCauses, deliverCauses, promoteCauses, resultCauses}
 use Rattle.machine.specs.Areas.{startOn, deliverOn, promoteOn}
 use Rattle.machine.specs.Counts.{countsOf}
@@ -18,8 +19,8 @@ use Rattle.calls.specs.Replies.{Reply, refused, accepted, promotion, cou
 
 -- Why a call is refused: the number of the first cause that applies, 0 if none does. Result and cross total ask for storage and area
 -- alone.
-abbrev pub startCause : Area → (axes budget : ℕ) → ℕ
-startCause a d b = firstCause (startCauses (lengthsOf a) d b)
+abbrev pub startCause : Area → Settings → ℕ
+startCause a g = firstCause (startCauses (lengthsOf a) g)
 
 abbrev pub pointCause : Area → (n room : ℕ) → ℕ
 pointCause a n w = firstCause (pointCauses (lengthsOf a) (isSound a) (machineOf a .log) n w)
@@ -38,14 +39,14 @@ unfoldable pub unless : ℕ → Area → Called → Called
 unless n a accept = cond (eqb n 0) accept (record { reply = refused n; area = a })
 
 -- **Start** doesn't read the old area.
-unfoldable pub startCall : Area → (axes threshold budget : ℕ) → Called
-startCall a d t b = unless (startCause a d b) a (record { reply = accepted; area = startOn a d t b })
+unfoldable pub startCall : Area → Settings → Called
+startCall a g = unless (startCause a g) a (record { reply = accepted; area = startOn a g })
 
 -- **Point** writes the d positions of the n-th point of the first wanted block into the buffer, later bytes untouched.
 unfoldable pub pointCall : Area → ℕ → List ℕ → Pointed
 pointCall a n buffer =
     cond (eqb (pointCause a n (length buffer)) 0)
-    (record { reply = accepted; buffer = take (a .job .axes) (pointOf (wantedIndex (entriesOf a)) n) ++ drop (a .job .axes) buffer })
+    (record { reply = accepted; buffer = take (a .job .settings .axes) (pointOf (wantedIndex (entriesOf a)) n) ++ drop (a .job .settings .axes) buffer })
     (record { reply = refused (pointCause a n (length buffer)); buffer = buffer })
 
 -- **Deliver** takes the first wanted block's readings and an indicator.

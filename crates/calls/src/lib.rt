@@ -41,26 +41,26 @@ fn in_range(readings: &[i32]) -> bool
     checking::readings_fit(0, readings.len(), readings)
 }
 
-// Why start is refused; 0 if it isn't.
-fn start_cause(axes: u32, budget: u32, records: usize, readings: usize) -> u32
-    ensures { λ r. ⌜ r ≡ firstCause (startCauses (record { records = records; readings = readings }) axes budget) ⌝ }
+// Why start is refused, in lent storage of so many records and readings; 0 if it isn't.
+pub fn start_cause(settings: area::Settings, records: usize, readings: usize) -> u32
+    ensures { λ r. ⌜ r ≡ firstCause (startCauses (record { records = records; readings = readings }) settings) ⌝ }
 {
-    if axes < 1 {
+    if settings.axes < 1 {
         return 1;
     }
-    if 8 < axes {
+    if 8 < settings.axes {
         return 1;
     }
-    if budget < 1 {
+    if settings.budget < 1 {
         return 2;
     }
-    if 8192 < budget {
+    if 8192 < settings.budget {
         return 2;
     }
     if records < 512 {
         return 3;
     }
-    if readings < budget as usize {
+    if readings < area::least_store(settings) {
         return 3;
     }
     0
@@ -73,8 +73,8 @@ fn area_cause(job: area::JobRecord, cells: &[u32], store: &[i32]) -> u32
     if cells.len() / 27 < 512 {
         return 3;
     }
-    let budget = job.budget as usize;
-    if store.len() < budget {
+    let settings = job.settings;
+    if store.len() < area::least_store(settings) {
         return 3;
     }
     if !checking::check(job, cells, store) {
@@ -87,7 +87,7 @@ fn area_cause(job: area::JobRecord, cells: &[u32], store: &[i32]) -> u32
 fn point_cause(job: area::JobRecord, n: usize, room: usize, cells: &[u32], store: &[i32]) -> u32
     ensures { λ r. ⌜ r ≡ pointCause (areaOf job (now (cells .entry)) (now (store .entry))) n room ⌝ }
 {
-    let axes = job.axes as usize;
+    let axes = job.settings.axes as usize;
     if room < axes {
         return 3;
     }
@@ -120,8 +120,9 @@ fn deliver_cause(job: area::JobRecord, readings: &[i32], cells: &[u32], store: &
     if held <= place {
         return 5;
     }
-    let size = grid::block_size(area::levels_at(cells, place));
-    if readings.len() != size {
+    let settings = job.settings;
+    let count = area::reading_count(settings, area::levels_at(cells, place));
+    if readings.len() != count {
         return 7;
     }
     if !in_range(readings) {
@@ -148,22 +149,20 @@ fn promote_cause(job: area::JobRecord, cells: &[u32], store: &[i32]) -> u32
 // Starts a job. The old job record is taken only to hand it back on refusal.
 pub fn start(
     job: area::JobRecord,
-    axes: u32,
-    threshold: u64,
-    budget: u32,
+    settings: area::Settings,
     cells: &mut [u32],
     store: &[i32],
 ) -> Answered
-    ensures { λ r. ⌜ calledOf r (now (cells .exit)) (now (store .entry)) ≡ startCall (areaOf job (now (cells .entry)) (now (store .entry))) axes threshold budget ⌝ }
+    ensures { λ r. ⌜ calledOf r (now (cells .exit)) (now (store .entry)) ≡ startCall (areaOf job (now (cells .entry)) (now (store .entry))) settings ⌝ }
 {
-    let cause = start_cause(axes, budget, cells.len() / 27, store.len());
+    let cause = start_cause(settings, cells.len() / 27, store.len());
     if cause != 0 {
         return Answered {
             answer: Answer::Refused(cause),
             job,
         };
     }
-    let started = delivery::start(axes, threshold, budget, cells);
+    let started = delivery::start(settings, cells);
     Answered {
         answer: Answer::Accepted,
         job: started,
@@ -184,7 +183,7 @@ pub fn point(
     if cause != 0 {
         return Answer::Refused(cause);
     }
-    let axes = job.axes as usize;
+    let axes = job.settings.axes as usize;
     let place = delivery::first_wanted(job.held as usize, cells);
     delivery::point(axes, place, n, cells, buffer);
     Answer::Accepted

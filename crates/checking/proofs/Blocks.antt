@@ -16,10 +16,12 @@ use Rattle.sums.proofs.Sizes.{natSumTo-suc}
 use Rattle.grid.specs.Index.{Within}
 use Rattle.grid.proofs.Levels.{and-left, and-right}
 use Rattle.area.specs.declared.IndexRecord.{IndexRecord}
+use Rattle.area.specs.declared.Settings.{Settings}
+use Rattle.area.specs.Settings.{readingsFor, leastStore}
 use Rattle.area.specs.Records.{recordsOf}
 use Rattle.area.proofs.Records.{length-recordsOf, eight-levels}
 use Rattle.quadrature.specs.Readings.{recordAt}
-use Rattle.soundness.specs.Held.{levelsAt, stateAt, sizeAt}
+use Rattle.soundness.specs.Held.{levelsAt, stateAt, countAt}
 use Rattle.soundness.specs.Test.{allFrom, placesTest}
 use Rattle.soundness.specs.Totals.{wantedTest, readingTest, blockTest, blocksTest}
 use Rattle.soundness.proofs.Tests.{reads-places}
@@ -47,43 +49,43 @@ module _ (rs : List IndexRecord) (p : ℕ) where
     one-after e h = rw (eq-eqb (stateAt rs p) 0 wanted, eq-eqb (recordAt rs p .indicator) 0 e, lt-ltb (p + 1) (length rs) h)
 
   -- ---- blocks
-  module _ (b : ℕ) (s : List ℤ) where
+  module _ (g : Settings) (s : List ℤ) where
     abbrev from : ℕ
-    from = natSumTo p (sizeAt rs)
+    from = natSumTo p (countAt g rs)
 
-    pub elsewhere : recordAt rs p .first ≢ from → blockTest b rs s p ≡ false
+    pub elsewhere : recordAt rs p .first ≢ from → blockTest g rs s p ≡ false
     unfolding blockTest
     elsewhere n = rw (ne-eqb (recordAt rs p .first) from n)
 
     module _ (begins : recordAt rs p .first ≡ from) where
-      pub too-far : b < from + sizeAt rs p → blockTest b rs s p ≡ false
+      pub too-far : leastStore g < from + countAt g rs p → blockTest g rs s p ≡ false
       unfolding blockTest
-      too-far h = rw (eq-eqb (recordAt rs p .first) from begins, lt-leb (from + sizeAt rs p) b h)
+      too-far h = rw (eq-eqb (recordAt rs p .first) from begins, lt-leb (from + countAt g rs p) (leastStore g) h)
 
-      module _ (ends : from + sizeAt rs p ≤ b) where
-        pub not-read : stateAt rs p ≡ 0 → blockTest b rs s p ≡ true
+      module _ (ends : from + countAt g rs p ≤ leastStore g) where
+        pub not-read : stateAt rs p ≡ 0 → blockTest g rs s p ≡ true
         unfolding blockTest
-        not-read e = rw (eq-eqb (recordAt rs p .first) from begins, le-leb (from + sizeAt rs p) b ends, eq-eqb (stateAt rs p) 0 e)
+        not-read e = rw (eq-eqb (recordAt rs p .first) from begins, le-leb (from + countAt g rs p) (leastStore g) ends, eq-eqb (stateAt rs p) 0 e)
 
-        pub by-readings : stateAt rs p ≢ 0 → blockTest b rs s p ≡ allFrom (sizeAt rs p) from (readingTest s)
+        pub by-readings : stateAt rs p ≢ 0 → blockTest g rs s p ≡ allFrom (countAt g rs p) from (readingTest s)
         unfolding blockTest
-        by-readings n = rw (eq-eqb (recordAt rs p .first) from begins, le-leb (from + sizeAt rs p) b ends, ne-eqb (stateAt rs p) 0 n)
+        by-readings n = rw (eq-eqb (recordAt rs p .first) from begins, le-leb (from + countAt g rs p) (leastStore g) ends, ne-eqb (stateAt rs p) 0 n)
 
-    pub ends-within : blockTest b rs s p ≡ true → from + sizeAt rs p ≤ b
+    pub ends-within : blockTest g rs s p ≡ true → from + countAt g rs p ≤ leastStore g
     unfolding blockTest
-    ends-within e = leb-true (from + sizeAt rs p) b (and-left _ _ (and-right (eqb (recordAt rs p .first) from) _ e))
+    ends-within e = leb-true (from + countAt g rs p) (leastStore g) (and-left _ _ (and-right (eqb (recordAt rs p .first) from) _ e))
 
 -- ---- all blocks
-module _ (r b : ℕ) (rs : List IndexRecord) (s : List ℤ) where
-  pub one-bad : allFrom (length rs) 0 (blockTest b rs s) ≡ false → blocksTest r b rs s ≡ false
+module _ (g : Settings) (r : ℕ) (rs : List IndexRecord) (s : List ℤ) where
+  pub one-bad : allFrom (length rs) 0 (blockTest g rs s) ≡ false → blocksTest g r rs s ≡ false
   unfolding blocksTest
   one-bad e = rw e
 
-  pub by-sum : allFrom (length rs) 0 (blockTest b rs s) ≡ true → blocksTest r b rs s ≡ eqb (natSumTo (length rs) (sizeAt rs)) r
+  pub by-sum : allFrom (length rs) 0 (blockTest g rs s) ≡ true → blocksTest g r rs s ≡ eqb (natSumTo (length rs) (countAt g rs)) (readingsFor g r)
   unfolding blocksTest
   by-sum e = rw e
 
 -- ---- the first pass has tested the levels
 pub tested-levels : (d : ℕ) (c : List ℕ) → d ≤ 8 → placesTest d (recordsOf c) ≡ true → (p : ℕ) → p < length (recordsOf c) → Within (levelsAt (recordsOf c) p)
 tested-levels d c few e p h =
-    reads-places d (recordsOf c) 0 (λ q l. eight-levels c q (omega (arith, length-recordsOf c))) few .sure e p h .index .ceilings
+    reads-places d (recordsOf c) few (λ q l. eight-levels c q (omega (arith, length-recordsOf c))) .sure e p h .index .ceilings

@@ -52,7 +52,7 @@ module _ (d : ℕ) (c : List ℕ) (few : d ≤ 8) (passed : placesTest d (record
   held = recordsOf c
 
   pub placed : (p : ℕ) → p < length held → Place d held p
-  placed = reads-places d held 0 (formed c) few .sure passed
+  placed = reads-places d held few (formed c) .sure passed
 
   pub place-index : (p : ℕ) → p < length held → Index d (levelsAt held p)
   place-index p h = placed p h .index

@@ -41,26 +41,26 @@ unfolding deliveredCount
 count-small rs = each-one (length rs) (λ p. cond (eqb (stateAt rs p) 0) 0 1) (λ p. at-most-one (eqb (stateAt rs p) 0))
 
 module _ (j : JobRecord) (rs : List IndexRecord) (s : List ℤ) where
-  pub held-no-place : placesTest (j .axes) rs ≡ false → heldTest j rs s ≡ false
+  pub held-no-place : placesTest (j .settings .axes) rs ≡ false → heldTest j rs s ≡ false
   unfolding heldTest
   held-no-place e = rw e
 
-  module _ (places : placesTest (j .axes) rs ≡ true) where
-    pub held-not-complete : allCompleteTest (j .axes) rs ≡ false → heldTest j rs s ≡ false
+  module _ (places : placesTest (j .settings .axes) rs ≡ true) where
+    pub held-not-complete : allCompleteTest (j .settings .axes) rs ≡ false → heldTest j rs s ≡ false
     unfolding heldTest
     held-not-complete e = rw (places, e)
 
-    module _ (complete : allCompleteTest (j .axes) rs ≡ true) where
+    module _ (complete : allCompleteTest (j .settings .axes) rs ≡ true) where
       pub held-no-wanted : allWantedTest rs ≡ false → heldTest j rs s ≡ false
       unfolding heldTest
       held-no-wanted e = rw (places, complete, e)
 
       module _ (wanted : allWantedTest rs ≡ true) where
-        pub held-no-blocks : blocksTest (j .reserved) (j .budget) rs s ≡ false → heldTest j rs s ≡ false
+        pub held-no-blocks : blocksTest (j .settings) (j .reserved) rs s ≡ false → heldTest j rs s ≡ false
         unfolding heldTest
         held-no-blocks e = rw (places, complete, wanted, e)
 
-        module _ (blocks : blocksTest (j .reserved) (j .budget) rs s ≡ true) where
+        module _ (blocks : blocksTest (j .settings) (j .reserved) rs s ≡ true) where
           pub held-no-pending : (pendingIn rs ≡ j .pending → ⊥) → heldTest j rs s ≡ false
           unfolding heldTest
           held-no-pending n = rw (places, complete, wanted, blocks, ne-eqb (pendingIn rs) (j .pending) n)

@@ -8,9 +8,10 @@ ghost use lib.IntN.{natAbs};
 ghost use lib.ListN.{length};
 ghost use Rattle.sums.specs.Sums.{natSumTo};
 ghost use Rattle.grid.specs.Index.{level, Within};
+ghost use Rattle.area.specs.Settings.{SettingsFit, settingsFit, leastStore};
 ghost use Rattle.area.specs.Records.{recordsOf};
 ghost use Rattle.area.specs.Encoding.{areaOf};
-ghost use Rattle.soundness.specs.Held.{levelsAt, backwardLink, sizeAt};
+ghost use Rattle.soundness.specs.Held.{levelsAt, backwardLink, countAt};
 ghost use Rattle.soundness.specs.Clauses.{checked};
 ghost use Rattle.soundness.specs.Test.{allFrom, anyFrom, indexTest, rootTest, behindTest, backTest, aheadTest, axisTest, placeTest, placesTest, barsTest, openTest, completeTest, allCompleteTest};
 ghost use Rattle.soundness.specs.Totals.{wantedTest, allWantedTest, readingTest, blockTest, blocksTest, pendingIn, deliveredCount, jobTest, heldTest};
@@ -285,56 +286,55 @@ pub fn readings_fit(first: usize, size: usize, store: &[i32]) -> bool
     true
 }
 
-// Whether the block of a place lies where the blocks before it end, within the budget, its readings in range once delivered.
+// Whether the block of a place lies where the blocks before it end, within the least store, its readings in range once delivered.
 fn block_fits(
-    budget: usize,
+    settings: area::Settings,
     place: usize,
     first: usize,
-    size: usize,
+    count: usize,
     cells: &[u32],
     store: &[i32],
 ) -> bool
-    requires { ⌜ (place < length (recordsOf (now cells))) × (budget ≤ length (now store)) × (budget ≤ 8192) ⌝ }
-    requires { ⌜ (first ≡ natSumTo place (sizeAt (recordsOf (now cells)))) × (first ≤ 8192) ⌝ }
-    requires { ⌜ (size ≡ sizeAt (recordsOf (now cells)) place) × (size ≤ 8192) ⌝ }
-    ensures { λ r. ⌜ r ≡ blockTest budget (recordsOf (now (cells .entry))) (now (store .entry)) place ⌝ }
+    requires { ⌜ (place < length (recordsOf (now cells))) × (leastStore settings ≤ length (now store)) ⌝ }
+    requires { ⌜ (first ≡ natSumTo place (countAt settings (recordsOf (now cells)))) × (first ≤ 8192) ⌝ }
+    requires { ⌜ (count ≡ countAt settings (recordsOf (now cells)) place) × (count ≤ 16384) ⌝ }
+    ensures { λ r. ⌜ r ≡ blockTest settings (recordsOf (now (cells .entry))) (now (store .entry)) place ⌝ }
 {
     if area::first_at(cells, place) as usize != first {
         return false;
     }
-    if budget < first + size {
+    if area::least_store(settings) < first + count {
         return false;
     }
     if area::state_at(cells, place) == area::WANTED {
         return true;
     }
-    readings_fit(first, size, store)
+    readings_fit(first, count, store)
 }
 
-// Whether the blocks follow each other, within the budget, and come to the reserved readings.
+// Whether the blocks follow each other, within the least store, and come to the readings of the reserved points.
 fn blocks_fit(
-    axes: usize,
+    settings: area::Settings,
     held: usize,
     reserved: usize,
-    budget: usize,
     cells: &[u32],
     store: &[i32],
 ) -> bool
-    requires { ⌜ (axes ≤ 8) × (placesTest axes (recordsOf (now cells)) ≡ true) ⌝ }
-    requires { ⌜ (length (recordsOf (now cells)) ≡ held) × (budget ≤ length (now store)) × (budget ≤ 8192) ⌝ }
-    ensures { λ r. ⌜ r ≡ blocksTest reserved budget (recordsOf (now (cells .entry))) (now (store .entry)) ⌝ }
+    requires { ⌜ SettingsFit settings × (placesTest (settings .axes) (recordsOf (now cells)) ≡ true) ⌝ }
+    requires { ⌜ (length (recordsOf (now cells)) ≡ held) × (leastStore settings ≤ length (now store)) ⌝ }
+    ensures { λ r. ⌜ r ≡ blocksTest settings reserved (recordsOf (now (cells .entry))) (now (store .entry)) ⌝ }
 {
     let mut first: usize = 0;
     let mut place: usize = 0;
     while place < held {
-        let size = grid::block_size(area::levels_at(cells, place));
-        if !block_fits(budget, place, first, size, cells, store) {
+        let count = area::reading_count(settings, area::levels_at(cells, place));
+        if !block_fits(settings, place, first, count, cells, store) {
             return false;
         }
-        first += size;
+        first += count;
         place += 1;
     }
-    first == reserved
+    first == area::readings_for(settings, reserved)
 }
 
 // The sum of the active indices' indicators.
@@ -381,26 +381,34 @@ fn mean_fits(count: usize, mean: i64) -> bool
     -bound <= mean
 }
 
+// Whether the settings are in range.
+pub fn settings_fit(settings: area::Settings) -> bool
+    ensures { λ r. ⌜ r ≡ settingsFit settings ⌝ }
+{
+    if settings.axes < 1 {
+        return false;
+    }
+    if 8 < settings.axes {
+        return false;
+    }
+    if settings.budget < 1 {
+        return false;
+    }
+    settings.budget <= 8192
+}
+
 // Whether the numbers of the job record are in range and the lent storage is long enough.
 fn job_fits(job: area::JobRecord, records: usize, readings: usize) -> bool
     ensures { λ r. ⌜ r ≡ jobTest job records readings ⌝ }
 {
+    let settings = job.settings;
     if records < 512 {
         return false;
     }
-    if readings < job.budget as usize {
+    if readings < area::least_store(settings) {
         return false;
     }
-    if job.axes < 1 {
-        return false;
-    }
-    if 8 < job.axes {
-        return false;
-    }
-    if job.budget < 1 {
-        return false;
-    }
-    if 8192 < job.budget {
+    if !settings_fit(settings) {
         return false;
     }
     if job.held < 1 {
@@ -411,11 +419,12 @@ fn job_fits(job: area::JobRecord, records: usize, readings: usize) -> bool
 
 // Whether the held records are sound. The cells are theirs alone.
 fn held_fit(job: area::JobRecord, cells: &[u32], store: &[i32]) -> bool
-    requires { ⌜ (job .axes ≤ 8) × (job .budget ≤ 8192) × (job .held ≤ 512) ⌝ }
-    requires { ⌜ (length (recordsOf (now cells)) ≡ job .held) × (job .budget ≤ length (now store)) ⌝ }
+    requires { ⌜ SettingsFit (job .settings) × (job .held ≤ 512) ⌝ }
+    requires { ⌜ (length (recordsOf (now cells)) ≡ job .held) × (leastStore (job .settings) ≤ length (now store)) ⌝ }
     ensures { λ r. ⌜ r ≡ heldTest job (recordsOf (now (cells .entry))) (now (store .entry)) ⌝ }
 {
-    let axes = job.axes as usize;
+    let settings = job.settings;
+    let axes = settings.axes as usize;
     let held = job.held as usize;
     if !places_fit(axes, held, cells) {
         return false;
@@ -426,14 +435,7 @@ fn held_fit(job: area::JobRecord, cells: &[u32], store: &[i32]) -> bool
     if !all_wanted_fit(held, cells) {
         return false;
     }
-    if !blocks_fit(
-        axes,
-        held,
-        job.reserved as usize,
-        job.budget as usize,
-        cells,
-        store,
-    ) {
+    if !blocks_fit(settings, held, job.reserved as usize, cells, store) {
         return false;
     }
     if pending_sum(held, cells) != job.pending {

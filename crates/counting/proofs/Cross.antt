@@ -18,10 +18,10 @@ use Rattle.machine.specs.Means.{crossOf}
 use Rattle.writing.specs.Settled.{Settled}
 
 module _ (j : JobRecord) (c : List ℕ) (s : List ℤ) (settled : Settled (areaOf j c s)) where
-  pub summable : AllReady (j .axes) (j .held) (recordsOf c) s × Linked (j .axes) (heldIn c (j .held))
+  pub summable : AllReady (j .settings .axes) (j .held) (recordsOf c) s × Linked (j .settings .axes) (heldIn c (j .held))
   unfolding heldIn
   summable = (sound-facts .all-ready (areaOf j c s) (settled .sound) (settled .lent .store), sound-facts .linked (areaOf j c s) (settled .sound))
 
   pub summed : crossTotal (deliveredIn (heldIn c (j .held))) (fetched (recordsOf c) s) ≡ crossOf (entriesOf (areaOf j c s))
   unfolding heldIn crossOf
-  summed = entry-facts j c s .cross (j .axes) (sound-facts .ready (areaOf j c s) (settled .sound) (settled .lent .store))
+  summed = entry-facts j c s .cross (j .settings .axes) (sound-facts .ready (areaOf j c s) (settled .sound) (settled .lent .store))

@@ -1,24 +1,22 @@
--- Counts over the held records, and over the axes of an index.
+-- Counts over the held records.
 -- The idea: what is counted so far and what is still to be counted are the whole.
 -- Assumes nothing.
 use mathlib.Core.Path.{_≡_}
 use mathlib.Core.Logic.{_≢_}
-use mathlib.Core.Bool.{true, false}
 use mathlib.Core.List.{List, _∷_}
 use Prim.Native.Nat.{ℕ, _+_, _*_, _<_, _≤_}
-use native.Mathlib.Nat.{add-zero, zero-add}
+use native.Mathlib.Nat.{zero-add}
 use native.Mathlib.Numerals.{add-one}
 use native.Mathlib.Omega.{arith}
 use lib.ListN.{length, drop, drop-of-length-le}
 use lib.Seq.{drop-cons}
 use borrow.Author.Tests.{eq-eqb, ne-eqb}
-use Rattle.grid.specs.Index.{within, forward}
+use Rattle.grid.specs.Index.{cappedAxes}
 use Rattle.area.specs.Records.{recordsOf, blank, heldIn}
-use Rattle.area.specs.Encoding.{entryOf}
 use Rattle.quadrature.specs.Readings.{recordAt}
 use Rattle.quadrature.proofs.Held.{held-length, held-record}
-use Rattle.machine.specs.Counts.{countOf, cappedAxes, ceilingCount}
-use Rattle.writing.specs.Heads.{headsOf}
+use Rattle.machine.specs.Counts.{countOf, ceilingCount}
+use Rattle.writing.specs.Heads.{headOf, headsOf}
 
 module _ (c : List ℕ) (n p : ℕ) (room : n * 27 ≤ length c) where
   -- the first of the records left
@@ -33,11 +31,11 @@ module _ (c : List ℕ) (n p : ℕ) (room : n * 27 ≤ length c) where
   -- records with a state
   module _ (s : ℕ) where
     pub count-one : p < n → recordAt (recordsOf c) p .state ≡ s → countOf s (headsOf (drop p (heldIn c n))) ≡ 1 + countOf s (headsOf (drop (p + 1) (heldIn c n)))
-    unfolding countOf headsOf entryOf
+    unfolding countOf headsOf headOf
     count-one h e = rw (held-left h, eq-eqb (recordAt (recordsOf c) p .state) s e)
 
     pub count-none : p < n → recordAt (recordsOf c) p .state ≢ s → countOf s (headsOf (drop p (heldIn c n))) ≡ countOf s (headsOf (drop (p + 1) (heldIn c n)))
-    unfolding countOf headsOf entryOf
+    unfolding countOf headsOf headOf
     count-none h e = rw (held-left h, ne-eqb (recordAt (recordsOf c) p .state) s e) (zero-add _)
 
     pub count-end : n ≤ p → countOf s (headsOf (drop p (heldIn c n))) ≡ 0
@@ -48,24 +46,14 @@ module _ (c : List ℕ) (n p : ℕ) (room : n * 27 ≤ length c) where
   module _ (d : ℕ) where
     pub ceiling-old : p < n → recordAt (recordsOf c) p .state ≡ 2
         → ceilingCount d (headsOf (drop p (heldIn c n))) ≡ cappedAxes d (recordAt (recordsOf c) p .levels) + ceilingCount d (headsOf (drop (p + 1) (heldIn c n)))
-    unfolding ceilingCount headsOf entryOf
+    unfolding ceilingCount headsOf headOf
     ceiling-old h e = rw (held-left h, eq-eqb (recordAt (recordsOf c) p .state) 2 e)
 
     pub ceiling-other : p < n → recordAt (recordsOf c) p .state ≢ 2
         → ceilingCount d (headsOf (drop p (heldIn c n))) ≡ ceilingCount d (headsOf (drop (p + 1) (heldIn c n)))
-    unfolding ceilingCount headsOf entryOf
+    unfolding ceilingCount headsOf headOf
     ceiling-other h e = rw (held-left h, ne-eqb (recordAt (recordsOf c) p .state) 2 e) (zero-add _)
 
     pub ceiling-end : n ≤ p → ceilingCount d (headsOf (drop p (heldIn c n))) ≡ 0
     unfolding ceilingCount headsOf
     ceiling-end h = rw (drop-of-length-le (heldIn c n) (none-left h))
-
--- one more axis
-module _ (k : List ℕ) (a : ℕ) where
-  pub capped-more : within (forward k a) ≡ false → cappedAxes (a + 1) k ≡ cappedAxes a k + 1
-  unfolding cappedAxes
-  capped-more e = rw (add-one a, e)
-
-  pub capped-same : within (forward k a) ≡ true → cappedAxes (a + 1) k ≡ cappedAxes a k
-  unfolding cappedAxes
-  capped-same e = rw (add-one a, e) (add-zero _)

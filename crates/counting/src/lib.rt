@@ -5,9 +5,8 @@ ghost use lib.ListN.{length};
 ghost use Rattle.grid.specs.Index.{Within};
 ghost use Rattle.area.specs.Records.{heldIn};
 ghost use Rattle.quadrature.specs.Readings.{recordAt};
-ghost use Rattle.area.specs.Encoding.{areaOf, entriesOf};
-ghost use Rattle.machine.specs.Log.{machineOf};
-ghost use Rattle.machine.specs.Counts.{countOf, cappedAxes, ceilingCount, countsOf};
+ghost use Rattle.area.specs.Encoding.{areaOf, entriesOf, machineOf};
+ghost use Rattle.machine.specs.Counts.{countOf, ceilingCount, countsOf};
 ghost use Rattle.machine.specs.Means.{crossOf};
 ghost use Rattle.writing.specs.Heads.{headsOf};
 ghost use Rattle.writing.specs.Settled.{Settled};
@@ -39,25 +38,6 @@ fn state_count(held: usize, state: u32, cells: &[u32]) -> u32
     count
 }
 
-// Along how many axes the forward neighbour of an index passes a ceiling: along all if its excess is 12, else where its level is 8.
-fn capped_axes(axes: usize, levels: [u32; 8]) -> u32
-    requires { ⌜ (axes ≤ 8) × Within levels ⌝ }
-    ensures { λ r. ⌜ (r ≡ cappedAxes axes levels) × (r ≤ 8) ⌝ }
-{
-    if 12 <= grid::excess_of(levels) {
-        return axes as u32;
-    }
-    let mut count: u32 = 0;
-    let mut axis: usize = 0;
-    while axis < axes {
-        if 8 <= levels[axis] {
-            count += 1;
-        }
-        axis += 1;
-    }
-    count
-}
-
 // The number of pairs of an old index and an axis whose forward neighbour passes a ceiling.
 fn ceiling_count(axes: usize, held: usize, cells: &[u32]) -> u32
     requires { ⌜ (held * 27 ≤ length (now cells)) × (held ≤ 512) × (axes ≤ 8) ⌝ }
@@ -68,7 +48,7 @@ fn ceiling_count(axes: usize, held: usize, cells: &[u32]) -> u32
     let mut place: usize = 0;
     while place < held {
         if area::state_at(cells, place) == area::OLD {
-            count += capped_axes(axes, area::levels_at(cells, place));
+            count += grid::capped_axes(axes, area::levels_at(cells, place));
         }
         place += 1;
     }
@@ -80,7 +60,7 @@ pub fn result(job: area::JobRecord, cells: &[u32], store: &[i32]) -> Counts
     requires { ⌜ Settled (areaOf job (now cells) (now store)) ⌝ }
     ensures { λ r. ⌜ countsIn r ≡ countsOf (machineOf (areaOf job (now (cells .entry)) (now (store .entry)))) ⌝ }
 {
-    let axes = job.axes as usize;
+    let axes = job.settings.axes as usize;
     let held = job.held as usize;
     let old = state_count(held, area::OLD, cells);
     let active = state_count(held, area::ACTIVE, cells);
@@ -102,5 +82,5 @@ pub fn cross_total(job: area::JobRecord, cells: &[u32], store: &[i32]) -> i64
     requires { ⌜ Settled (areaOf job (now cells) (now store)) ⌝ }
     ensures { λ r. ⌜ r ≡ crossOf (entriesOf (areaOf job (now (cells .entry)) (now (store .entry)))) ⌝ }
 {
-    quadrature::combination_sum(job.axes as usize, job.held as usize, cells, store)
+    quadrature::combination_sum(job.settings.axes as usize, job.held as usize, cells, store)
 }

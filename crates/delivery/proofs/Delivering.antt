@@ -10,14 +10,15 @@ use native.Mathlib.Omega.{arith}
 use lib.IntN.{ℤ, pos, natAbs, _+ℤ_}
 use lib.ListN.{length, getD}
 use lib.Seq.{sets, getD-take, length-take-le, getD-set-same}
-use Rattle.grid.specs.Block.{blockSize}
 use Rattle.grid.specs.Difference.{scaledDifference}
 use Rattle.grid.specs.Terms.{IsReading}
 use Rattle.area.specs.declared.IndexRecord.{IndexRecord}
 use Rattle.area.specs.declared.JobRecord.{JobRecord}
 use Rattle.area.specs.Records.{Run, recordsOf, runOf, stored, heldIn, blank}
+use Rattle.area.specs.Settings.{readingCount, leastStore}
 use Rattle.area.specs.Entry.{readingIn}
-use Rattle.area.specs.Encoding.{Area, areaOf, heldOf, entriesOf}
+use Rattle.area.specs.Log.{Machine}
+use Rattle.area.specs.Encoding.{Area, areaOf, heldOf, entriesOf, machineOf, written}
 use Rattle.area.proofs.Records.{length-recordsOf, indicator-in}
 use Rattle.quadrature.specs.Readings.{recordAt, fetched}
 use Rattle.quadrature.specs.Ready.{Ready, AllReady}
@@ -26,18 +27,18 @@ use Rattle.soundness.specs.Sound.{Sound}
 use Rattle.soundness.proofs.Exactly.{reads-and, reads-le, reads-eq-true}
 use Rattle.soundness.proofs.Gives.{sound-ready}
 use Rattle.soundness.proofs.Facts.{sound-facts}
+use Rattle.encoding.specs.Entries.{SoundMachine}
 use Rattle.encoding.proofs.Facts.{range-facts}
-use Rattle.machine.specs.Log.{Machine, machineOf, written, firstWanted, wantedIndex}
+use Rattle.machine.specs.Log.{firstWanted, wantedIndex}
 use Rattle.machine.specs.Steps.{deliverAt, deliver}
 use Rattle.machine.specs.Areas.{deliverOn}
 use Rattle.machine.specs.Causes.{inRange}
-use Rattle.machine.specs.Facts.{SoundMachine}
 use Rattle.machine.proofs.Facts.{step-facts}
 use Rattle.writing.specs.Changes.{restated}
 use Rattle.writing.specs.Settled.{Settled}
 use Rattle.writing.proofs.Areas.{held-is, held-record, levels-is}
 use Rattle.writing.proofs.Facts.{write-facts}
-use Rattle.writing.proofs.After.{machine-sound, written-sound, written-long, written-entries, written-settled}
+use Rattle.writing.proofs.After.{machine-sound, written-sound, written-long, written-machine, written-settled}
 
 -- readings in range, one by one
 each-in-range : (xs : List ℤ) → inRange xs ≡ true → (n : ℕ) → n < length xs → IsReading (getD xs n (pos 0))
@@ -53,7 +54,7 @@ module _ (j : JobRecord) (c : List ℕ) (s : List ℤ) (rs : List ℤ) (i : ℕ)
   abbrev place : ℕ
   place = firstWanted (entriesOf a)
 
-  module _ (settled : Settled a) (wanted : place < j .held) (whole : length rs ≡ blockSize (wantedIndex (entriesOf a))) (range : inRange rs ≡ true) where
+  module _ (settled : Settled a) (wanted : place < j .held) (whole : length rs ≡ readingCount (j .settings) (wantedIndex (entriesOf a))) (range : inRange rs ≡ true) where
     pub held-there : j .held * 27 ≤ length c
     held-there = omega (arith, settled .sound .held-lent, length-recordsOf c)
 
@@ -71,8 +72,8 @@ module _ (j : JobRecord) (c : List ℕ) (s : List ℤ) (rs : List ℤ) (i : ℕ)
     block-there =
         let inside : place < length (heldOf a) = omega (arith, length-take-le (j .held) (recordsOf c) (settled .sound .held-lent)) in
         let first = ap (λ (r : IndexRecord). r .first) (held-record a settled place wanted-there) in
-        let levels = ap (λ (r : IndexRecord). blockSize (r .levels)) (held-record a settled place wanted-there) in
-        omega (arith, range-facts .block a (settled .sound) place inside, first, levels, whole, ap blockSize levels-are, settled .lent .store)
+        let levels = ap (λ (r : IndexRecord). readingCount (j .settings) (r .levels)) (held-record a settled place wanted-there) in
+        omega (arith, range-facts .block a (settled .sound) place inside, first, levels, whole, ap (readingCount (j .settings)) levels-are, settled .lent .store)
 
     -- ---- after
     abbrev after : Machine
@@ -87,9 +88,7 @@ module _ (j : JobRecord) (c : List ℕ) (s : List ℤ) (rs : List ℤ) (i : ℕ)
 
     changed : b ≡ record {
       job = record {
-        axes = j .axes;
-        threshold = j .threshold;
-        budget = j .budget;
+        settings = j .settings;
         held = j .held;
         reserved = j .reserved;
         pending = j .pending + i;
@@ -100,11 +99,11 @@ module _ (j : JobRecord) (c : List ℕ) (s : List ℤ) (rs : List ℤ) (i : ℕ)
     }
     changed = write-facts .deliver a rs i settled wanted-there whole
 
-    b-room : b .job .budget ≤ length (b .store)
-    b-room = written-long a after after-sound (settled .lent .records) (deliver-budget) .store
+    b-room : leastStore (b .job .settings) ≤ length (b .store)
+    b-room = written-long a after after-sound (settled .lent .records) deliver-room .store
       where
-        deliver-budget : after .log .budget ≤ length s
-        deliver-budget = unfold deliver in unfold machineOf in settled .lent .store
+        deliver-room : leastStore (after .log .settings) ≤ length s
+        deliver-room = unfold deliver in unfold machineOf in settled .lent .store
 
     -- the sums stay in their types
     pub pending-fits : ((n : ℕ) → getD c n 0 < 2 ^ 32) → i < 2 ^ 32 → j .pending + i < 2 ^ 64
@@ -143,13 +142,13 @@ module _ (j : JobRecord) (c : List ℕ) (s : List ℤ) (rs : List ℤ) (i : ℕ)
       unfolding restated
       here-state = ap (λ (r : IndexRecord). r .state) here
 
-      all-ready : AllReady (b .job .axes) (b .job .held) (b .run .records) (b .store)
+      all-ready : AllReady (b .job .settings .axes) (b .job .held) (b .run .records) (b .store)
       all-ready = sound-facts .all-ready b (written-sound a after after-sound) b-room
 
-      pub ready : Ready (j .axes) (recordsOf c₁) s₁ (recordAt (recordsOf c₁) place .levels)
+      pub ready : Ready (j .settings .axes) (recordsOf c₁) s₁ (recordAt (recordsOf c₁) place .levels)
       ready =
-          subst (λ (x : Area). AllReady (x .job .axes) (x .job .held) (recordsOf c₁) s₁) changed
-          (subst (λ x. AllReady (b .job .axes) (b .job .held) (recordsOf c₁) x) store-is₁ (subst (λ x. AllReady (b .job .axes) (b .job .held) x (b .store)) records-are₁ all-ready))
+          subst (λ (x : Area). AllReady (x .job .settings .axes) (x .job .held) (recordsOf c₁) s₁) changed
+          (subst (λ x. AllReady (b .job .settings .axes) (b .job .held) (recordsOf c₁) x) store-is₁ (subst (λ x. AllReady (b .job .settings .axes) (b .job .held) x (b .store)) records-are₁ all-ready))
           .ready place wanted (omega (arith, here-state))
 
       -- the area that the cells and the store hold with the job record of b is b
@@ -165,34 +164,34 @@ module _ (j : JobRecord) (c : List ℕ) (s : List ℤ) (rs : List ℤ) (i : ℕ)
       held-is₁ : b .job .held ≡ j .held
       held-is₁ = ap (λ (x : Area). x .job .held) changed
 
-      ready-held : Ready (b .job .axes) (heldIn c₁ (b .job .held)) s₁ (recordAt (recordsOf c₁) place .levels)
+      ready-held : Ready (b .job .settings .axes) (heldIn c₁ (b .job .held)) s₁ (recordAt (recordsOf c₁) place .levels)
       unfolding heldIn
       ready-held =
           let h : place < b .job .held = omega (arith, held-is₁, wanted) in
           let e : recordAt (heldOf b₁) place ≡ recordAt (recordsOf c₁) place = getD-take (b .job .held) (recordsOf c₁) place blank h in
-          sound-ready b₁ sound₁ (subst (λ x. b .job .budget ≤ length x) store-is₁ b-room) (recordAt (recordsOf c₁) place .levels) place
+          sound-ready b₁ sound₁ (subst (λ x. leastStore (b .job .settings) ≤ length x) store-is₁ b-room) (recordAt (recordsOf c₁) place .levels) place
           (record { place = omega (arith, h, length-take-le (b .job .held) (recordsOf c₁) (sound₁ .held-lent)); same = ap (λ (r : IndexRecord). r .levels) e })
           (subst (λ (r : IndexRecord). 1 ≤ r .state) (sym e) (omega (arith, here-state)))
 
       entries₁ : entriesOf b₁ ≡ deliverAt (entriesOf a) place rs i
       unfolding deliver machineOf
-      entries₁ = ap entriesOf same-area ∙ written-entries a after after-sound
+      entries₁ = ap entriesOf same-area ∙ ap (λ (x : Machine). x .log .entries) (written-machine a after after-sound)
 
       pub difference-is : scaledDifference (recordAt (recordsOf c₁) place .levels) (fetched (recordsOf c₁) s₁)
           ≡ scaledDifference (wantedIndex (entriesOf a)) (readingIn (deliverAt (entriesOf a) place rs i))
       difference-is =
-          entry-facts (b .job) c₁ s₁ .difference (b .job .axes) (recordAt (recordsOf c₁) place .levels) ready-held
+          entry-facts (b .job) c₁ s₁ .difference (b .job .settings .axes) (recordAt (recordsOf c₁) place .levels) ready-held
           ∙ ap (λ k. scaledDifference k (readingIn (entriesOf b₁))) here-levels
           ∙ ap (λ es. scaledDifference (wantedIndex (entriesOf a)) (readingIn es)) entries₁
 
       -- so the job record with the difference added makes the area that was to be written
       pub area-is : (m : ℤ) → m ≡ j .mean +ℤ scaledDifference (wantedIndex (entriesOf a)) (readingIn (deliverAt (entriesOf a) place rs i))
-          → areaOf (record { axes = j .axes; threshold = j .threshold; budget = j .budget; held = j .held; reserved = j .reserved; pending = j .pending + i; mean = m }) c₁ s₁ ≡ deliverOn a rs i
+          → areaOf (record { settings = j .settings; held = j .held; reserved = j .reserved; pending = j .pending + i; mean = m }) c₁ s₁ ≡ deliverOn a rs i
       unfolding deliverOn deliver machineOf
       area-is m e =
           (λ x.
           record {
-            job = record { axes = j .axes; threshold = j .threshold; budget = j .budget; held = j .held; reserved = j .reserved; pending = j .pending + i; mean = e x };
+            job = record { settings = j .settings; held = j .held; reserved = j .reserved; pending = j .pending + i; mean = e x };
             run = run x;
             store = store x;
           })
@@ -200,7 +199,7 @@ module _ (j : JobRecord) (c : List ℕ) (s : List ℤ) (rs : List ℤ) (i : ℕ)
 
       pub settled-after : (j₁ : JobRecord) → areaOf j₁ c₁ s₁ ≡ deliverOn a rs i → Settled (areaOf j₁ c₁ s₁)
       unfolding deliverOn
-      settled-after j₁ e = written-settled a after after-sound (settled .lent .records) budget-there j₁ c₁ s₁ e
+      settled-after j₁ e = written-settled a after after-sound (settled .lent .records) room-there j₁ c₁ s₁ e
         where
-          budget-there : after .log .budget ≤ length s
-          budget-there = unfold deliver in unfold machineOf in settled .lent .store
+          room-there : leastStore (after .log .settings) ≤ length s
+          room-there = unfold deliver in unfold machineOf in settled .lent .store

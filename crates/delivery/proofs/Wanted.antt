@@ -11,11 +11,10 @@ use lib.ListN.{length, drop, drop-of-length-le}
 use lib.Seq.{drop-cons}
 use borrow.Author.Tests.{eq-eqb, ne-eqb}
 use Rattle.area.specs.Records.{recordsOf, blank, heldIn}
-use Rattle.area.specs.Encoding.{entryOf}
 use Rattle.quadrature.specs.Readings.{recordAt}
 use Rattle.quadrature.proofs.Held.{held-length, held-record}
 use Rattle.machine.specs.Log.{firstWanted}
-use Rattle.writing.specs.Heads.{headsOf}
+use Rattle.writing.specs.Heads.{headOf, headsOf}
 
 module _ (c : List ℕ) (n p : ℕ) (room : n * 27 ≤ length c) where
   -- the first of the records left
@@ -29,11 +28,11 @@ module _ (c : List ℕ) (n p : ℕ) (room : n * 27 ≤ length c) where
 
   -- it is wanted, it is not, or no record is left
   pub wanted-here : p < n → recordAt (recordsOf c) p .state ≡ 0 → firstWanted (headsOf (drop p (heldIn c n))) ≡ 0
-  unfolding firstWanted headsOf entryOf
+  unfolding firstWanted headsOf headOf
   wanted-here h e = rw (held-left h, eq-eqb (recordAt (recordsOf c) p .state) 0 e)
 
   pub wanted-later : p < n → recordAt (recordsOf c) p .state ≢ 0 → firstWanted (headsOf (drop p (heldIn c n))) ≡ suc (firstWanted (headsOf (drop (p + 1) (heldIn c n))))
-  unfolding firstWanted headsOf entryOf
+  unfolding firstWanted headsOf headOf
   wanted-later h e = rw (held-left h, ne-eqb (recordAt (recordsOf c) p .state) 0 e)
 
   pub wanted-end : n ≤ p → firstWanted (headsOf (drop p (heldIn c n))) ≡ 0

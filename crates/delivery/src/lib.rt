@@ -9,6 +9,7 @@ ghost use lib.ListN.{length, take, drop};
 ghost use lib.Seq.{sets};
 ghost use Rattle.grid.specs.Index.{Within};
 ghost use Rattle.grid.specs.Block.{blockSize, pointOf};
+ghost use Rattle.area.specs.Settings.{readingCount};
 ghost use Rattle.area.specs.Records.{recordsOf, runOf, stored, heldIn};
 ghost use Rattle.area.specs.Encoding.{areaOf, entriesOf};
 ghost use Rattle.quadrature.specs.Readings.{recordAt};
@@ -20,9 +21,9 @@ ghost use Rattle.writing.specs.Heads.{headsOf};
 ghost use Rattle.writing.specs.Settled.{Settled};
 
 // Writes the root's record, wanted, and gives the job record of a job that was just started.
-pub fn start(axes: u32, threshold: u64, budget: u32, cells: &mut [u32]) -> area::JobRecord
+pub fn start(settings: area::Settings, cells: &mut [u32]) -> area::JobRecord
     requires { ⌜ 27 ≤ length (now cells) ⌝ }
-    ensures job { λ r. ⌜ r ≡ record { axes = axes; threshold = threshold; budget = budget; held = 1; reserved = 1; pending = 0; mean = pos 0 } ⌝ }
+    ensures job { λ r. ⌜ r ≡ record { settings = settings; held = 1; reserved = 1; pending = 0; mean = pos 0 } ⌝ }
     ensures run { λ r. ⌜ runOf (now (cells .exit)) ≡ stored (runOf (now (cells .entry))) 0 rootRecord ⌝ }
 {
     let root = area::IndexRecord {
@@ -34,9 +35,7 @@ pub fn start(axes: u32, threshold: u64, budget: u32, cells: &mut [u32]) -> area:
     };
     area::store(cells, 0, root);
     area::JobRecord {
-        axes,
-        threshold,
-        budget,
+        settings,
         held: 1,
         reserved: 1,
         pending: 0,
@@ -107,23 +106,18 @@ pub fn deliver(
     store: &mut [i32],
 ) -> area::JobRecord
     requires { ⌜ Settled (areaOf job (now cells) (now store)) × (place ≡ firstWanted (entriesOf (areaOf job (now cells) (now store)))) × (place < job .held) ⌝ }
-    requires { ⌜ (length (now readings) ≡ blockSize (wantedIndex (entriesOf (areaOf job (now cells) (now store))))) × (inRange (now readings) ≡ true) ⌝ }
+    requires { ⌜ (length (now readings) ≡ readingCount (job .settings) (wantedIndex (entriesOf (areaOf job (now cells) (now store))))) × (inRange (now readings) ≡ true) ⌝ }
     ensures is { λ r. ⌜ areaOf r (now (cells .exit)) (now (store .exit)) ≡ deliverOn (areaOf job (now (cells .entry)) (now (store .entry))) (now (readings .entry)) indicator ⌝ }
     ensures settled { λ r. ⌜ Settled (areaOf r (now (cells .exit)) (now (store .exit))) ⌝ }
 {
-    let axes = job.axes as usize;
+    let axes = job.settings.axes as usize;
     let first = area::first_at(cells, place) as usize;
     put_readings(first, readings, store);
     writing::restate(place, area::ACTIVE, indicator, cells);
     let levels = area::levels_at(cells, place);
     let difference = quadrature::scaled_difference(axes, levels, cells, store);
-    area::JobRecord {
-        axes: job.axes,
-        threshold: job.threshold,
-        budget: job.budget,
-        held: job.held,
-        reserved: job.reserved,
-        pending: job.pending + indicator as u64,
-        mean: job.mean + difference,
-    }
+    let mut after = job;
+    after.pending = job.pending + indicator as u64;
+    after.mean = job.mean + difference;
+    after
 }

@@ -6,20 +6,20 @@ use Rattle.encoding.proofs.Cells.{held-formed}
 use Rattle.encoding.proofs.Store.{blocks-of}
 use Rattle.encoding.proofs.Ranges.{block-within, reserved-within, pending-within, mean-within}
 use Rattle.encoding.proofs.Forth.{sound-entries, sound-encodes}
-use Rattle.encoding.proofs.Back.{entries-are, encodes-sound, area-encodes, area-sound, area-long}
+use Rattle.encoding.proofs.Back.{machine-is, encodes-sound, area-encodes, area-long}
 
 pub encoding-facts : EncodingFacts
 encoding-facts =
     record {
       formed = held-formed;
       encodes = sound-encodes;
-      entries = sound-entries;
-      only = λ a d b m es v e. sym (entries-are a es e (blocks-of v));
-      sound = λ d t b m es v u s. area-sound d t b m es u s v;
-      encoded = λ d t b m es u s. area-encodes d t b m es u s;
-      given = λ a es v e. encodes-sound a es e v;
-      long = λ d t b m es u s. area-long d t b m es u s;
-      read-back = λ d t b m es v u s. entries-are (encodedArea d t b es m u s) es (area-encodes d t b m es u s) (blocks-of v);
+      clauses = sound-entries;
+      only = λ a m v e. sym (machine-is a m e (blocks-of v));
+      given = λ a m v e. encodes-sound a m e v;
+      encoded = area-encodes;
+      sound = λ m v u s. encodes-sound (encodedArea m u s) m (area-encodes m u s) v;
+      read-back = λ m v u s. machine-is (encodedArea m u s) m (area-encodes m u s) (blocks-of v);
+      long = area-long;
     }
 
 pub range-facts : RangeFacts

@@ -10,23 +10,27 @@ use lib.IntN.{ℤ, pos}
 use lib.ListN.{length, getD, drop, length-drop, take-append-drop}
 use lib.Seq.{length-take-le}
 use Rattle.grid.specs.Index.{level, Index, backward}
-use Rattle.grid.specs.Block.{blockSize}
 use Rattle.grid.specs.Terms.{IsReading}
 use Rattle.area.specs.declared.IndexRecord.{IndexRecord}
 use Rattle.area.specs.Records.{Run}
 use Rattle.area.specs.Entry.{Entry}
-use Rattle.area.specs.Encoding.{Area, heldOf, entryOf, entriesOf, recordsFor, runWith, jobWith}
+use Rattle.area.specs.declared.Settings.{Settings}
+use Rattle.area.specs.Settings.{readingCount, leastStore}
+use Rattle.area.specs.Encoding.{Area, heldOf, entryOf, entriesOf, machineOf, recordsFor, runWith, jobWith}
 use Rattle.quadrature.specs.Readings.{recordAt}
 use Rattle.soundness.specs.Held.{levelsAt, stateAt}
 use Rattle.soundness.specs.Sound.{Structure, Sound}
-use Rattle.encoding.specs.Entries.{entryAt, EnteredOld, SoundEntries}
+use Rattle.encoding.specs.Entries.{entryAt, EnteredOld, SoundMachine}
 use Rattle.encoding.specs.Encodes.{Encodes, Formed}
 use Rattle.encoding.proofs.Places.{entry-at, levels-at, state-at, indicator-at, entries-length, has, entered-old, held-old, recorded-is}
 use Rattle.encoding.proofs.Links.{links-place}
 use Rattle.encoding.proofs.Store.{wanted-readings, delivered-readings, delivered-reading, blocks-of, written-back}
 use Rattle.encoding.proofs.Ranges.{block-within}
 
-module _ (a : Area) (sound : Sound a) (room : a .job .budget ≤ length (a .store)) where
+module _ (a : Area) (sound : Sound a) (room : leastStore (a .job .settings) ≤ length (a .store)) where
+  abbrev g : Settings
+  g = a .job .settings
+
   abbrev rs : List IndexRecord
   rs = heldOf a
 
@@ -34,103 +38,101 @@ module _ (a : Area) (sound : Sound a) (room : a .job .budget ≤ length (a .stor
   s = a .store
 
   abbrev es : List Entry
-  es = map (entryOf s) rs
+  es = map (entryOf g s) rs
 
-  abbrev held : Structure (a .job .axes) (a .job .budget) rs
+  abbrev held : Structure (g .axes) rs
   held = sound .structure
 
   inside : (p : ℕ) → p < length es → p < length rs
-  inside p h = omega (arith, entries-length s rs)
+  inside p h = omega (arith, entries-length g s rs)
 
   -- ---- the readings of the entries
 
   empty : (p : ℕ) → p < length es → entryAt es p .state ≡ 0 → entryAt es p .readings ≡ []
-  empty p h z = ap (λ (e : Entry). e .readings) (entry-at s rs p) ∙ wanted-readings s (recordAt rs p) (sym (state-at s rs p) ∙ z)
+  empty p h z = ap (λ (e : Entry). e .readings) (entry-at g s rs p) ∙ wanted-readings g s (recordAt rs p) (sym (state-at g s rs p) ∙ z)
 
-  whole : (p : ℕ) → p < length es → 1 ≤ entryAt es p .state → length (entryAt es p .readings) ≡ blockSize (entryAt es p .levels)
+  whole : (p : ℕ) → p < length es → 1 ≤ entryAt es p .state → length (entryAt es p .readings) ≡ readingCount g (entryAt es p .levels)
   whole p h d =
-      ap (λ (e : Entry). length (e .readings)) (entry-at s rs p)
-      ∙ ap length (delivered-readings s (recordAt rs p) (omega (arith, state-at s rs p)))
-      ∙ length-take-le (blockSize (levelsAt rs p)) (drop (recordAt rs p .first) s)
+      ap (λ (e : Entry). length (e .readings)) (entry-at g s rs p)
+      ∙ ap length (delivered-readings g s (recordAt rs p) (omega (arith, state-at g s rs p)))
+      ∙ length-take-le (readingCount g (levelsAt rs p)) (drop (recordAt rs p .first) s)
       (omega (arith, length-drop (recordAt rs p .first) s, block-within a sound p (inside p h)))
-      ∙ ap blockSize (sym (levels-at s rs p))
+      ∙ ap (readingCount g) (sym (levels-at g s rs p))
 
-  in-range : (p n : ℕ) → p < length es → 1 ≤ entryAt es p .state → n < blockSize (entryAt es p .levels) → IsReading (getD (entryAt es p .readings) n (pos 0))
+  in-range : (p n : ℕ) → p < length es → 1 ≤ entryAt es p .state → n < readingCount g (entryAt es p .levels) → IsReading (getD (entryAt es p .readings) n (pos 0))
   in-range p n h d l =
-      let d′ : 1 ≤ stateAt rs p = omega (arith, state-at s rs p) in
-      let l′ : n < blockSize (levelsAt rs p) = subst (λ k. n < blockSize k) (levels-at s rs p) l in
+      let d′ : 1 ≤ stateAt rs p = omega (arith, state-at g s rs p) in
+      let l′ : n < readingCount g (levelsAt rs p) = subst (λ k. n < readingCount g k) (levels-at g s rs p) l in
       subst IsReading
-      (sym (ap (λ (e : Entry). getD (e .readings) n (pos 0)) (entry-at s rs p) ∙ delivered-reading s (recordAt rs p) n d′ l′))
+      (sym (ap (λ (e : Entry). getD (e .readings) n (pos 0)) (entry-at g s rs p) ∙ delivered-reading g s (recordAt rs p) n d′ l′))
       (sound .readings p n (inside p h) d′ l′ .1)
 
   -- ---- the clauses
 
-  pub sound-entries : SoundEntries (a .job .axes) (a .job .budget) (a .job .mean) (entriesOf a)
-  unfolding entriesOf
+  pub sound-entries : SoundMachine (machineOf a)
+  unfolding entriesOf machineOf
   sound-entries =
       record {
-        axes = held .axes;
-        budget = held .budget;
-        index = λ p h. subst (Index (a .job .axes)) (sym (levels-at s rs p)) (held .index p (inside p h));
-        states = λ p h. omega (arith, state-at s rs p, held .states p (inside p h));
-        count = (omega (arith, entries-length s rs, held .count .0), omega (arith, entries-length s rs, held .count .1));
-        different = λ p q hp hq e. held .different p q (inside p hp) (inside q hq) (sym (levels-at s rs p) ∙ e ∙ levels-at s rs q);
-        first = levels-at s rs 0 ∙ held .first;
+        settings = sound .settings;
+        index = λ p h. subst (Index (g .axes)) (sym (levels-at g s rs p)) (held .index p (inside p h));
+        states = λ p h. omega (arith, state-at g s rs p, held .states p (inside p h));
+        count = (omega (arith, entries-length g s rs, held .count .0), omega (arith, entries-length g s rs, held .count .1));
+        different = λ p q hp hq e. held .different p q (inside p hp) (inside q hq) (sym (levels-at g s rs p) ∙ e ∙ levels-at g s rs q);
+        first = levels-at g s rs 0 ∙ held .first;
         behind = λ p c hp hc l.
-            subst (λ k. EnteredOld es (backward k c)) (sym (levels-at s rs p))
-            (entered-old s rs (backward (levelsAt rs p) c) (held .behind p c (inside p hp) hc (subst (λ k. 1 < level k c) (levels-at s rs p) l)));
+            subst (λ k. EnteredOld es (backward k c)) (sym (levels-at g s rs p))
+            (entered-old g s rs (backward (levelsAt rs p) c) (held .behind p c (inside p hp) hc (subst (λ k. 1 < level k c) (levels-at g s rs p) l)));
         admissible = λ k i old.
-            let h = held .admissible k i (λ c hc l. held-old s rs (backward k c) (old c hc l)) in
-            (h .0, has s rs k (h .0) (h .1));
-        wanted-last = λ p q h hq z. state-at s rs q ∙ sound .wanted-last p q h (inside q hq) (sym (state-at s rs p) ∙ z);
-        wanted-idle = λ p h z. indicator-at s rs p ∙ sound .wanted-idle p (inside p h) (sym (state-at s rs p) ∙ z);
+            let h = held .admissible k i (λ c hc l. held-old g s rs (backward k c) (old c hc l)) in
+            (h .0, has g s rs k (h .0) (h .1));
+        wanted-last = λ p q h hq z. state-at g s rs q ∙ sound .wanted-last p q h (inside q hq) (sym (state-at g s rs p) ∙ z);
+        wanted-idle = λ p h z. indicator-at g s rs p ∙ sound .wanted-idle p (inside p h) (sym (state-at g s rs p) ∙ z);
         wanted-empty = empty;
-        within-budget = omega (arith, sound .reserved, sound .within-budget);
+        within-budget = omega (arith, sound .numbers .reserved, sound .numbers .within-budget);
         whole = whole;
         readings = in-range;
-        mean = sound .mean;
+        mean = sound .numbers .mean;
       }
 
   -- ---- the encoding
 
   entries-count : length (entriesOf a) ≡ a .job .held
   unfolding entriesOf
-  entries-count = entries-length s rs ∙ length-take-le (a .job .held) (a .run .records) (sound .held-lent)
+  entries-count = entries-length g s rs ∙ length-take-le (a .job .held) (a .run .records) (sound .held-lent)
 
   module _ (formed : Formed rs) where
-    records-are : recordsFor (entriesOf a) ≡ rs
+    records-are : recordsFor g (entriesOf a) ≡ rs
     unfolding entriesOf
     records-are =
-        recorded-is s rs
+        recorded-is g s rs
         (record {
-          links = λ p h. links-place (a .job .axes) (a .job .budget) rs held p h (formed p h .1);
+          links = λ p h. links-place (g .axes) (sound .settings .axes .1) rs held p h (formed p h .1);
           first = sound .first-readings;
         })
 
-    job-is : a .job ≡ jobWith (a .job .axes) (a .job .threshold) (a .job .budget) (entriesOf a) (a .job .mean)
-    unfolding jobWith
+    job-is : a .job ≡ jobWith (machineOf a)
+    unfolding jobWith machineOf
     job-is = λ i. record {
-      axes = a .job .axes;
-      threshold = a .job .threshold;
-      budget = a .job .budget;
+      settings = g;
       held = sym entries-count i;
-      reserved = sound .reserved i;
-      pending = sound .pending i;
+      reserved = sound .numbers .reserved i;
+      pending = sound .numbers .pending i;
       mean = a .job .mean;
     }
 
-    run-is : a .run ≡ runWith (a .run) (entriesOf a)
-    unfolding runWith
+    run-is : a .run ≡ runWith (a .run) (machineOf a .log)
+    unfolding runWith machineOf
     run-is = ap {B = Run} (λ x. record { records = x; rest = a .run .rest }) (sym (ap₂ (λ x n. x ++ drop n (a .run .records)) records-are entries-count ∙ take-append-drop (a .job .held) (a .run .records)))
 
-    read-again : map (entryOf s) (recordsFor (entriesOf a)) ≡ entriesOf a
+    read-again : map (entryOf g s) (recordsFor g (entriesOf a)) ≡ entriesOf a
     unfolding entriesOf
-    read-again = ap (map (entryOf s)) records-are
+    read-again = ap (map (entryOf g s)) records-are
 
-    pub sound-encodes : Encodes a (entriesOf a)
+    pub sound-encodes : Encodes a (machineOf a)
+    unfolding machineOf
     sound-encodes =
         record {
           job = job-is;
           run = run-is;
-          store = written-back s (entriesOf a) read-again (blocks-of sound-entries);
+          store = written-back g s (entriesOf a) read-again (blocks-of sound-entries);
         }

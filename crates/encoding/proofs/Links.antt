@@ -104,7 +104,7 @@ module _ (rs : List IndexRecord) (few : length rs ≤ 512) where
 
 -- ---- the links of held records
 
-module _ (d b : ℕ) (rs : List IndexRecord) (s : Structure d b rs) (p : ℕ) (hp : p < length rs) where
+module _ (d : ℕ) (most : d ≤ 8) (rs : List IndexRecord) (s : Structure d rs) (p : ℕ) (hp : p < length rs) where
   backward-place : (a : ℕ) → a < 8 → backwardLink rs p a ≡ placeIn rs (backward (levelsAt rs p) a)
   backward-place a ha = step (decLt a d) (decLt 1 (level (levelsAt rs p) a))
     where
@@ -119,4 +119,4 @@ module _ (d b : ℕ) (rs : List IndexRecord) (s : Structure d b rs) (p : ℕ) (h
 
   pub links-place : length (recordAt rs p .links) ≡ 16 → recordAt rs p .links ≡ linksOf (levelsOf rs) (levelsAt rs p)
   links-place sixteen =
-      links-are (levelsOf rs) (levelsAt rs p) (recordAt rs p .links) sixteen (λ a h. structure-linked d b rs s .ahead p a hp h) backward-place
+      links-are (levelsOf rs) (levelsAt rs p) (recordAt rs p .links) sixteen (λ a h. structure-linked d most rs s .ahead p a hp h) backward-place

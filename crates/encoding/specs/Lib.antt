@@ -1,4 +1,4 @@
--- What a sound area encodes: lists of entries that the clauses of soundness allow, and the area that encodes one.
+-- What a sound area encodes: states of the machine that the clauses of soundness allow, and the area that encodes one.
 pub mod Entries
 pub mod Encodes
 pub mod Facts

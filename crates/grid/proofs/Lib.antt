@@ -14,4 +14,5 @@ pub mod LevelOne
 pub mod Masks
 pub mod Boundary
 pub mod Facts
+pub mod Ceilings
 pub mod Turns

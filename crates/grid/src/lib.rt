@@ -2,7 +2,7 @@
 ghost use mathlib.Core.Path.{_≡_};
 ghost use Prim.Native.Nat.{_≤_, _<_};
 ghost use lib.ListN.{set};
-ghost use Rattle.grid.specs.Index.{level, excess, Within, within, forward, backward};
+ghost use Rattle.grid.specs.Index.{level, excess, Within, within, forward, backward, cappedAxes};
 ghost use Rattle.grid.specs.Block.{blockSize, pointOf};
 ghost use Rattle.grid.specs.Coefficient.{sign, raisedOn, marks};
 
@@ -38,6 +38,25 @@ pub fn within_ceilings(levels: [u32; 8]) -> bool
         axis += 1;
     }
     excess <= 12
+}
+
+// Along how many axes the forward neighbour of an index passes a ceiling: along all if its excess is 12, else where its level is 8.
+pub fn capped_axes(axes: usize, levels: [u32; 8]) -> u32
+    requires { ⌜ (axes ≤ 8) × Within levels ⌝ }
+    ensures { λ r. ⌜ (r ≡ cappedAxes axes levels) × (r ≤ 8) ⌝ }
+{
+    if 12 <= excess_of(levels) {
+        return axes as u32;
+    }
+    let mut count: u32 = 0;
+    let mut axis: usize = 0;
+    while axis < axes {
+        if 8 <= levels[axis] {
+            count += 1;
+        }
+        axis += 1;
+    }
+    count
 }
 
 // How many points the block of an index has.

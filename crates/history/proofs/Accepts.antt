@@ -14,7 +14,9 @@ use Rattle.grid.specs.Block.{block, blockSize}
 use Rattle.grid.specs.Terms.{IsReading}
 use Rattle.grid.proofs.Facts.{block-facts}
 use Rattle.area.specs.Entry.{Entry}
-use Rattle.machine.specs.Log.{Log, Machine, firstWanted, wantedIndex}
+use Rattle.area.proofs.Readings.{reading-facts}
+use Rattle.area.specs.Log.{Log, Machine}
+use Rattle.machine.specs.Log.{firstWanted, wantedIndex}
 use Rattle.machine.specs.Promote as rule
 use Rattle.machine.specs.Counts.{countOf}
 use Rattle.machine.specs.Steps as steps
@@ -69,7 +71,7 @@ whole-block f k = length-map (block k) f ∙ block-facts .size k
 
 -- ---- where storage is long enough
 
-module _ (P : Problem) (z : Lengths) (l : Log) (enough : short z (l .budget) ≡ false) where
+module _ (P : Problem) (z : Lengths) (l : Log) (enough : short z (l .settings) ≡ false) where
   none : firstCause (resultCauses z true l) ≡ 0
   none = common-none z true l enough refl
 
@@ -78,7 +80,7 @@ module _ (P : Problem) (z : Lengths) (l : Log) (enough : short z (l .budget) ≡
   unfolding supplyCall refusal
   supply-clear measured wanted =
       deliver-fits z true l (map (P .integrand) (block (wantedIndex (l .entries)))) none (wanted-yes l wanted)
-      (whole-block (P .integrand) (wantedIndex (l .entries))) (in-range (P .integrand) measured (block (wantedIndex (l .entries))))
+      (whole-block (P .integrand) (wantedIndex (l .entries)) ∙ sym (reading-facts .single (l .settings) (wantedIndex (l .entries)))) (in-range (P .integrand) measured (block (wantedIndex (l .entries))))
 
   pub supply-answer : Measured P → firstWanted (l .entries) < length (l .entries) → answerBy z l (supplyCall P l) ≡ answer accepted
   unfolding answerBy
@@ -93,7 +95,7 @@ module _ (P : Problem) (z : Lengths) (l : Log) (enough : short z (l .budget) ≡
   unfolding answerBy
   promote-answer free = ap (λ n. cond (eqb n 0) (reply z l promote) (record { reply = refused n; buffer = bufferOf promote })) (promote-clear free) ∙ unfold reply in refl
 
-module _ (P : Problem) (x : LentCall) (m : Machine) (enough : short (lengthsLent (x .part)) (m .log .budget) ≡ false) where
+module _ (P : Problem) (x : LentCall) (m : Machine) (enough : short (lengthsLent (x .part)) (m .log .settings) ≡ false) where
   abbrev z : Lengths
   z = lengthsLent (x .part)
 

@@ -5,11 +5,14 @@ use mathlib.Core.Logic.{_⊎_, inl, inr}
 use mathlib.Core.List.{List, [], _∷_, _++_, List·Memᴰ, List·Memᴰ·not-nil, List·Memᴰ·cases-cons}
 use Prim.Native.Nat.{ℕ, zero, suc, _*_, _<_, _≤_}
 use lib.ListN.{length}
-use Rattle.machine.specs.Log.{Log, Machine, firstWanted}
+use Rattle.area.specs.declared.Settings.{Settings}
+use Rattle.area.specs.Settings.{leastStore}
+use Rattle.area.specs.Log.{Log, Machine}
+use Rattle.machine.specs.Log.{firstWanted}
 use Rattle.machine.specs.Promote as rule
 use Rattle.machine.specs.Counts.{countOf}
 use Rattle.machine.specs.Steps as steps
-use Rattle.machine.specs.Facts.{SoundMachine}
+use Rattle.encoding.specs.Entries.{SoundMachine}
 use Rattle.machine.proofs.Facts.{step-facts}
 use Rattle.calls.specs.Replies.{accepted, promotion}
 use Rattle.published.specs.Figure.{Problem}
@@ -17,9 +20,9 @@ use Rattle.published.specs.Turns.{supply, Measured}
 use Rattle.history.specs.Calls.{Call, promote, Part, LentCall, lengthsLent, Answer, answer}
 use Rattle.history.specs.Logged.{noted, logStep, logAfter, answersBy}
 use Rattle.history.specs.Source.{supplyCall, supplyCalls, turnCalls, lendAll}
-use Rattle.history.proofs.Moves.{step-log, promoted-budget}
+use Rattle.history.proofs.Moves.{step-log, promoted-settings}
 use Rattle.history.proofs.Accepts.{some-wanted, supply-step, supply-answer, promote-step, promote-answer}
-use Rattle.history.proofs.Runs.{enough, supply-sound, supply-budget, supply-count}
+use Rattle.history.proofs.Runs.{enough, supply-sound, supply-settings, supply-count}
 
 abbrev pub Taken : Answer → Type 0
 Taken y = (y ≡ answer accepted) ⊎ (y ≡ answer (promotion rule.promoted))
@@ -42,20 +45,20 @@ unfolding answersBy logAfter
 both-taken l [] ys s t = t
 both-taken l (x ∷ xs) ys s t = (s .0, both-taken (logStep l x) xs ys (s .1) t)
 
-module _ (x : Part) (P : Problem) (b : ℕ) (long : 512 * 27 ≤ x .cells) (room : b ≤ x .readings) (measured : Measured P) where
+module _ (x : Part) (P : Problem) (g : Settings) (long : 512 * 27 ≤ x .cells) (room : leastStore g ≤ x .readings) (measured : Measured P) where
   abbrev lend : Call → LentCall
   lend c = record { call = c; part = x }
 
-  pub supplies-taken : (n : ℕ) (m : Machine) → SoundMachine m → m .log .budget ≡ b → countOf 0 (m .log .entries) ≡ n
+  pub supplies-taken : (n : ℕ) (m : Machine) → SoundMachine m → m .log .settings ≡ g → countOf 0 (m .log .entries) ≡ n
       → AllTaken (answersBy (m .log) (lendAll x (supplyCalls P n (m .log))))
   unfolding lendAll supplyCalls answersBy
   supplies-taken zero m v e c = tt
   supplies-taken (suc n) m v e c =
       let h = some-wanted (m .log .entries) n c in (
-        inl (supply-answer P (lengthsLent x) (m .log) (enough x P b long room measured m e) measured h),
+        inl (supply-answer P (lengthsLent x) (m .log) (enough x P g long room measured m e) measured h),
         subst (λ (o : Log). AllTaken (answersBy o (lendAll x (supplyCalls P n (noted (m .log) (supplyCall P (m .log))))))) (sym (stepped h))
             (subst (λ (o : Log). AllTaken (answersBy (supply P m .log) (lendAll x (supplyCalls P n o)))) noted-is
-            (supplies-taken n (supply P m) (supply-sound P measured m v h) (supply-budget P m ∙ e) (supply-count P measured m v h n c))),
+            (supplies-taken n (supply P m) (supply-sound P measured m v h) (supply-settings P m ∙ e) (supply-count P measured m v h n c))),
       )
     where
       noted-is : supply P m .log ≡ noted (m .log) (supplyCall P (m .log))
@@ -64,18 +67,18 @@ module _ (x : Part) (P : Problem) (b : ℕ) (long : 512 * 27 ≤ x .cells) (room
       stepped : firstWanted (m .log .entries) < length (m .log .entries) → logStep (m .log) (lend (supplyCall P (m .log))) ≡ supply P m .log
       stepped h =
           sym (step-log m (lend (supplyCall P (m .log))))
-          ∙ ap (λ (y : Machine). y .log) (supply-step P (lend (supplyCall P (m .log))) m (enough x P b long room measured m e) measured h refl)
+          ∙ ap (λ (y : Machine). y .log) (supply-step P (lend (supplyCall P (m .log))) m (enough x P g long room measured m e) measured h refl)
 
   -- a turn
-  pub turn-taken : (m : Machine) → SoundMachine m → m .log .budget ≡ b → length (m .log .entries) ≤ firstWanted (m .log .entries) → rule.promote (m .log) .outcome ≡ rule.promoted
+  pub turn-taken : (m : Machine) → SoundMachine m → m .log .settings ≡ g → length (m .log .entries) ≤ firstWanted (m .log .entries) → rule.promote (m .log) .outcome ≡ rule.promoted
       → AllTaken (answersBy (m .log) (lendAll x (turnCalls P (m .log))))
   unfolding lendAll turnCalls answersBy steps.promoteStep
   turn-taken m v e free is = (
-    inr (promote-answer P (lengthsLent x) (m .log) (enough x P b long room measured m e) free ∙ ap (λ o. answer (promotion o)) is),
+    inr (promote-answer P (lengthsLent x) (m .log) (enough x P g long room measured m e) free ∙ ap (λ o. answer (promotion o)) is),
     subst (λ (o : Log). AllTaken (answersBy o (lendAll x (supplyCalls P (countOf 0 (rule.promote (m .log) .log .entries)) (rule.promote (m .log) .log))))) (sym stepped)
-        (supplies-taken (countOf 0 (rule.promote (m .log) .log .entries)) (steps.promoteStep m) (step-facts .promote m v free) (promoted-budget (m .log) ∙ e) refl),
+        (supplies-taken (countOf 0 (rule.promote (m .log) .log .entries)) (steps.promoteStep m) (step-facts .promote m v free) (promoted-settings (m .log) ∙ e) refl),
   )
     where
       stepped : logStep (m .log) (lend promote) ≡ rule.promote (m .log) .log
       stepped =
-          sym (step-log m (lend promote)) ∙ ap (λ (y : Machine). y .log) (promote-step P (lend promote) m (enough x P b long room measured m e) free refl)
+          sym (step-log m (lend promote)) ∙ ap (λ (y : Machine). y .log) (promote-step P (lend promote) m (enough x P g long room measured m e) free refl)

@@ -9,15 +9,18 @@ use mathlib.Core.List.{List, _∷_, List·Memᴰ, List·Memᴰ·cases-cons}
 use Prim.Native.Nat.{ℕ, _*_, _≤_}
 use native.Mathlib.Omega.{arith}
 use lib.ListN.{length}
+use Rattle.area.specs.declared.Settings.{Settings}
+use Rattle.area.specs.declared.JobRecord.{JobRecord}
+use Rattle.area.specs.Settings.{leastStore}
 use Rattle.area.specs.Records.{recordsOf, runOf}
-use Rattle.area.specs.Encoding.{Area, areaOf, entriesOf, storeWith, jobWith}
-use Rattle.machine.specs.Log.{Log, Machine, written}
+use Rattle.area.specs.Encoding.{Area, areaOf, entriesOf, storeWith, jobWith, written, machineOf}
+use Rattle.area.specs.Log.{Log, Machine}
 use Rattle.machine.specs.Steps as steps
 use Rattle.machine.specs.Causes.{Lengths, firstCause, startCauses, resultCauses}
 use Rattle.machine.specs.Counts.{countsOf}
 use Rattle.machine.specs.Means.{crossOf}
 use Rattle.machine.proofs.Means.{mean-facts}
-use Rattle.writing.proofs.After.{written-sound, written-long, written-entries}
+use Rattle.writing.proofs.After.{written-sound, written-long, written-machine}
 use Rattle.calls.specs.Replies.{accepted, refused, counts, total, lengthsOf}
 use Rattle.calls.specs.Calls.{startCall, resultCall, crossCall}
 use Rattle.calls.proofs.Ways.{start-ways}
@@ -57,7 +60,8 @@ module _ (w : Storage) (m : Machine) (h : Holds w m) where
       }
 
   entries-there : entriesOf all ≡ l .entries
-  entries-there = ap entriesOf whole-holds ∙ written-entries all m (h .sound)
+  unfolding machineOf
+  entries-there = ap entriesOf whole-holds ∙ ap (λ (y : Machine). y .log .entries) (written-machine all m (h .sound))
 
   all-sound : Sound all
   all-sound = subst Sound (sym whole-holds) (written-sound all m (h .sound))
@@ -68,19 +72,19 @@ module _ (w : Storage) (m : Machine) (h : Holds w m) where
   mean-is : m .mean ≡ crossOf (l .entries)
   mean-is = combined m (record { sound = h .sound; mean = h .mean })
 
-  neighbours : Neighbours (l .axes) (l .entries)
+  neighbours : Neighbours (l .settings .axes) (l .entries)
   neighbours = record { index = h .sound .index; behind = h .sound .behind; admissible = h .sound .admissible; once = h .sound .different }
 
   links : LinksAgree (l .entries) (recordsOf (w .cells))
   links = subst (λ es. LinksAgree es (recordsOf (w .cells))) entries-there (links-agree all all-sound)
 
   -- ---- result and cross total, where enough is lent
-  module _ (x : Part) (lent : Lent w x) (long : 512 * 27 ≤ x .cells) (room : l .budget ≤ x .readings) where
+  module _ (x : Part) (lent : Lent w x) (long : 512 * 27 ≤ x .cells) (room : leastStore (l .settings) ≤ x .readings) where
     abbrev z : Lengths
     z = lengthsLent x
 
     none : firstCause (resultCauses z true l) ≡ 0
-    none = common-none z true l (tests.enough z (l .budget) (omega (arith, long)) room) refl
+    none = common-none z true l (tests.enough z (l .settings) (omega (arith, long)) room) refl
 
     answered : (c : Call) → callOn (areaLent w x) c .answer ≡ answerBy z l c
     answered = enough-answer w x lent m h (record { lent = lent; cells = long; readings = room })
@@ -104,7 +108,7 @@ module _ (w : Storage) (m : Machine) (h : Holds w m) where
       record {
         entries = entries-there;
         idle = h .sound .wanted-idle;
-        job = h .job ∙ ap (jobWith (l .axes) (l .threshold) (l .budget) (l .entries)) mean-is;
+        job = h .job ∙ ap {B = JobRecord} (λ y. jobWith (record { log = l; mean = y })) mean-is;
         sound = checked-there;
         neighbours = neighbours;
         links = links;
@@ -115,34 +119,34 @@ module _ (w : Storage) (m : Machine) (h : Holds w m) where
 
 -- ---- an accepted start
 
-accepted-start : (a : Area) (d t b : ℕ) → startCall a d t b .reply ≡ accepted → firstCause (startCauses (lengthsOf a) d b) ≡ 0
-accepted-start a d t b =
-    start-ways (λ x. x .reply ≡ accepted → firstCause (startCauses (lengthsOf a) d b) ≡ 0) a d t b (λ none e. none)
+accepted-start : (a : Area) (g : Settings) → startCall a g .reply ≡ accepted → firstCause (startCauses (lengthsOf a) g) ≡ 0
+accepted-start a g =
+    start-ways (λ x. x .reply ≡ accepted → firstCause (startCauses (lengthsOf a) g) ≡ 0) a g (λ none e. none)
     (λ some e. let y : _≡_ {A = ℕ} 0 1 = cc in absurd (omega arith))
 
-module _ (w : Storage) (first : LentCall) (later : List LentCall) (d t b : ℕ) (lent : AllLent w (first ∷ later))
-    (is : first .call ≡ start d t b) (taken : startCall (areaLent w (first .part)) d t b .reply ≡ accepted) where
+module _ (w : Storage) (first : LentCall) (later : List LentCall) (g : Settings) (lent : AllLent w (first ∷ later))
+    (is : first .call ≡ start g) (taken : startCall (areaLent w (first .part)) g .reply ≡ accepted) where
   abbrev m : Machine
-  m = steps.started d t b
+  m = steps.started g
 
-  clear : firstCause (startCauses (lengthsLent (first .part)) d b) ≡ 0
-  clear = ap (λ z. firstCause (startCauses z d b)) (sym (lengths w (first .part) (lent .0))) ∙ accepted-start (areaLent w (first .part)) d t b taken
+  clear : firstCause (startCauses (lengthsLent (first .part)) g) ≡ 0
+  clear = ap (λ z. firstCause (startCauses z g)) (sym (lengths w (first .part) (lent .0))) ∙ accepted-start (areaLent w (first .part)) g taken
 
   begins : Kept w (storageStep w first) m
   unfolding storageStep doneOn
-  begins = subst (λ c. Kept w (returned w (first .part) (callOn (areaLent w (first .part)) c .area)) m) (sym is) (first-holds w (first .part) (lent .0) d t b clear)
+  begins = subst (λ c. Kept w (returned w (first .part) (callOn (areaLent w (first .part)) c .area)) m) (sym is) (first-holds w (first .part) (lent .0) g clear)
 
   first-answer : doneOn w first .answer ≡ answer accepted
   unfolding doneOn callOn
   first-answer = ap (λ c. callOn (areaLent w (first .part)) c .answer) is ∙ started-answer
     where
-      started-answer : callOn (areaLent w (first .part)) (start d t b) .answer ≡ answer accepted
+      started-answer : callOn (areaLent w (first .part)) (start g) .answer ≡ answer accepted
       started-answer = ap answer taken
 
   lent-later : AllLent (storageStep w first) later
   lent-later = lent-too w (storageStep w first) (begins .cells) (begins .store) later (lent .1)
 
-  answers : answersOf w (first ∷ later) ≡ answer accepted ∷ answersBy (steps.startLog d t b) later
+  answers : answersOf w (first ∷ later) ≡ answer accepted ∷ answersBy (steps.startLog g) later
   unfolding answersOf steps.started
   answers = ap₂ (λ (y : Answer) ys. y ∷ ys) first-answer (after-answers (storageStep w first) m (begins .holds) later lent-later)
 
@@ -151,14 +155,14 @@ module _ (w : Storage) (first : LentCall) (later : List LentCall) (d t b : ℕ) 
   unfolding storageAfter
   kept = after-keeps (storageStep w first) m (begins .holds) later lent-later
 
-  pub log-there : machineAfter m later .log ≡ logAfter (steps.startLog d t b) later
+  pub log-there : machineAfter m later .log ≡ logAfter (steps.startLog g) later
   unfolding steps.started
   log-there = after-log m later
 
   pub state-fine : Fine (machineAfter m later)
   state-fine = record { sound = kept .holds .sound; mean = kept .holds .mean }
 
-  after : Found (storageAfter w (first ∷ later)) (logAfter (steps.startLog d t b) later)
+  after : Found (storageAfter w (first ∷ later)) (logAfter (steps.startLog g) later)
   after = subst (Found (storageAfter w (first ∷ later))) log-there (found (storageAfter w (first ∷ later)) (machineAfter m later) (kept .holds))
 
   cells-length : length (storageAfter w (first ∷ later) .cells) ≡ length (w .cells)
@@ -168,16 +172,16 @@ module _ (w : Storage) (first : LentCall) (later : List LentCall) (d t b : ℕ) 
   store-length = kept .store ∙ begins .store
 
 pub third-demand : ThirdDemand
-third-demand w first later d t b lent is taken =
-    let said : answersOf w (first ∷ later) ≡ answer accepted ∷ answersBy (steps.startLog d t b) later = answers w first later d t b lent is taken in
+third-demand w first later g lent is taken =
+    let said : answersOf w (first ∷ later) ≡ answer accepted ∷ answersBy (steps.startLog g) later = answers w first later g lent is taken in
     record {
       answers = said;
       never-unsound = λ y n e. step y e (List·Memᴰ·cases-cons (subst (List·Memᴰ y) said n));
-      cells = cells-length w first later d t b lent is taken;
-      store = store-length w first later d t b lent is taken;
-      found = after w first later d t b lent is taken;
+      cells = cells-length w first later g lent is taken;
+      store = store-length w first later g lent is taken;
+      found = after w first later g lent is taken;
     }
   where
-    step : (y : Answer) → y .reply ≡ refused 4 → (y ≡ answer accepted) ⊎ List·Memᴰ y (answersBy (steps.startLog d t b) later) → ⊥
+    step : (y : Answer) → y .reply ≡ refused 4 → (y ≡ answer accepted) ⊎ List·Memᴰ y (answersBy (steps.startLog g) later) → ⊥
     step y e (inl f) = let same : accepted ≡ refused 4 = sym (ap (λ (v : Answer). v .reply) f) ∙ e in let g : _≡_ {A = ℕ} 0 1 = cc in omega arith
-    step y e (inr n) = never-four (steps.startLog d t b) later y n e
+    step y e (inr n) = never-four (steps.startLog g) later y n e

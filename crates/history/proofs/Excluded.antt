@@ -12,7 +12,7 @@ use Rattle.sums.specs.Sums.{sumTo, sumOf}
 use Rattle.rule.specs.Points.{newCount, newPoint}
 use Rattle.rule.specs.Rules.{unit}
 use Rattle.rule.specs.Weights.{wholeWeight, endsOne, differenceWeight}
-use Rattle.grid.specs.Index.{root, excess, levelsWithin, within, forward, backward}
+use Rattle.grid.specs.Index.{root, excess, levelsWithin, within, cappedAxes, forward, backward}
 use Rattle.grid.specs.Block.{blockSize, pointOf}
 use Rattle.grid.specs.Difference.{units, behind}
 use Rattle.grid.specs.Tensor.{tensorSum, tensorRule}
@@ -21,18 +21,20 @@ use Rattle.grid.specs.Cross.{crossTotal}
 use Rattle.grid.specs.Boundary.{pair}
 use Rattle.area.specs.Entry.{deliveredOf, readingsOf, readingIn, reservedBy, pendingOf}
 use Rattle.soundness.specs.Test.{allFrom}
-use Rattle.machine.specs.Log.{Log, withEntries, wanted, firstWanted, anyWanted, machineOf, wantedIndex}
+use Rattle.area.specs.Settings.{axesFit, budgetFit, readingsFor, readingCount, leastStore}
+use Rattle.area.specs.Log.{Log, withEntries}
+use Rattle.machine.specs.Log.{wanted, firstWanted, anyWanted, wantedIndex}
 use Rattle.machine.specs.Promote as rule
 use Rattle.machine.specs.Steps.{deliverAt, delivered}
 use Rattle.machine.specs.Causes.{firstCause, short, inRange, deliverCauses, promoteCauses, resultCauses, pointCauses, startCauses}
-use Rattle.machine.specs.Counts.{countOf, cappedAxes, ceilingCount, countsOf}
+use Rattle.machine.specs.Counts.{countOf, ceilingCount, countsOf}
 use Rattle.machine.specs.Means.{crossOf}
 use Rattle.calls.specs.Replies.{lengthsOf, Called, accepted}
 use Rattle.published.proofs.Outcomes.{promoted-log}
 use Rattle.soundness.specs.Clauses.{isSound}
 use Rattle.soundness.proofs.Clauses.{clause-facts}
 use Rattle.writing.specs.Settled.{Settled}
-use Rattle.area.specs.Encoding.{Area, entriesOf}
+use Rattle.area.specs.Encoding.{Area, entriesOf, machineOf}
 use lib.IntN.{ℤ}
 use mathlib.Core.List.{List}
 use Rattle.calls.specs.Calls.{deliverCall}
@@ -42,13 +44,13 @@ use Rattle.calls.proofs.Refusing.{start-accepts, deliver-accepts}
 use Rattle.history.specs.Logged.{refusal, noted, logStep, reply, bufferOf, answerBy, answersBy}
 use Rattle.history.specs.Excluded.{refined, Passes, Excluded, fileCalls, answersAfter, CallCases}
 
-promoted-above : (l : Log) → (rule.isMet l ≡ true → ⊥) → rule.fits (l .budget) (refined l) ≡ true
+promoted-above : (l : Log) → (rule.isMet l ≡ true → ⊥) → rule.fits (l .settings .budget) (refined l) ≡ true
     → rule.promote l .outcome ≡ rule.promoted
 unfolding rule.promote rule.promoteAt
-promoted-above l n f = split (rule.isMet l) (rule.fits (l .budget) (rule.refine (l .axes) (l .entries) (rule.selected (l .entries)))) n f
+promoted-above l n f = split (rule.isMet l) (rule.fits (l .settings .budget) (rule.refine (l .settings .axes) (l .entries) (rule.selected (l .entries)))) n f
   where
     more : rule.Promotion
-    more = record { outcome = rule.promoted; log = withEntries l (rule.refine (l .axes) (l .entries) (rule.selected (l .entries))) }
+    more = record { outcome = rule.promoted; log = withEntries l (rule.refine (l .settings .axes) (l .entries) (rule.selected (l .entries))) }
 
     split : (t u : Bool) → (t ≡ true → ⊥) → u ≡ true
         → cond t (record { outcome = rule.met; log = l }) (cond u more (record { outcome = rule.spent; log = l })) .outcome ≡ rule.promoted
@@ -57,21 +59,21 @@ promoted-above l n f = split (rule.isMet l) (rule.fits (l .budget) (rule.refine 
     split false false g e = let y : _≡_ {A = ℕ} 0 1 = cc in absurd (omega arith)
 
 -- what fits neither passes 512 nor the budget
-fits-not : (l : Log) → Passes l → rule.fits (l .budget) (refined l) ≡ false
+fits-not : (l : Log) → Passes l → rule.fits (l .settings .budget) (refined l) ≡ false
 unfolding rule.fits
 fits-not l (inl h) = rw (lt-leb (length (refined l)) 512 h) refl
-fits-not l (inr h) = both (leb (length (refined l)) 512) (lt-leb (reservedBy (refined l)) (l .budget) h)
+fits-not l (inr h) = both (leb (length (refined l)) 512) (lt-leb (reservedBy (refined l)) (l .settings .budget) h)
   where
-    both : (t : Bool) → leb (reservedBy (refined l)) (l .budget) ≡ false → (t && leb (reservedBy (refined l)) (l .budget)) ≡ false
+    both : (t : Bool) → leb (reservedBy (refined l)) (l .settings .budget) ≡ false → (t && leb (reservedBy (refined l)) (l .settings .budget)) ≡ false
     both true e = e
     both false e = refl
 
-passes : (l : Log) → rule.fits (l .budget) (refined l) ≡ false → Passes l
+passes : (l : Log) → rule.fits (l .settings .budget) (refined l) ≡ false → Passes l
 unfolding rule.fits
 passes l = step (leb (length (refined l)) 512) refl
   where
-    step : (t : Bool) → leb (length (refined l)) 512 ≡ t → (t && leb (reservedBy (refined l)) (l .budget)) ≡ false → Passes l
-    step true e f = inr (leb-false (reservedBy (refined l)) (l .budget) f)
+    step : (t : Bool) → leb (length (refined l)) 512 ≡ t → (t && leb (reservedBy (refined l)) (l .settings .budget)) ≡ false → Passes l
+    step true e f = inr (leb-false (reservedBy (refined l)) (l .settings .budget) f)
     step false e f = inl (leb-false (length (refined l)) 512 e)
 
 module _ (l : Log) where
@@ -83,7 +85,7 @@ module _ (l : Log) where
 
   spent-if : (rule.isMet l ≡ true → ⊥) → Passes l → rule.promote l .outcome ≡ rule.spent
   unfolding rule.promote rule.promoteAt
-  spent-if n h = step (rule.isMet l) (rule.fits (l .budget) (refined l)) n (fits-not l h)
+  spent-if n h = step (rule.isMet l) (rule.fits (l .settings .budget) (refined l)) n (fits-not l h)
     where
       step : (t u : Bool) → (t ≡ true → ⊥) → u ≡ false → given t u .outcome ≡ rule.spent
       step true u g e = absurd (g refl)
@@ -92,46 +94,47 @@ module _ (l : Log) where
 
   only-if : rule.promote l .outcome ≡ rule.spent → (rule.isMet l ≡ true → ⊥) × Passes l
   unfolding rule.promote rule.promoteAt
-  only-if e = step (rule.isMet l) (rule.fits (l .budget) (refined l)) refl e
+  only-if e = step (rule.isMet l) (rule.fits (l .settings .budget) (refined l)) refl e
     where
-      step : (t u : Bool) → rule.fits (l .budget) (refined l) ≡ u → given t u .outcome ≡ rule.spent → (t ≡ true → ⊥) × Passes l
+      step : (t u : Bool) → rule.fits (l .settings .budget) (refined l) ≡ u → given t u .outcome ≡ rule.spent → (t ≡ true → ⊥) × Passes l
       step true u f g = let y : _≡_ {A = ℕ} 0 1 = cc in absurd (omega arith)
       step false true f g = let y : _≡_ {A = ℕ} 0 1 = cc in absurd (omega arith)
       step false false f g = (λ h. let y : _≡_ {A = ℕ} 0 1 = cc in omega arith, passes l f)
 
-  met-if : pendingOf (l .entries) ≤ l .threshold → rule.promote l .outcome ≡ rule.met
+  met-if : pendingOf (l .entries) ≤ l .settings .threshold → rule.promote l .outcome ≡ rule.met
   unfolding rule.promote rule.isMet
-  met-if h = rw (le-leb (pendingOf (l .entries)) (l .threshold) h) refl
+  met-if h = rw (le-leb (pendingOf (l .entries)) (l .settings .threshold) h) refl
 
-  met-only-if : rule.promote l .outcome ≡ rule.met → pendingOf (l .entries) ≤ l .threshold
+  met-only-if : rule.promote l .outcome ≡ rule.met → pendingOf (l .entries) ≤ l .settings .threshold
   unfolding rule.promote rule.promoteAt rule.isMet
-  met-only-if e = step (leb (pendingOf (l .entries)) (l .threshold)) (rule.fits (l .budget) (refined l)) refl e
+  met-only-if e = step (leb (pendingOf (l .entries)) (l .settings .threshold)) (rule.fits (l .settings .budget) (refined l)) refl e
     where
-      step : (t u : Bool) → leb (pendingOf (l .entries)) (l .threshold) ≡ t → given t u .outcome ≡ rule.met → pendingOf (l .entries) ≤ l .threshold
-      step true u f g = leb-true (pendingOf (l .entries)) (l .threshold) f
+      step : (t u : Bool) → leb (pendingOf (l .entries)) (l .settings .threshold) ≡ t → given t u .outcome ≡ rule.met → pendingOf (l .entries) ≤ l .settings .threshold
+      step true u f g = leb-true (pendingOf (l .entries)) (l .settings .threshold) f
       step false true f g = let y : _≡_ {A = ℕ} 0 1 = cc in absurd (omega arith)
       step false false f g = let y : _≡_ {A = ℕ} 0 1 = cc in absurd (omega arith)
 
 -- in a settled area no cause refuses a delivery that fits
-delivery-accepted : (a : Area) (rs : List ℤ) (i : ℕ) → Settled a → anyWanted (entriesOf a) ≡ true → length rs ≡ blockSize (wantedIndex (entriesOf a)) → inRange rs ≡ true
+delivery-accepted : (a : Area) (rs : List ℤ) (i : ℕ) → Settled a → anyWanted (entriesOf a) ≡ true → length rs ≡ readingCount (a .job .settings) (wantedIndex (entriesOf a)) → inRange rs ≡ true
     → deliverCall a rs i .reply ≡ accepted
 unfolding machineOf
 delivery-accepted a rs i s some whole range =
     ap (λ (y : Called). y .reply)
     (sym (deliver-accepts a rs i _ refl
     (deliver-fits (lengthsOf a) (isSound a) (machineOf a .log) rs
-    (common-none (lengthsOf a) (isSound a) (machineOf a .log) (tests.enough (lengthsOf a) (a .job .budget) (s .lent .records) (s .lent .store)) (clause-facts .agree a .back (s .sound))) some whole range)))
+    (common-none (lengthsOf a) (isSound a) (machineOf a .log) (tests.enough (lengthsOf a) (a .job .settings) (s .lent .records) (s .lent .store)) (clause-facts .agree a .back (s .sound))) some whole range)))
 
 pub excluded : Excluded
 excluded =
     record {
-      starts = λ a d t b low high some most long room.
-          ap (λ (y : Called). y .reply) (sym (start-accepts a d t b _ refl (start-fits (lengthsOf a) d b low high some most (tests.enough (lengthsOf a) b long room))));
+      starts = λ a g fit long room.
+          ap (λ (y : Called). y .reply)
+          (sym (start-accepts a g _ refl (start-fits (lengthsOf a) g fit (tests.enough (lengthsOf a) g long room))));
       accepted-deliveries = delivery-accepted;
-      deliveries = λ z l rs i long room some whole range. unfold refusal in deliver-fits z true l rs (common-none z true l (tests.enough z (l .budget) long room) refl) some whole range;
+      deliveries = λ z l rs i long room some whole range. unfold refusal in deliver-fits z true l rs (common-none z true l (tests.enough z (l .settings) long room) refl) some whole range;
       means = unfold crossOf crossTotal deliveredOf readingIn readingsOf deliverAt delivered firstWanted wanted root coefficient sumOf subsets sign raisedOn isIn sameLevels tensorRule tensorSum units unit sumTo wholeWeight endsOne newCount behind blockSize in (refl, refl);
-      started = λ d t b. unfold wanted in refl;
-      delivered = λ d t b i rs. unfold wanted deliverAt delivered firstWanted in refl;
+      started = λ g. unfold wanted in refl;
+      delivered = λ g i rs. unfold wanted deliverAt delivered firstWanted in refl;
       refines = promoted-log;
       later-means = unfold crossOf crossTotal deliveredOf readingIn readingsOf coefficient sumOf subsets sign raisedOn isIn sameLevels tensorRule tensorSum units unit sumTo wholeWeight endsOne newCount behind blockSize pair in (refl, refl);
       reserved-counted = unfold reservedBy blockSize newCount pair in refl;
@@ -149,5 +152,5 @@ excluded =
     }
 
 pub call-cases : CallCases
-unfolding answersAfter pointCauses startCauses pointOf newPoint answersBy answerBy reply refusal logStep noted bufferOf fileCalls firstCause deliverCauses promoteCauses resultCauses short inRange anyWanted firstWanted wanted root deliverAt delivered rule.promote rule.promoteAt rule.refine rule.retire rule.retired rule.selected rule.firstActive rule.largest rule.isMet rule.fits rule.admittedAxes rule.passing rule.admits rule.backwardOld rule.isOld within levelsWithin excess forward backward allFrom sameLevels countsOf countOf cappedAxes ceilingCount reservedBy pendingOf crossOf crossTotal deliveredOf readingIn readingsOf coefficient sumOf subsets sign raisedOn isIn tensorRule tensorSum units unit sumTo wholeWeight endsOne newCount behind blockSize
+unfolding answersAfter axesFit budgetFit readingsFor readingCount leastStore pointCauses startCauses pointOf newPoint answersBy answerBy reply refusal logStep noted bufferOf fileCalls firstCause deliverCauses promoteCauses resultCauses short inRange anyWanted firstWanted wanted root deliverAt delivered rule.promote rule.promoteAt rule.refine rule.retire rule.retired rule.selected rule.firstActive rule.largest rule.isMet rule.fits rule.admittedAxes rule.passing rule.admits rule.backwardOld rule.isOld within levelsWithin excess forward backward allFrom sameLevels countsOf countOf cappedAxes ceilingCount reservedBy pendingOf crossOf crossTotal deliveredOf readingIn readingsOf coefficient sumOf subsets sign raisedOn isIn tensorRule tensorSum units unit sumTo wholeWeight endsOne newCount behind blockSize
 call-cases = record { between = refl; mean-zero = refl; threshold-equal = refl; budget-four = refl; budget-five = refl; file = refl }

@@ -9,6 +9,7 @@ use native.Mathlib.Omega.{arith}
 use lib.IntN.{ℤ}
 use lib.ListN.{length, getD, take, drop, length-append, length-drop, List·getD-append}
 use lib.Seq.{getD-take, getD-drop, getD-append-add, length-take-le, take-all}
+use Rattle.area.specs.declared.Settings.{Settings}
 use Rattle.area.specs.declared.IndexRecord.{IndexRecord}
 use Rattle.area.specs.Records.{blank}
 use Rattle.area.specs.Encoding.{Area, heldOf}
@@ -99,11 +100,11 @@ module _ (a : Area) (f : Formed (a .run .records)) where
   held-formed : Formed (heldOf a)
   held-formed = formed-take (a .job .held) (a .run .records) f
 
-  start-leaves : (d t b : ℕ) → Leaves a (startCall a d t b .area)
-  start-leaves d t b =
-      elim (start-ways (λ (x : Called). (x .reply ≡ accepted) ⊎ (x .area ≡ a)) a d t b (λ none. inl refl) (λ some. inr refl)) [
-        | inl e ↦ settles (startCall a d t b .area) (call-facts .start-settles a d t b e) (call-facts .start-past a d t b) (call-facts .start-lengths a d t b)
-        | inr e ↦ kept (startCall a d t b .area) e
+  start-leaves : (g : Settings) → Leaves a (startCall a g .area)
+  start-leaves g =
+      elim (start-ways (λ (x : Called). (x .reply ≡ accepted) ⊎ (x .area ≡ a)) a g (λ none. inl refl) (λ some. inr refl)) [
+        | inl e ↦ settles (startCall a g .area) (call-facts .start-settles a g e) (call-facts .start-past a g) (call-facts .start-lengths a g)
+        | inr e ↦ kept (startCall a g .area) e
       ]
 
   deliver-leaves : (rs : List ℤ) (i : ℕ) → Leaves a (deliverCall a rs i .area)
@@ -122,7 +123,7 @@ module _ (a : Area) (f : Formed (a .run .records)) where
 
   pub call-leaves : (c : Call) → Leaves a (callOn a c .area)
   unfolding callOn
-  call-leaves (start d t b) = start-leaves d t b
+  call-leaves (start g) = start-leaves g
   call-leaves (point n buffer) = itself
   call-leaves (deliver rs i) = deliver-leaves rs i
   call-leaves promote = promote-leaves

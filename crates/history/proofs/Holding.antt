@@ -10,16 +10,20 @@ use native.Mathlib.Omega.{arith}
 use lib.IntN.{ℤ}
 use lib.ListN.{length, take, drop, take-append-drop, length-append}
 use lib.Seq.{length-take-le}
+use Rattle.grid.specs.Block.{blockSize}
 use Rattle.area.specs.Records.{Run, recordsOf, cellsFor, cellsOf, runOf}
+use Rattle.area.specs.declared.Settings.{Settings}
+use Rattle.area.specs.Settings.{readingsFor, leastStore}
+use Rattle.area.proofs.Readings.{reading-facts}
 use Rattle.area.specs.Entry.{Entry, reservedBy}
-use Rattle.area.specs.Encoding.{Area, recordsFor, storeFor, runWith, storeWith, jobWith}
+use Rattle.area.specs.Encoding.{Area, recordsFor, storeFor, runWith, storeWith, jobWith, written}
 use Rattle.area.proofs.Records.{whole}
 use Rattle.area.proofs.Cells.{cells-length, cells-run, run-drop}
 use Rattle.encoding.specs.Encodes.{Formed}
 use Rattle.encoding.proofs.Places.{records-length}
 use Rattle.encoding.proofs.Store.{Blocks, AllWanted, blocks-of}
-use Rattle.machine.specs.Log.{Machine, written}
-use Rattle.machine.specs.Facts.{SoundMachine}
+use Rattle.area.specs.Log.{Machine}
+use Rattle.encoding.specs.Entries.{SoundMachine}
 use Rattle.machine.specs.Means.{meanOf}
 use Rattle.calls.proofs.Written.{formed-records}
 use Rattle.history.specs.Calls.{Part}
@@ -28,13 +32,21 @@ use Rattle.history.proofs.Overlays.{over, over-part, over-whole, over-t
 
 -- ---- how much a state needs
 
-stored-length : (es : List Entry) → Blocks es → length (storeFor es) ≤ reservedBy es
+stored-length : (g : Settings) (es : List Entry) → Blocks g es → length (storeFor es) ≤ readingsFor g (reservedBy es)
 unfolding storeFor reservedBy
-stored-length [] b = omega arith
-stored-length (e ∷ es) (inl x) = omega (arith, length-append (e .readings) (storeFor es), x .1, stored-length es (x .2))
-stored-length (e ∷ es) (inr x) = empty (e ∷ es) x
+stored-length g [] b = omega arith
+stored-length g (e ∷ es) (inl x) =
+    omega (
+      arith,
+      length-append (e .readings) (storeFor es),
+      x .1,
+      stored-length g es (x .2),
+      reading-facts .count g (e .levels),
+      reading-facts .sum g (blockSize (e .levels)) (reservedBy es),
+    )
+stored-length g (e ∷ es) (inr x) = omega (arith, empty (e ∷ es) x)
   where
-    empty : (fs : List Entry) → AllWanted fs → length (storeFor fs) ≤ reservedBy fs
+    empty : (fs : List Entry) → AllWanted fs → length (storeFor fs) ≤ 0
     empty [] y = omega arith
     empty (f ∷ fs) y = omega (arith, length-append (f .readings) (storeFor fs), ap length (y .1), empty fs (y .2))
 
@@ -45,43 +57,48 @@ module _ (m : Machine) (v : SoundMachine m) where
   es = m .log .entries
 
   abbrev front : List ℕ
-  front = cellsFor (recordsFor es)
+  front = cellsFor (recordsFor (m .log .settings) es)
 
-  formed : Formed (recordsFor es)
-  formed = formed-records (record { job = jobWith 0 0 0 [] (m .mean); run = record { records = []; rest = [] }; store = [] }) m v
+  formed : Formed (recordsFor (m .log .settings) es)
+  formed = formed-records (record { job = jobWith m; run = record { records = []; rest = [] }; store = [] }) m v
 
   front-length : length front ≡ length es * 27
-  front-length = cells-length (recordsFor es) formed ∙ ap (λ n. n * 27) (records-length es)
+  front-length = cells-length (recordsFor (m .log .settings) es) formed ∙ ap (λ n. n * 27) (records-length (m .log .settings) es)
 
   pub front-small : length front ≤ 512 * 27
   front-small = omega (arith, front-length, v .count .1)
 
-  pub back-small : length (storeFor es) ≤ m .log .budget
-  back-small = omega (arith, stored-length es (blocks-of v), v .within-budget)
+  pub back-small : length (storeFor es) ≤ leastStore (m .log .settings)
+  back-small = omega (
+    arith,
+    stored-length (m .log .settings) es (blocks-of v),
+    reading-facts .more (m .log .settings) (reservedBy es) (m .log .settings .budget) (v .within-budget),
+    reading-facts .least (m .log .settings),
+  )
 
   module _ (c : List ℕ) (room : length front ≤ length c) where
     dropped : runOf (drop (length front) c) ≡ record { records = drop (length es) (recordsOf c); rest = runOf c .rest }
     dropped = ap (λ n. runOf (drop n c)) front-length ∙ run-drop (length es) c (omega (arith, front-length, room))
 
-    pub run-over : runOf (over front c) ≡ runWith (runOf c) es
+    pub run-over : runOf (over front c) ≡ runWith (runOf c) (m .log)
     unfolding runWith
     run-over =
-        cells-run (recordsFor es) (drop (length front) c) formed
-        ∙ ap (λ (u : Run). record { records = recordsFor es ++ u .records; rest = u .rest }) dropped
+        cells-run (recordsFor (m .log .settings) es) (drop (length front) c) formed
+        ∙ ap (λ (u : Run). record { records = recordsFor (m .log .settings) es ++ u .records; rest = u .rest }) dropped
 
-    pub cells-with : cellsOf (runWith (runOf c) es) ≡ over front c
+    pub cells-with : cellsOf (runWith (runOf c) (m .log)) ≡ over front c
     cells-with = ap cellsOf (sym run-over) ∙ whole (over front c)
 
 -- ---- storage that holds a state
 
 pub record Holds (w : Storage) (m : Machine) : Type 0 where
-  pub job : w .job ≡ jobWith (m .log .axes) (m .log .threshold) (m .log .budget) (m .log .entries) (m .mean)
-  pub cells : w .cells ≡ over (cellsFor (recordsFor (m .log .entries))) (w .cells)
+  pub job : w .job ≡ jobWith m
+  pub cells : w .cells ≡ over (cellsFor (recordsFor (m .log .settings) (m .log .entries))) (w .cells)
   pub store : w .store ≡ over (storeFor (m .log .entries)) (w .store)
   pub sound : SoundMachine m
   pub mean : m .mean ≡ meanOf (m .log .entries)
   pub long : 512 * 27 ≤ length (w .cells)
-  pub room : m .log .budget ≤ length (w .store)
+  pub room : leastStore (m .log .settings) ≤ length (w .store)
 
 -- v is storage as long as w, and holds the state.
 pub record Kept (w v : Storage) (m : Machine) : Type 0 where
@@ -89,11 +106,11 @@ pub record Kept (w v : Storage) (m : Machine) : Type 0 where
   pub cells : length (v .cells) ≡ length (w .cells)
   pub store : length (v .store) ≡ length (w .store)
 
--- A call is lent enough for a budget b.
-pub record Enough (w : Storage) (x : Part) (b : ℕ) : Type 0 where
+-- A call is lent enough for the settings.
+pub record Enough (w : Storage) (x : Part) (g : Settings) : Type 0 where
   pub lent : Lent w x
   pub cells : 512 * 27 ≤ x .cells
-  pub readings : b ≤ x .readings
+  pub readings : leastStore g ≤ x .readings
 
 module _ (w : Storage) (x : Part) where
   abbrev a : Area
@@ -112,9 +129,9 @@ module _ (w : Storage) (x : Part) where
   pub still : (m : Machine) → Holds w m → Kept w (returned w x a) m
   still m h = subst (λ v. Kept w v m) (sym same) (record { holds = h; cells = refl; store = refl })
 
-  module _ (m : Machine) (v : SoundMachine m) (n : Enough w x (m .log .budget)) where
+  module _ (m : Machine) (v : SoundMachine m) (n : Enough w x (m .log .settings)) where
     abbrev laid : List ℕ
-    laid = cellsFor (recordsFor (m .log .entries))
+    laid = cellsFor (recordsFor (m .log .settings) (m .log .entries))
 
     abbrev read : List ℤ
     read = storeFor (m .log .entries)

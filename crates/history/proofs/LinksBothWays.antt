@@ -31,9 +31,9 @@ module _ (a : Area) (s : Sound a) where
   all = a .run .records
 
   abbrev d : ℕ
-  d = a .job .axes
+  d = a .job .settings .axes
 
-  abbrev st : Structure (a .job .axes) (a .job .budget) (heldOf a)
+  abbrev st : Structure (a .job .settings .axes) (heldOf a)
   st = s .structure
 
   held-length : length rs ≡ a .job .held
@@ -110,11 +110,11 @@ module _ (a : Area) (s : Sound a) where
   module _ (p : ℕ) (h : p < length es) where
     there : p < length rs
     unfolding entriesOf
-    there = omega (arith, entries-length (a .store) rs, h)
+    there = omega (arith, entries-length (a .job .settings) (a .store) rs, h)
 
     same-levels : entryAt es p .levels ≡ levelsAt rs p
     unfolding entriesOf
-    same-levels = levels-at (a .store) rs p
+    same-levels = levels-at (a .job .settings) (a .store) rs p
 
     forward-in : (x : ℕ) → forwardLink all p x ≡ forwardLink rs p x
     forward-in x = ap (λ (r : IndexRecord). getD (r .links) x 0) (sym (record-same p there))
@@ -124,15 +124,15 @@ module _ (a : Area) (s : Sound a) where
 
     held-ahead : (x q : ℕ) → Has es (forward (entryAt es p .levels) x) q → Holds rs (forward (levelsAt rs p) x) q
     unfolding entriesOf
-    held-ahead x q t = holds (a .store) rs (forward (levelsAt rs p) x) q (subst (λ k. Has es (forward k x) q) same-levels t)
+    held-ahead x q t = holds (a .job .settings) (a .store) rs (forward (levelsAt rs p) x) q (subst (λ k. Has es (forward k x) q) same-levels t)
 
     held-behind : (x q : ℕ) → Has es (backward (entryAt es p .levels) x) q → Holds rs (backward (levelsAt rs p) x) q
     unfolding entriesOf
-    held-behind x q t = holds (a .store) rs (backward (levelsAt rs p) x) q (subst (λ k. Has es (backward k x) q) same-levels t)
+    held-behind x q t = holds (a .job .settings) (a .store) rs (backward (levelsAt rs p) x) q (subst (λ k. Has es (backward k x) q) same-levels t)
 
     ahead-entered : (x : ℕ) → Held rs (forward (levelsAt rs p) x) → Entered es (forward (entryAt es p .levels) x)
     unfolding entriesOf
-    ahead-entered x t = (t .0, subst (λ k. Has es (forward k x) (t .0)) (sym same-levels) (has (a .store) rs (forward (levelsAt rs p) x) (t .0) (t .1)))
+    ahead-entered x t = (t .0, subst (λ k. Has es (forward k x) (t .0)) (sym same-levels) (has (a .job .settings) (a .store) rs (forward (levelsAt rs p) x) (t .0) (t .1)))
 
     same-level : (x : ℕ) → level (entryAt es p .levels) x ≡ level (levelsAt rs p) x
     same-level x = ap (λ k. level k x) same-levels
@@ -150,5 +150,5 @@ module _ (a : Area) (s : Sound a) where
           forward-in q (t .place) x ∙ behind-back p x (there p h) l above q v,
         );
         none-behind = λ p x h l e. backward-in p h x ∙ backward-none p (there p h) x l (sym (same-level p h x) ∙ e);
-        apart = unfold none entriesOf in omega (arith, entries-length (a .store) rs, st .count .1);
+        apart = unfold none entriesOf in omega (arith, entries-length (a .job .settings) (a .store) rs, st .count .1);
       }

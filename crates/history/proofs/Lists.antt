@@ -4,7 +4,7 @@ use mathlib.Core.Path.{_≡_, refl, ap, ap₂, _∙_}
 use mathlib.Core.List.{List, [], _∷_, _++_}
 use native.Mathlib.Omega.{arith}
 use lib.ListN.{length}
-use Rattle.machine.specs.Log.{Log, Machine}
+use Rattle.area.specs.Log.{Log, Machine}
 use Rattle.history.specs.Calls.{LentCall, Answer}
 use Rattle.history.specs.Logged.{logAfter, answersBy}
 use Rattle.history.specs.Storage.{Storage, AllLent, storageStep, storageAfter, answersOf}

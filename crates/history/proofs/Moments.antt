@@ -11,7 +11,8 @@ use borrow.Author.Tests.{eqb-true}
 use lib.Dec.{eqb}
 use lib.ListN.{length}
 use Rattle.encoding.specs.Entries.{entryAt}
-use Rattle.machine.specs.Log.{Machine, firstWanted, anyWanted}
+use Rattle.area.specs.Log.{Machine}
+use Rattle.machine.specs.Log.{firstWanted, anyWanted}
 use Rattle.machine.specs.Counts.{countOf}
 use Rattle.machine.specs.Steps as steps
 use Rattle.machine.specs.Causes.{Lengths}
@@ -32,7 +33,7 @@ use Rattle.history.proofs.Standing.{follows-at}
 module _ (m : Machine) (f : Fine m) (c : OnCourse m) where
   moved-course : (z : Lengths) (x : Call) → refusal z (m .log) x ≡ 0 → OnCourse (moved m x)
   unfolding moved refusal
-  moved-course z (start d t b) e = start-course d t b
+  moved-course z (start g) e = start-course g
   moved-course z (point n buffer) e = c
   moved-course z (deliver rs i) e = deliver-course m rs i (deliverable z true (m .log) rs e .wanted) (moved-fine m f z (deliver rs i) e .sound) c
   moved-course z promote e = promote-course m (f .sound) (promotable z true (m .log) e .free) c
@@ -58,8 +59,8 @@ after-course m f c (x ∷ xs) = after-course (machineStep m x) (step-fine m f x)
 steps-of : (m : Machine) → Fine m → OnCourse m → StepsFollow (m .log)
 steps-of m f c =
     record {
-      every = λ P a t v. let x = course-stands P m c a t v in follows-at P m (countOf 2 (m .log .entries)) f (x .stands) (x .went-on);
-      some = λ none. posed (f .sound) (all none) (m .log .threshold);
+      every = λ P posing v. let x = course-stands P m c posing v in follows-at P m (countOf 2 (m .log .entries)) f (x .stands) (x .went-on);
+      some = λ none. posed (f .sound) (all none);
     }
   where
     all : (anyWanted (m .log .entries) ≡ true → ⊥) → (p : ℕ) → p < length (m .log .entries) → 1 ≤ entryAt (m .log .entries) p .state
@@ -70,11 +71,11 @@ steps-of m f c =
         step (no h) = omega arith
 
 pub steps-follow : StepsFollowAll
-steps-follow w first later d t b lent is taken =
-    subst StepsFollow (log-there w first later d t b lent is taken)
-    (steps-of (machineAfter (steps.started d t b) later) (state-fine w first later d t b lent is taken)
-    (after-course (steps.started d t b) begun (start-course d t b) later))
+steps-follow w first later g lent is taken =
+    subst StepsFollow (log-there w first later g lent is taken)
+    (steps-of (machineAfter (steps.started g) later) (state-fine w first later g lent is taken)
+    (after-course (steps.started g) begun (start-course g) later))
   where
     -- with no later call
-    begun : Fine (steps.started d t b)
-    begun = unfold machineAfter in state-fine w first [] d t b (lent .0, tt) is taken
+    begun : Fine (steps.started g)
+    begun = unfold machineAfter in state-fine w first [] g (lent .0, tt) is taken

@@ -1,20 +1,21 @@
 -- What an accepted call does to the machine's state: it stays sound, keeps its mean worked from the readings, and fits what is lent.
 -- The idea: no cause refused, so what each step asks for holds.
 -- Assumes nothing.
-use mathlib.Core.Path.{_≡_, refl, ap, sym, _∙_}
+use mathlib.Core.Path.{_≡_, refl, ap, sym, _∙_, subst}
 use mathlib.Core.Bool.{Bool, true, false, cond}
 use mathlib.Core.List.{List}
 use Prim.Native.Nat.{ℕ, _≤_}
-use native.Mathlib.Omega.{arith}
 use borrow.Author.Tests.{eqb-true}
 use lib.Dec.{eqb}
 use lib.IntN.{ℤ, _+ℤ_}
 use Rattle.grid.specs.Difference.{scaledDifference}
+use Rattle.area.specs.Settings.{leastStore}
 use Rattle.area.specs.Entry.{readingIn}
-use Rattle.machine.specs.Log.{Log, Machine, withEntries, wantedIndex}
+use Rattle.area.specs.Log.{Log, Machine, withEntries}
+use Rattle.machine.specs.Log.{wantedIndex}
 use Rattle.machine.specs.Promote as rule
 use Rattle.machine.specs.Steps as steps
-use Rattle.machine.specs.Facts.{SoundMachine}
+use Rattle.encoding.specs.Entries.{SoundMachine}
 use Rattle.machine.specs.Means.{meanOf, crossOf}
 use Rattle.machine.specs.Causes.{Lengths}
 use Rattle.machine.proofs.Facts.{step-facts}
@@ -26,7 +27,7 @@ use Rattle.history.specs.Logged.{refusal, noted, logStep}
 
 -- What an accepted call does to the machine's state.
 unfoldable pub moved : Machine → Call → Machine
-moved m (start d t b) = steps.started d t b
+moved m (start g) = steps.started g
 moved m (point n buffer) = m
 moved m (deliver rs i) = steps.deliver m rs i
 moved m promote = steps.promoteStep m
@@ -42,7 +43,7 @@ machineStep m x = cond (eqb (refusal (lengthsLent (x .part)) (m .log) (x .call))
 
 moved-log : (m : Machine) (c : Call) → moved m c .log ≡ noted (m .log) c
 unfolding moved noted
-moved-log m (start d t b) = unfold steps.started in refl
+moved-log m (start g) = unfold steps.started in refl
 moved-log m (point n buffer) = refl
 moved-log m (deliver rs i) = unfold steps.deliver in refl
 moved-log m promote = unfold steps.promoteStep in refl
@@ -58,25 +59,25 @@ step-log m x = split (eqb (refusal (lengthsLent (x .part)) (m .log) (x .call)) 0
     split true = moved-log m (x .call)
     split false = refl
 
--- ---- the budget stays
+-- ---- the settings stay
 
-refined-budget : (l : Log) (p : ℕ) → rule.promoteAt l p .log .budget ≡ l .budget
+refined-settings : (l : Log) (p : ℕ) → rule.promoteAt l p .log .settings ≡ l .settings
 unfolding rule.promoteAt
-refined-budget l p = split (rule.fits (l .budget) (rule.refine (l .axes) (l .entries) p))
+refined-settings l p = split (rule.fits (l .settings .budget) (rule.refine (l .settings .axes) (l .entries) p))
   where
     split : (t : Bool)
-        → cond {A = rule.Promotion} t (record { outcome = rule.promoted; log = withEntries l (rule.refine (l .axes) (l .entries) p) }) (record { outcome = rule.spent; log = l }) .log .budget
-        ≡ l .budget
+        → cond {A = rule.Promotion} t (record { outcome = rule.promoted; log = withEntries l (rule.refine (l .settings .axes) (l .entries) p) }) (record { outcome = rule.spent; log = l }) .log .settings
+        ≡ l .settings
     split true = refl
     split false = refl
 
-pub promoted-budget : (l : Log) → rule.promote l .log .budget ≡ l .budget
+pub promoted-settings : (l : Log) → rule.promote l .log .settings ≡ l .settings
 unfolding rule.promote
-promoted-budget l = split (rule.isMet l)
+promoted-settings l = split (rule.isMet l)
   where
-    split : (t : Bool) → cond t (record { outcome = rule.met; log = l }) (rule.promoteAt l (rule.selected (l .entries))) .log .budget ≡ l .budget
+    split : (t : Bool) → cond t (record { outcome = rule.met; log = l }) (rule.promoteAt l (rule.selected (l .entries))) .log .settings ≡ l .settings
     split true = refl
-    split false = refined-budget l (rule.selected (l .entries))
+    split false = refined-settings l (rule.selected (l .entries))
 
 -- ---- an accepted call
 
@@ -100,12 +101,9 @@ module _ (m : Machine) (f : Fine m) where
 
   pub moved-fine : (z : Lengths) (c : Call) → refusal z (m .log) c ≡ 0 → Fine (moved m c)
   unfolding moved refusal
-  moved-fine z (start d t b) e =
-      let s : Startable z d b = startable z d b e in
-      record {
-        sound = step-facts .start d t b (s .axes .0) (s .axes .1) (s .budget .0) (s .budget .1);
-        mean = unfold steps.started in sym (mean-facts .start d t b);
-      }
+  moved-fine z (start g) e =
+      let s : Startable z g = startable z g e in
+      record { sound = step-facts .start g (s .settings); mean = unfold steps.started in sym (mean-facts .start g) }
   moved-fine z (point n buffer) e = f
   moved-fine z (deliver rs i) e = delivered rs i z (deliverable z true (m .log) rs e)
   moved-fine z promote e =
@@ -117,15 +115,15 @@ module _ (m : Machine) (f : Fine m) where
   moved-fine z crossTotal e = f
   moved-fine z check e = f
 
-  pub moved-budget : (z : Lengths) (c : Call) → m .log .budget ≤ z .readings → refusal z (m .log) c ≡ 0 → moved m c .log .budget ≤ z .readings
+  pub moved-room : (z : Lengths) (c : Call) → leastStore (m .log .settings) ≤ z .readings → refusal z (m .log) c ≡ 0 → leastStore (moved m c .log .settings) ≤ z .readings
   unfolding moved refusal
-  moved-budget z (start d t b) h e = unfold steps.started in startable z d b e .readings
-  moved-budget z (point n buffer) h e = h
-  moved-budget z (deliver rs i) h e = unfold steps.deliver in h
-  moved-budget z promote h e = unfold steps.promoteStep in omega (arith, promoted-budget (m .log), h)
-  moved-budget z result h e = h
-  moved-budget z crossTotal h e = h
-  moved-budget z check h e = h
+  moved-room z (start g) h e = unfold steps.started in startable z g e .readings
+  moved-room z (point n buffer) h e = h
+  moved-room z (deliver rs i) h e = unfold steps.deliver in h
+  moved-room z promote h e = unfold steps.promoteStep in subst (λ s. leastStore s ≤ z .readings) (sym (promoted-settings (m .log))) h
+  moved-room z result h e = h
+  moved-room z crossTotal h e = h
+  moved-room z check h e = h
 
 pub step-fine : (m : Machine) → Fine m → (x : LentCall) → Fine (machineStep m x)
 unfolding machineStep

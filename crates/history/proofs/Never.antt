@@ -1,51 +1,51 @@
 -- Cause 4 never comes from the log.
 -- The idea: its test is the one that never refuses, and no other cause has its number.
 -- Assumes nothing.
-use mathlib.Core.Path.{_≡_, ap, sym, _∙_}
+use mathlib.Core.Path.{_≡_, refl, ap, sym, _∙_}
 use mathlib.Core.Logic.{_⊎_, inl, inr}
-use mathlib.Core.Bool.{Bool, true, false, cond}
+use mathlib.Core.Bool.{Bool, true, false, not, cond, _&&_}
 use mathlib.Core.List.{List, [], _∷_, List·Memᴰ, List·Memᴰ·not-nil, List·Memᴰ·cases-cons}
 use Prim.Native.Nat.{ℕ}
 use native.Mathlib.Omega.{arith}
+use borrow.Author.Tests.{eqb-false}
 use lib.Dec.{eqb}
-use Rattle.machine.specs.Log.{Log}
-use Rattle.machine.specs.Causes.{Lengths, Cause, cause, firstCause, startCauses, pointCauses, deliverCauses, promoteCauses, resultCauses}
+use lib.ListN.{length}
+use Rattle.area.specs.Log.{Log}
+use Rattle.machine.specs.Causes.{Lengths, Cause, firstCause, startCauses, pointCauses, deliverCauses, promoteCauses, resultCauses}
 use Rattle.calls.specs.Replies.{refused}
 use Rattle.history.specs.Calls.{Call, start, point, deliver, promote, result, crossTotal, check, LentCall, lengthsLent, Answer}
 use Rattle.history.specs.Logged.{refusal, logStep, reply, bufferOf, answerBy, answersBy}
 
-abbrev Not4 : ℕ → Type 0
-Not4 n = n ≡ 4 → ⊥
+-- every row with the number 4 has a test that does not refuse
+apart : List Cause → Bool
+apart [] = true
+apart (c ∷ cs) = cond (eqb (c .number) 4) (not (c .test)) true && apart cs
 
-row : (t : Bool) (n : ℕ) (cs : List Cause) → Not4 n → Not4 (firstCause cs) → Not4 (firstCause (cause t n ∷ cs))
-unfolding firstCause
-row true n cs f g e = f e
-row false n cs f g e = g e
+spared : (cs : List Cause) → apart cs ≡ true → firstCause cs ≡ 4 → ⊥
+unfolding apart firstCause
+spared [] h e = omega (arith, e)
+spared (c ∷ cs) h e = step (c .test) (eqb (c .number) 4) refl (spared cs) h e
+  where
+    step : (t u : Bool) → eqb (c .number) 4 ≡ u → (apart cs ≡ true → firstCause cs ≡ 4 → ⊥) → (cond u (not t) true && apart cs) ≡ true → cond t (c .number) (firstCause cs) ≡ 4 → ⊥
+    step true true n later f g = let y : _≡_ {A = ℕ} 0 1 = cc in omega arith
+    step true false n later f g = eqb-false (c .number) 4 n g
+    step false true n later f g = later f g
+    step false false n later f g = later f g
 
-last : Not4 (firstCause [])
-unfolding firstCause
-last e = omega (arith, e)
-
-skip : (cs : List Cause) → Not4 (firstCause cs) → Not4 (firstCause (cause false 4 ∷ cs))
-unfolding firstCause
-skip cs g e = g e
-
-not-four : (z : Lengths) (l : Log) (c : Call) → Not4 (refusal z l c)
-unfolding refusal startCauses pointCauses deliverCauses promoteCauses resultCauses
-not-four z l (start d t b) = row _ 1 _ (λ e. omega (arith, e)) (row _ 2 _ (λ e. omega (arith, e)) (row _ 3 _ (λ e. omega (arith, e)) last))
-not-four z l (point n buffer) =
-    row _ 3 _ (λ e. omega (arith, e)) (row _ 3 _ (λ e. omega (arith, e)) (skip _ (row _ 5 _ (λ e. omega (arith, e)) (row _ 9 _ (λ e. omega (arith, e)) last))))
-not-four z l (deliver rs i) =
-    row _ 3 _ (λ e. omega (arith, e)) (skip _ (row _ 5 _ (λ e. omega (arith, e)) (row _ 7 _ (λ e. omega (arith, e)) (row _ 8 _ (λ e. omega (arith, e)) last))))
-not-four z l promote = row _ 3 _ (λ e. omega (arith, e)) (skip _ (row _ 6 _ (λ e. omega (arith, e)) last))
-not-four z l result = row _ 3 _ (λ e. omega (arith, e)) (skip _ last)
-not-four z l crossTotal = row _ 3 _ (λ e. omega (arith, e)) (skip _ last)
+not-four : (z : Lengths) (l : Log) (c : Call) → refusal z l c ≡ 4 → ⊥
+unfolding apart refusal startCauses pointCauses deliverCauses promoteCauses resultCauses
+not-four z l (start g) = spared (startCauses z g) refl
+not-four z l (point n buffer) = spared (pointCauses z true l n (length buffer)) refl
+not-four z l (deliver rs i) = spared (deliverCauses z true l rs) refl
+not-four z l promote = spared (promoteCauses z true l) refl
+not-four z l result = spared (resultCauses z true l) refl
+not-four z l crossTotal = spared (resultCauses z true l) refl
 not-four z l check = λ e. omega (arith, e)
 
 -- an accepted call answers no refusal
 not-refused : (z : Lengths) (l : Log) (c : Call) (n : ℕ) → reply z l c .reply ≡ refused n → ⊥
 unfolding reply
-not-refused z l (start d t b) n e = let y : _≡_ {A = ℕ} 0 1 = cc in omega arith
+not-refused z l (start g) n e = let y : _≡_ {A = ℕ} 0 1 = cc in omega arith
 not-refused z l (point m buffer) n e = let y : _≡_ {A = ℕ} 0 1 = cc in omega arith
 not-refused z l (deliver rs i) n e = let y : _≡_ {A = ℕ} 0 1 = cc in omega arith
 not-refused z l promote n e = let y : _≡_ {A = ℕ} 0 1 = cc in omega arith

@@ -9,7 +9,10 @@ use Prim.Native.Nat.{ℕ, zero, suc, _*_, _<_, _≤_}
 use native.Mathlib.Omega.{arith}
 use lib.Dec.{eqb}
 use lib.ListN.{length}
-use Rattle.machine.specs.Log.{Log, Machine, wanted, firstWanted}
+use Rattle.area.specs.declared.Settings.{Settings}
+use Rattle.area.specs.Settings.{SettingsFit, leastStore}
+use Rattle.area.specs.Log.{Log, Machine}
+use Rattle.machine.specs.Log.{wanted, firstWanted}
 use Rattle.machine.specs.Promote as rule
 use Rattle.machine.specs.Steps as steps
 use Rattle.machine.specs.Causes.{firstCause, startCauses}
@@ -21,7 +24,7 @@ use Rattle.calls.specs.Calls.{startCall}
 use Rattle.calls.proofs.Tests as tests
 use Rattle.calls.proofs.Refusing.{start-accepts}
 use Rattle.published.specs.Figure.{Problem, goesOn, turns}
-use Rattle.published.specs.Turns.{turnsOn, Measured}
+use Rattle.published.specs.Turns.{turnsOn, Poses, Measured}
 use Rattle.published.proofs.Outcomes.{promoted-goes-on}
 use Rattle.published.proofs.Sums.{sum-facts}
 use Rattle.history.specs.Calls.{Call, start, Part, LentCall, lengthsLent, Answer, answer}
@@ -43,15 +46,15 @@ use Rattle.history.proofs.Answered.{AllTaken, one-taken, both-taken, tu
 mean-follows : (m : Machine) → Fine m → MeanFollows (m .log)
 mean-follows m f =
     record {
-      difference = λ P r k n. sum-facts .difference (m .log .axes) (m .log .budget) (m .mean) (m .log .entries) P (f .sound) r k n;
-      sum = λ P r. sym (mean-facts .cross m (f .sound)) ∙ sum-facts .sum (m .log .axes) (m .log .budget) (m .mean) (m .log .entries) P (f .sound) r;
-      some = sum-facts .some (m .log .axes) (m .log .budget) (m .mean) (m .log .entries) (f .sound);
+      difference = λ P r k n. sum-facts .difference m P (f .sound) r k n;
+      sum = λ P r. sym (mean-facts .cross m (f .sound)) ∙ sum-facts .sum m P (f .sound) r;
+      some = sum-facts .some m (f .sound);
     }
 
 pub means-follow : MeansFollow
-means-follow w first later d t b lent is taken =
-    subst MeanFollows (log-there w first later d t b lent is taken)
-    (mean-follows (machineAfter (steps.started d t b) later) (state-fine w first later d t b lent is taken))
+means-follow w first later g lent is taken =
+    subst MeanFollows (log-there w first later g lent is taken)
+    (mean-follows (machineAfter (steps.started g) later) (state-fine w first later g lent is taken))
 
 -- ---- a run
 
@@ -64,102 +67,102 @@ lent-both : (x : Part) (cs ds : List Call) → lendAll x (cs ++ ds) ≡ lendAll 
 unfolding lendAll
 lent-both x cs ds = map-append (λ (c : Call). record { call = c; part = x }) cs ds
 
-module _ (x : Part) (P : Problem) (b : ℕ) where
+module _ (x : Part) (P : Problem) (g : Settings) where
   abbrev first : LentCall
-  first = record { call = start (P .axes) (P .tolerance) b; part = x }
+  first = record { call = start g; part = x }
 
   abbrev l₀ : Log
-  l₀ = steps.startLog (P .axes) (P .tolerance) b
+  l₀ = steps.startLog g
 
   -- the calls past the start
   past : ℕ → List Call
   past zero = supplyCall P l₀ ∷ []
-  past (suc n) = past n ++ turnCalls P (logOf x P b n)
+  past (suc n) = past n ++ turnCalls P (logOf x P g n)
 
-  begins : (n : ℕ) → callsOf x P b n ≡ start (P .axes) (P .tolerance) b ∷ past n
+  begins : (n : ℕ) → callsOf x P g n ≡ start g ∷ past n
   unfolding callsOf begun past
   begins zero = refl
-  begins (suc n) = ap (λ cs. cs ++ turnCalls P (logOf x P b n)) (begins n)
+  begins (suc n) = ap (λ cs. cs ++ turnCalls P (logOf x P g n)) (begins n)
 
-  module _ (long : 512 * 27 ≤ x .cells) (room : b ≤ x .readings) (measured : Measured P) (low : 1 ≤ P .axes) (high : P .axes ≤ 8) (some : 1 ≤ b) (most : b ≤ 8192) where
+  module _ (long : 512 * 27 ≤ x .cells) (room : leastStore g ≤ x .readings) (measured : Measured P) (fit : SettingsFit g) (posed : Poses g P) where
     abbrev m₀ : Machine
-    m₀ = steps.started (P .axes) (P .tolerance) b
+    m₀ = steps.started g
 
     abbrev Each : ℕ → Type 0
-    Each n = (i : ℕ) → i < n → rule.promote (logOf x P b i) .outcome ≡ rule.promoted
+    Each n = (i : ℕ) → i < n → rule.promote (logOf x P g i) .outcome ≡ rule.promoted
 
-    runs : (n : ℕ) → Each n → Ran x P b long room measured low high some most n
-    runs n each = ran x P b long room measured low high some most n each
+    runs : (n : ℕ) → Each n → Ran x P g long room measured fit posed n
+    runs n each = ran x P g long room measured fit posed n each
 
     started-log : logStep l₀ first ≡ l₀
     unfolding steps.started
-    started-log = sym (step-log m₀ first) ∙ ap (λ (y : Machine). y .log) (start-step x P b long room measured low high some most)
+    started-log = sym (step-log m₀ first) ∙ ap (λ (y : Machine). y .log) (start-step x P g long room measured fit posed)
 
     -- ---- no call is refused
 
-    first-taken : answerBy (lengthsLent x) l₀ (start (P .axes) (P .tolerance) b) ≡ answer accepted
+    first-taken : answerBy (lengthsLent x) l₀ (start g) ≡ answer accepted
     unfolding answerBy refusal reply
-    first-taken = ap (λ n. cond (eqb n 0) (answer accepted) (record { reply = refused n; buffer = bufferOf (start (P .axes) (P .tolerance) b) })) (start-clear x P b long room measured low high some most)
+    first-taken = ap (λ n. cond (eqb n 0) (answer accepted) (record { reply = refused n; buffer = bufferOf (start g) })) (start-clear x P g long room measured fit posed)
 
-    begun-taken : AllTaken (answersBy l₀ (lendAll x (begun P b)))
+    begun-taken : AllTaken (answersBy l₀ (lendAll x (begun P g)))
     unfolding lendAll begun answersBy
     begun-taken = (
       inl first-taken,
-      (inl (ap (λ (o : Log). answerBy (lengthsLent x) o (supplyCall P l₀)) started-log ∙ supply-answer P (lengthsLent x) l₀ (tests.enough (lengthsLent x) b (omega (arith, long)) room) measured (unfold firstWanted wanted in omega arith)), tt),
+      (inl (ap (λ (o : Log). answerBy (lengthsLent x) o (supplyCall P l₀)) started-log ∙ supply-answer P (lengthsLent x) l₀ (tests.enough (lengthsLent x) g (omega (arith, long)) room) measured (unfold firstWanted wanted in omega arith)), tt),
     )
 
-    free : (n : ℕ) (r : Ran x P b long room measured low high some most n) → length (turnsOn P b n .log .entries) ≤ firstWanted (turnsOn P b n .log .entries)
-    free n r = omega (arith, first-none (turnsOn P b n .log .entries) (r .stands .supplied .delivered))
+    free : (n : ℕ) (r : Ran x P g long room measured fit posed n) → length (turnsOn P g n .log .entries) ≤ firstWanted (turnsOn P g n .log .entries)
+    free n r = omega (arith, first-none (turnsOn P g n .log .entries) (r .stands .supplied .delivered))
 
-    log-after : (n : ℕ) (r : Ran x P b long room measured low high some most n) → logAfter l₀ (lendAll x (callsOf x P b n)) ≡ turnsOn P b n .log
+    log-after : (n : ℕ) (r : Ran x P g long room measured fit posed n) → logAfter l₀ (lendAll x (callsOf x P g n)) ≡ turnsOn P g n .log
     unfolding steps.started
-    log-after n r = sym (after-log m₀ (lendAll x (callsOf x P b n))) ∙ ap (λ (y : Machine). y .log) (r .machine)
+    log-after n r = sym (after-log m₀ (lendAll x (callsOf x P g n))) ∙ ap (λ (y : Machine). y .log) (r .machine)
 
-    all-taken : (n : ℕ) → Each n → AllTaken (answersBy l₀ (lendAll x (callsOf x P b n)))
+    all-taken : (n : ℕ) → Each n → AllTaken (answersBy l₀ (lendAll x (callsOf x P g n)))
     unfolding callsOf
     all-taken zero each = begun-taken
     all-taken (suc n) each =
         let before : Each n = λ i h. each i (omega (arith, h)) in
         let r = runs n before in
-        subst (λ xs. AllTaken (answersBy l₀ xs)) (sym (lent-both x (callsOf x P b n) (turnCalls P (logOf x P b n))))
-        (both-taken l₀ (lendAll x (callsOf x P b n)) (lendAll x (turnCalls P (logOf x P b n))) (all-taken n before)
-        (subst (λ (o : Log). AllTaken (answersBy o (lendAll x (turnCalls P (logOf x P b n))))) (sym (log-after n r))
-        (subst (λ (o : Log). AllTaken (answersBy (turnsOn P b n .log) (lendAll x (turnCalls P o)))) (sym (r .log))
-        (turn-taken x P b long room measured (turnsOn P b n) (r .sound) (r .budget) (free n r) (ap (λ (o : Log). rule.promote o .outcome) (sym (r .log)) ∙ each n (omega arith))))))
+        subst (λ xs. AllTaken (answersBy l₀ xs)) (sym (lent-both x (callsOf x P g n) (turnCalls P (logOf x P g n))))
+        (both-taken l₀ (lendAll x (callsOf x P g n)) (lendAll x (turnCalls P (logOf x P g n))) (all-taken n before)
+        (subst (λ (o : Log). AllTaken (answersBy o (lendAll x (turnCalls P (logOf x P g n))))) (sym (log-after n r))
+        (subst (λ (o : Log). AllTaken (answersBy (turnsOn P g n .log) (lendAll x (turnCalls P o)))) (sym (r .log))
+        (turn-taken x P g long room measured (turnsOn P g n) (r .sound) (r .settings) (free n r) (ap (λ (o : Log). rule.promote o .outcome) (sym (r .log)) ∙ each n (omega arith))))))
 
     -- ---- where it stands
 
     went-on : (n : ℕ) → Each n → (i : ℕ) → i < n → goesOn P (turns P i) ≡ true
     went-on n each i h =
-        let there : Ran x P b long room measured low high some most i = runs i (λ j l. each j (omega (arith, l, h))) in
-        promoted-goes-on P (turnsOn P b i) (turns P i) (there .stands) (ap (λ (o : Log). rule.promote o .outcome) (sym (there .log)) ∙ each i h)
+        let there : Ran x P g long room measured fit posed i = runs i (λ j l. each j (omega (arith, l, h))) in
+        promoted-goes-on P (turnsOn P g i) (turns P i) (there .stands) (ap (λ (o : Log). rule.promote o .outcome) (sym (there .log)) ∙ each i h)
 
     module _ (n : ℕ) (each : Each n) where
-      r : Ran x P b long room measured low high some most n
+      r : Ran x P g long room measured fit posed n
       r = runs n each
 
-      fine : Fine (turnsOn P b n)
-      fine = subst Fine (r .machine) (after-fine m₀ begun-fine (lendAll x (callsOf x P b n)))
+      fine : Fine (turnsOn P g n)
+      fine = subst Fine (r .machine) (after-fine m₀ begun-fine (lendAll x (callsOf x P g n)))
         where
           begun-fine : Fine m₀
-          begun-fine = record { sound = step-facts .start (P .axes) (P .tolerance) b low high some most; mean = unfold steps.started in sym (mean-facts .start (P .axes) (P .tolerance) b) }
+          begun-fine = record { sound = step-facts .start g fit; mean = unfold steps.started in sym (mean-facts .start g) }
 
-      pub follows : Follows P (logOf x P b n) n
-      follows = subst (λ (o : Log). Follows P o n) (sym (r .log)) (follows-at P (turnsOn P b n) n fine (r .stands) (went-on n each))
+      pub follows : Follows P (logOf x P g n) n
+      follows = subst (λ (o : Log). Follows P o n) (sym (r .log)) (follows-at P (turnsOn P g n) n fine (r .stands) (went-on n each))
 
       -- ---- the storage
       module _ (w : Storage) (lent : Lent w x) where
-        taken : startCall (areaLent w x) (P .axes) (P .tolerance) b .reply ≡ accepted
+        taken : startCall (areaLent w x) g .reply ≡ accepted
         taken =
             ap (λ (y : Called). y .reply)
-            (sym (start-accepts (areaLent w x) (P .axes) (P .tolerance) b _ refl
-            (ap (λ z. firstCause (startCauses z (P .axes) b)) (lengths w x lent) ∙ start-clear x P b long room measured low high some most)))
+            (sym (start-accepts (areaLent w x) g _ refl
+            (ap (λ z. firstCause (startCauses z g)) (lengths w x lent) ∙ start-clear x P g long room measured fit posed)))
 
         -- the third demand after these calls
-        shown : Demand w first (lendAll x (past n)) (P .axes) (P .tolerance) b
-        shown = third-demand w first (lendAll x (past n)) (P .axes) (P .tolerance) b (lent, all-lent w x lent (past n)) refl taken
+        shown : Demand w first (lendAll x (past n)) g
+        shown = third-demand w first (lendAll x (past n)) g (lent, all-lent w x lent (past n)) refl taken
 
-        log-is : logAfter l₀ (lendAll x (past n)) ≡ logOf x P b n
+        log-is : logAfter l₀ (lendAll x (past n)) ≡ logOf x P g n
         unfolding logAfter lendAll
         log-is =
             ap (λ (o : Log). logAfter o (lendAll x (past n))) (sym started-log)
@@ -167,27 +170,27 @@ module _ (x : Part) (P : Problem) (b : ℕ) where
             ∙ log-after n r
             ∙ sym (r .log)
 
-        answers-are : answersOf w (lendAll x (callsOf x P b n)) ≡ answersBy l₀ (lendAll x (callsOf x P b n))
+        answers-are : answersOf w (lendAll x (callsOf x P g n)) ≡ answersBy l₀ (lendAll x (callsOf x P g n))
         unfolding lendAll answersBy
         answers-are =
             ap (λ cs. answersOf w (lendAll x cs)) (begins n)
             ∙ shown .answers
             ∙ ap (λ (y : Answer). y ∷ answersBy l₀ (lendAll x (past n))) (sym first-taken)
-            ∙ ap (λ (o : Log). answerBy (lengthsLent x) l₀ (start (P .axes) (P .tolerance) b) ∷ answersBy o (lendAll x (past n))) (sym started-log)
+            ∙ ap (λ (o : Log). answerBy (lengthsLent x) l₀ (start g) ∷ answersBy o (lendAll x (past n))) (sym started-log)
             ∙ ap (λ cs. answersBy l₀ (lendAll x cs)) (sym (begins n))
 
-        pub runs-there : Run w x P b n
+        pub runs-there : Run w x P g n
         runs-there =
             record {
-              answers = λ y m. one-taken (answersBy l₀ (lendAll x (callsOf x P b n))) (all-taken n each) y (subst (List·Memᴰ y) answers-are m);
+              answers = λ y m. one-taken (answersBy l₀ (lendAll x (callsOf x P g n))) (all-taken n each) y (subst (List·Memᴰ y) answers-are m);
               found = found-there;
               follows = follows;
             }
           where
-            found-there : Found (storageAfter w (lendAll x (callsOf x P b n))) (logOf x P b n)
+            found-there : Found (storageAfter w (lendAll x (callsOf x P g n))) (logOf x P g n)
             found-there =
-                subst (λ cs. Found (storageAfter w (lendAll x cs)) (logOf x P b n)) (sym (begins n))
+                subst (λ cs. Found (storageAfter w (lendAll x cs)) (logOf x P g n)) (sym (begins n))
                 (unfold lendAll in subst (Found (storageAfter w (first ∷ lendAll x (past n)))) log-is (shown .found))
 
 pub runs-follow : RunsFollow
-runs-follow w x P b n lent long room measured low high some most each = runs-there x P b long room measured low high some most n each w lent
+runs-follow w x P g n lent long room measured fit posed each = runs-there x P g long room measured fit posed n each w lent

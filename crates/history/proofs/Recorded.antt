@@ -7,7 +7,7 @@ use native.Mathlib.Omega.{arith}
 use Rattle.area.specs.Records.{Run, cellsFor}
 use Rattle.area.specs.Encoding.{Area, areaOf, entriesOf}
 use Rattle.encoding.specs.Encodes.{Formed}
-use Rattle.machine.specs.Log.{Log}
+use Rattle.area.specs.Log.{Log}
 use Rattle.machine.specs.Steps.{startLog}
 use Rattle.soundness.specs.Clauses.{checked}
 use Rattle.calls.specs.Calls.{startCall, resultCall, crossCall}
@@ -39,16 +39,16 @@ module _ (w : RecordStorage) (l : Log) (f : Formed (w .records)) (found : Found 
       }
 
 pub third-demand-on-records : ThirdDemandOnRecords
-third-demand-on-records w first later d t b f lent is taken =
+third-demand-on-records w first later g f lent is taken =
     let both = together w (first ∷ later) f lent in
-    let demand : Demand (inStorage w) (callInCells first) (map callInCells later) d t b
-    = third-demand (inStorage w) (callInCells first) (map callInCells later) d t b (all-lent w (first ∷ later) f lent) is
-    (ap (λ (a : Area). startCall a d t b .reply) (lent-area w (first .part) f (lent .0)) ∙ taken) in
+    let demand : Demand (inStorage w) (callInCells first) (map callInCells later) g
+    = third-demand (inStorage w) (callInCells first) (map callInCells later) g (all-lent w (first ∷ later) f lent) is
+    (ap (λ (a : Area). startCall a g .reply) (lent-area w (first .part) f (lent .0)) ∙ taken) in
     record {
       answers = sym (both .answers) ∙ demand .answers;
       never-unsound = λ y m. demand .never-unsound y (subst (List·Memᴰ y) (sym (both .answers)) m);
       records = both .records;
       store = both .store;
-      found = in-records (recordsAfter w (first ∷ later)) (logAfter (startLog d t b) (map callInCells later)) (both .formed)
-          (subst (λ (v : Storage). Found v (logAfter (startLog d t b) (map callInCells later))) (both .after) (demand .found));
+      found = in-records (recordsAfter w (first ∷ later)) (logAfter (startLog g) (map callInCells later)) (both .formed)
+          (subst (λ (v : Storage). Found v (logAfter (startLog g) (map callInCells later))) (both .after) (demand .found));
     }

@@ -9,8 +9,9 @@ use native.Mathlib.Omega.{arith}
 use lib.Dec.{leb, eqb}
 use lib.IntN.{ℤ}
 use lib.ListN.{length}
+use Rattle.area.specs.Settings.{leastStore}
 use Rattle.area.specs.Encoding.{Area}
-use Rattle.machine.specs.Log.{Log, Machine}
+use Rattle.area.specs.Log.{Log, Machine}
 use Rattle.machine.specs.Causes.{Lengths, firstCause, short, pointCauses, deliverCauses, promoteCauses, resultCauses}
 use Rattle.calls.specs.Replies.{refused, verdict}
 use Rattle.calls.specs.Calls.{unless}
@@ -22,7 +23,7 @@ use Rattle.history.proofs.Moves.{moved}
 use Rattle.history.proofs.Views.{doneBy}
 
 abbrev pub NotStart : Call → Type 0
-NotStart (start d t b) = ⊥
+NotStart (start g) = ⊥
 NotStart (point n buffer) = Unit {0}
 NotStart (deliver rs i) = Unit {0}
 NotStart promote = Unit {0}
@@ -32,7 +33,7 @@ NotStart check = Unit {0}
 
 -- refused by 3; check says no
 unfoldable pub tooShort : Call → Answer
-tooShort (start d t b) = answer (refused 3)
+tooShort (start g) = answer (refused 3)
 tooShort (point n buffer) = record { reply = refused 3; buffer = buffer }
 tooShort (deliver rs i) = answer (refused 3)
 tooShort promote = answer (refused 3)
@@ -40,7 +41,7 @@ tooShort result = answer (refused 3)
 tooShort crossTotal = answer (refused 3)
 tooShort check = answer (verdict false)
 
-module _ (z : Lengths) (s : Bool) (l : Log) (is : short z (l .budget) ≡ true) where
+module _ (z : Lengths) (s : Bool) (l : Log) (is : short z (l .settings) ≡ true) where
   point-three : (n w : ℕ) → firstCause (pointCauses z s l n w) ≡ 3
   unfolding pointCauses
   point-three n w = hit _ 3 _ is
@@ -57,26 +58,26 @@ module _ (z : Lengths) (s : Bool) (l : Log) (is : short z (l .budget) ≡ true) 
   unfolding resultCauses
   result-three = hit _ 3 _ is
 
-module _ (z : Lengths) (s : Bool) (m : Machine) (a : Area) (is : short z (m .log .budget) ≡ true) where
+module _ (z : Lengths) (s : Bool) (m : Machine) (a : Area) (is : short z (m .log .settings) ≡ true) where
   pub short-done : (c : Call) → NotStart c → doneBy z s m a c ≡ record { answer = tooShort c; area = a }
   unfolding doneBy tooShort
-  short-done (start d t b) o = absurd o
+  short-done (start g) o = absurd o
   short-done (point n buffer) o = rw (point-three z s (m .log) is n (length buffer)) refl
   short-done (deliver rs i) o = unfold unless in rw (deliver-three z s (m .log) is rs) refl
   short-done promote o = unfold unless in rw (promote-three z s (m .log) is) refl
   short-done result o = rw (result-three z s (m .log) is) refl
   short-done crossTotal o = rw (result-three z s (m .log) is) refl
-  short-done check o = ap {B = Done} (λ y. record { answer = answer (verdict y); area = a }) (split (leb 512 (z .records)) (leb (m .log .budget) (z .readings)) (unfold short in is))
+  short-done check o = ap {B = Done} (λ y. record { answer = answer (verdict y); area = a }) (split (leb 512 (z .records)) (leb (leastStore (m .log .settings)) (z .readings)) (unfold short in is))
     where
       split : (t u : Bool) → not (t && u) ≡ true → (t && u && s) ≡ false
       split true true e = let y : _≡_ {A = ℕ} 0 1 = cc in absurd (omega arith)
       split true false e = refl
       split false u e = refl
 
-module _ (z : Lengths) (l : Log) (is : short z (l .budget) ≡ true) where
+module _ (z : Lengths) (l : Log) (is : short z (l .settings) ≡ true) where
   pub short-answer : (c : Call) → NotStart c → answerBy z l c ≡ tooShort c
   unfolding answerBy refusal bufferOf tooShort
-  short-answer (start d t b) o = absurd o
+  short-answer (start g) o = absurd o
   short-answer (point n buffer) o = rw (point-three z true l is n (length buffer)) refl
   short-answer (deliver rs i) o = rw (deliver-three z true l is rs) refl
   short-answer promote o = rw (promote-three z true l is) refl
@@ -85,14 +86,14 @@ module _ (z : Lengths) (l : Log) (is : short z (l .budget) ≡ true) where
   short-answer check o = unfold reply in rw is refl
 
 -- the state stays
-module _ (z : Lengths) (m : Machine) (is : short z (m .log .budget) ≡ true) where
+module _ (z : Lengths) (m : Machine) (is : short z (m .log .settings) ≡ true) where
   still : (t : Bool) → cond t m m ≡ m
   still true = refl
   still false = refl
 
   pub short-state : (c : Call) → NotStart c → cond (eqb (refusal z (m .log) c) 0) (moved m c) m ≡ m
   unfolding refusal moved
-  short-state (start d t b) o = absurd o
+  short-state (start g) o = absurd o
   short-state (point n buffer) o = still (eqb (firstCause (pointCauses z true (m .log) n (length buffer))) 0)
   short-state (deliver rs i) o = rw (deliver-three z true (m .log) is rs) refl
   short-state promote o = rw (promote-three z true (m .log) is) refl

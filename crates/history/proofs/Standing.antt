@@ -7,7 +7,8 @@ use Prim.Native.Nat.{ℕ, _<_, _≤_}
 use native.Mathlib.Omega.{arith}
 use lib.Dec.{eqb}
 use lib.ListN.{length}
-use Rattle.machine.specs.Log.{Log, Machine, firstWanted}
+use Rattle.area.specs.Log.{Log, Machine}
+use Rattle.machine.specs.Log.{firstWanted}
 use Rattle.machine.specs.Promote as rule
 use Rattle.machine.specs.Causes.{Lengths}
 use Rattle.machine.proofs.Wanted.{first-none}
@@ -49,6 +50,6 @@ module _ (P : Problem) (m : Machine) (n : ℕ) (fine : Fine m) (stands : StandsA
         result = sym (combined m fine) ∙ stands .result;
         pending = stands .pending;
         went-on = went-on;
-        over = λ z h k f. promote-answer P z (m .log) (tests.enough z (m .log .budget) h k) free ∙ ap (λ o. answer (promotion o)) (published-facts .over P m (turns P n) stands f);
+        over = λ z h k f. promote-answer P z (m .log) (tests.enough z (m .log .settings) h k) free ∙ ap (λ o. answer (promotion o)) (published-facts .over P m (turns P n) stands f);
         goes-on = λ z g e. published-facts .goes-on P m (turns P n) stands g (met-outcome z (m .log) e);
       }

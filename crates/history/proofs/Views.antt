@@ -9,9 +9,11 @@ use native.Mathlib.Omega.{arith}
 use lib.Dec.{leb, eqb}
 use lib.ListN.{length, take, drop}
 use Rattle.grid.specs.Block.{pointOf}
-use Rattle.area.specs.Encoding.{Area}
+use Rattle.area.specs.Settings.{leastStore}
+use Rattle.area.specs.Encoding.{Area, machineOf, written}
 use Rattle.soundness.specs.Clauses.{isSound, checked}
-use Rattle.machine.specs.Log.{Machine, machineOf, written, wantedIndex}
+use Rattle.area.specs.Log.{Machine}
+use Rattle.machine.specs.Log.{wantedIndex}
 use Rattle.machine.specs.Promote as rule
 use Rattle.machine.specs.Steps as steps
 use Rattle.machine.specs.Areas.{startOn, deliverOn, promoteOn, changedBy}
@@ -30,11 +32,11 @@ abbrev doneAs : Called → Done
 doneAs x = record { answer = answer (x .reply); area = x .area }
 
 unfoldable pub doneBy : Lengths → Bool → Machine → Area → Call → Done
-doneBy z s m a (start d t b) = doneAs (unless (firstCause (startCauses z d b)) a (record { reply = accepted; area = written a (steps.started d t b) }))
+doneBy z s m a (start g) = doneAs (unless (firstCause (startCauses z g)) a (record { reply = accepted; area = written a (steps.started g) }))
 doneBy z s m a (point n buffer) =
     record {
       answer = cond (eqb (firstCause (pointCauses z s (m .log) n (length buffer))) 0)
-          (record { reply = accepted; buffer = take (m .log .axes) (pointOf (wantedIndex (m .log .entries)) n) ++ drop (m .log .axes) buffer })
+          (record { reply = accepted; buffer = take (m .log .settings .axes) (pointOf (wantedIndex (m .log .entries)) n) ++ drop (m .log .settings .axes) buffer })
           (record { reply = refused (firstCause (pointCauses z s (m .log) n (length buffer))); buffer = buffer });
       area = a;
     }
@@ -50,11 +52,11 @@ doneBy z s m a crossTotal =
       answer = answer (cond (eqb (firstCause (resultCauses z s (m .log))) 0) (total (crossOf (m .log .entries))) (refused (firstCause (resultCauses z s (m .log)))));
       area = a;
     }
-doneBy z s m a check = record { answer = answer (verdict (leb 512 (z .records) && leb (m .log .budget) (z .readings) && s)); area = a }
+doneBy z s m a check = record { answer = answer (verdict (leb 512 (z .records) && leb (leastStore (m .log .settings)) (z .readings) && s)); area = a }
 
 pub viewed : (a : Area) (c : Call) → callOn a c ≡ doneBy (lengthsOf a) (isSound a) (machineOf a) a c
 unfolding callOn doneBy
-viewed a (start d t b) = unfold startCall startOn in refl
+viewed a (start g) = unfold startCall startOn in refl
 viewed a (point n buffer) = unfold pointCall machineOf in ap {B = Done} (λ y. record { answer = y; area = a }) (split (eqb (firstCause (pointCauses (lengthsOf a) (isSound a) (machineOf a .log) n (length buffer))) 0) _ _)
   where
     split : (t : Bool) (p q : Pointed) → _≡_ {A = Answer} (record { reply = cond t p q .reply; buffer = cond t p q .buffer }) (cond t (record { reply = p .reply; buffer = p .buffer }) (record { reply = q .reply; buffer = q .buffer }))
@@ -94,7 +96,7 @@ module _ (z : Lengths) (m : Machine) (a : Area) (mean : m .mean ≡ crossOf (m .
   -- on a sound area every answer is the log's
   pub same-answer : (c : Call) → doneBy z true m a c .answer ≡ answerBy z (m .log) c
   unfolding doneBy answerBy refusal reply bufferOf
-  same-answer (start d t b) = unless-answer (firstCause (startCauses z d b)) a _ accepted
+  same-answer (start g) = unless-answer (firstCause (startCauses z g)) a _ accepted
   same-answer (point n buffer) = refl
   same-answer (deliver rs i) = unless-answer (firstCause (deliverCauses z true (m .log) rs)) a _ accepted
   same-answer promote = unless-answer (firstCause (promoteCauses z true (m .log))) a _ (promotion (rule.promote (m .log) .outcome))
@@ -102,7 +104,7 @@ module _ (z : Lengths) (m : Machine) (a : Area) (mean : m .mean ≡ crossOf (m .
       by-test (eqb (firstCause (resultCauses z true (m .log))) 0) (counts (countsOf m)) (firstCause (resultCauses z true (m .log)))
       ∙ ap (λ y. cond (eqb (firstCause (resultCauses z true (m .log))) 0) (answer (counts (countsOf (record { log = m .log; mean = y })))) (record { reply = refused (firstCause (resultCauses z true (m .log))); buffer = [] })) mean
   same-answer crossTotal = by-test (eqb (firstCause (resultCauses z true (m .log))) 0) (total (crossOf (m .log .entries))) (firstCause (resultCauses z true (m .log)))
-  same-answer check = unfold short in ap (λ y. answer (verdict y)) (split (leb 512 (z .records)) (leb (m .log .budget) (z .readings)))
+  same-answer check = unfold short in ap (λ y. answer (verdict y)) (split (leb 512 (z .records)) (leb (leastStore (m .log .settings)) (z .readings)))
     where
       split : (t u : Bool) → (t && u && true) ≡ not (not (t && u))
       split true true = refl
@@ -117,7 +119,7 @@ module _ (z : Lengths) (m : Machine) (a : Area) (holds : a ≡ written a m) wher
   -- and the area is the next state written into it, unless it is refused
   pub same-area : (c : Call) → doneBy z true m a c .area ≡ cond (eqb (refusal z (m .log) c) 0) (written a (moved m c)) a
   unfolding doneBy refusal moved
-  same-area (start d t b) = unless-area (firstCause (startCauses z d b)) a _ accepted
+  same-area (start g) = unless-area (firstCause (startCauses z g)) a _ accepted
   same-area (point n buffer) = itself (eqb (firstCause (pointCauses z true (m .log) n (length buffer))) 0)
   same-area (deliver rs i) = unless-area (firstCause (deliverCauses z true (m .log) rs)) a _ accepted
   same-area promote =

@@ -2,12 +2,13 @@
 use mathlib.Core.List.{List, []}
 use Prim.Native.Nat.{ℕ, _/_}
 use lib.IntN.{ℤ}
+use Rattle.area.specs.declared.Settings.{Settings}
 use Rattle.machine.specs.Causes.{Lengths}
 use Rattle.calls.specs.Replies.{Reply}
 
 -- A call that is added later joins these.
 pub data Call : Type 0 where
-  start : (axes threshold budget : ℕ) → Call
+  start : Settings → Call
   point : (n : ℕ) (buffer : List ℕ) → Call
   deliver : (readings : List ℤ) (indicator : ℕ) → Call
   promote : Call

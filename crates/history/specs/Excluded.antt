@@ -9,12 +9,14 @@ use lib.IntN.{ℤ, pos, negsuc}
 use lib.ListN.{length}
 use Rattle.rule.specs.Weights.{differenceWeight}
 use Rattle.grid.specs.Index.{root}
-use Rattle.grid.specs.Block.{blockSize}
 use Rattle.grid.specs.Coefficient.{coefficient}
 use Rattle.grid.specs.Boundary.{pair}
+use Rattle.area.specs.declared.Settings.{Settings}
+use Rattle.area.specs.Settings.{settingsOf, SettingsFit, readingCount, leastStore}
 use Rattle.area.specs.Entry.{Entry, deliveredOf, reservedBy, pendingOf}
+use Rattle.area.specs.Log.{Log, withEntries}
 use Rattle.area.specs.Encoding.{Area, entriesOf}
-use Rattle.machine.specs.Log.{Log, withEntries, anyWanted, wantedIndex}
+use Rattle.machine.specs.Log.{anyWanted, wantedIndex}
 use Rattle.machine.specs.Promote as rule
 use Rattle.machine.specs.Steps.{startLog, deliverLog}
 use Rattle.machine.specs.Causes.{Lengths, inRange}
@@ -28,7 +30,7 @@ use Rattle.history.specs.Logged.{refusal, answersBy}
 
 -- The entries with the selected refined.
 abbrev pub refined : Log → List Entry
-refined l = rule.refine (l .axes) (l .entries) (rule.selected (l .entries))
+refined l = rule.refine (l .settings .axes) (l .entries) (rule.selected (l .entries))
 
 -- Entries without readings.
 abbrev entry : List ℕ → ℕ → Entry
@@ -39,21 +41,21 @@ read k s rs = record { levels = k; state = s; indicator = 0; readings = rs }
 
 -- With the selected refined, the held would be above 512 or the reserved above the budget.
 abbrev pub Passes : Log → Type 0
-Passes l = (512 < length (refined l)) ⊎ (l .budget < reservedBy (refined l))
+Passes l = (512 < length (refined l)) ⊎ (l .settings .budget < reservedBy (refined l))
 
 pub record Excluded : Type 0 where
   -- "refuses all starts or deliveries": no cause but the table's
-  pub starts : (a : Area) (d t b : ℕ) → 1 ≤ d → d ≤ 8 → 1 ≤ b → b ≤ 8192 → 512 ≤ length (a .run .records) → b ≤ length (a .store)
-      → startCall a d t b .reply ≡ accepted
+  pub starts : (a : Area) (g : Settings) → SettingsFit g → 512 ≤ length (a .run .records) → leastStore g ≤ length (a .store)
+      → startCall a g .reply ≡ accepted
   pub accepted-deliveries : (a : Area) (rs : List ℤ) (i : ℕ) → Settled a → anyWanted (entriesOf a) ≡ true
-      → length rs ≡ blockSize (wantedIndex (entriesOf a)) → inRange rs ≡ true → deliverCall a rs i .reply ≡ accepted
-  pub deliveries : (z : Lengths) (l : Log) (rs : List ℤ) (i : ℕ) → 512 ≤ z .records → l .budget ≤ z .readings → anyWanted (l .entries) ≡ true
-      → length rs ≡ blockSize (wantedIndex (l .entries)) → inRange rs ≡ true → refusal z l (deliver rs i) ≡ 0
+      → length rs ≡ readingCount (a .job .settings) (wantedIndex (entriesOf a)) → inRange rs ≡ true → deliverCall a rs i .reply ≡ accepted
+  pub deliveries : (z : Lengths) (l : Log) (rs : List ℤ) (i : ℕ) → 512 ≤ z .records → leastStore (l .settings) ≤ z .readings → anyWanted (l .entries) ≡ true
+      → length rs ≡ readingCount (l .settings) (wantedIndex (l .entries)) → inRange rs ≡ true → refusal z l (deliver rs i) ≡ 0
   -- "reports one fixed mean": the root's reading times 2^20 after its delivery
-  pub means : (crossOf (deliverLog (startLog 3 0 9) (pos 1 ∷ []) 7 .entries) ≡ pos (2 ^ 20)) × (crossOf (deliverLog (startLog 3 0 9) (pos 2 ∷ []) 7 .entries) ≡ pos (2 * 2 ^ 20))
+  pub means : (crossOf (deliverLog (startLog (settingsOf 3 0 9)) (pos 1 ∷ []) 7 .entries) ≡ pos (2 ^ 20)) × (crossOf (deliverLog (startLog (settingsOf 3 0 9)) (pos 2 ∷ []) 7 .entries) ≡ pos (2 * 2 ^ 20))
   -- "acknowledges calls, area untouched": the log changes, and the held records are the log's entries (`Found.entries`)
-  pub started : (d t b : ℕ) → startLog d t b .entries ≡ entry root 0 ∷ []
-  pub delivered : (d t b i : ℕ) (rs : List ℤ) → deliverLog (startLog d t b) rs i .entries ≡ record { levels = root; state = 1; indicator = i; readings = rs } ∷ []
+  pub started : (g : Settings) → startLog g .entries ≡ entry root 0 ∷ []
+  pub delivered : (g : Settings) (i : ℕ) (rs : List ℤ) → deliverLog (startLog g) rs i .entries ≡ record { levels = root; state = 1; indicator = i; readings = rs } ∷ []
   pub refines : (l : Log) → rule.promote l .outcome ≡ rule.promoted → rule.promote l .log ≡ withEntries l (refined l)
   -- "honest for the root, then only marks places": later readings count
   pub later-means : (crossOf (read (pair 1 1) 2 (pos 0 ∷ []) ∷ read (pair 2 1) 1 (pos 1 ∷ pos 0 ∷ []) ∷ entry (pair 1 2) 0 ∷ []) ≡ pos (2 ^ 18))
@@ -62,10 +64,10 @@ pub record Excluded : Type 0 where
   pub reserved-counted : reservedBy (entry (pair 1 1) 2 ∷ entry (pair 3 4) 0 ∷ []) ≡ 9
   pub ceiling-counted : ceilingCount 2 (entry (pair 8 6) 2 ∷ entry (pair 8 5) 2 ∷ entry (pair 8 6) 1 ∷ []) ≡ 3
   -- "says met or spent from the start": met exactly if the pending error is at most the threshold
-  pub met : (l : Log) → pendingOf (l .entries) ≤ l .threshold → rule.promote l .outcome ≡ rule.met
-  pub met-only : (l : Log) → rule.promote l .outcome ≡ rule.met → pendingOf (l .entries) ≤ l .threshold
+  pub met : (l : Log) → pendingOf (l .entries) ≤ l .settings .threshold → rule.promote l .outcome ≡ rule.met
+  pub met-only : (l : Log) → rule.promote l .outcome ≡ rule.met → pendingOf (l .entries) ≤ l .settings .threshold
   -- above the threshold, and within 512 and the budget, it is promoted
-  pub promoted : (l : Log) → (rule.isMet l ≡ true → ⊥) → rule.fits (l .budget) (refined l) ≡ true
+  pub promoted : (l : Log) → (rule.isMet l ≡ true → ⊥) → rule.fits (l .settings .budget) (refined l) ≡ true
       → rule.promote l .outcome ≡ rule.promoted
   -- and spent exactly if the admitted would bring the held above 512 or the reserved above the budget
   pub spent : (l : Log) → (rule.isMet l ≡ true → ⊥) → Passes l → rule.promote l .outcome ≡ rule.spent
@@ -105,23 +107,23 @@ answersAfter l cs = answersBy l (map whole cs)
 -- Boundary cases about calls.
 pub record CallCases : Type 0 where
   -- before the first delivery the scaled mean is 0
-  pub mean-zero : answersAfter (startLog 2 0 64) (result ∷ crossTotal ∷ [])
+  pub mean-zero : answersAfter (startLog (settingsOf 2 0 64)) (result ∷ crossTotal ∷ [])
       ≡ answer (counts (record { old = 0; active = 0; wanted = 1; reserved = 1; pending = 0; mean = pos 0; ceiling = 0 })) ∷ answer (total (pos 0)) ∷ []
   -- threshold equal to the pending error: met
-  pub threshold-equal : answersAfter (startLog 2 7 64) (deliver (pos 3 ∷ []) 7 ∷ promote ∷ []) ≡ answer accepted ∷ answer (promotion rule.met) ∷ []
+  pub threshold-equal : answersAfter (startLog (settingsOf 2 7 64)) (deliver (pos 3 ∷ []) 7 ∷ promote ∷ []) ≡ answer accepted ∷ answer (promotion rule.met) ∷ []
   -- budget 4, d 2, pending error above the threshold: the first promotion is spent; budget 5: it isn't
-  pub budget-four : answersAfter (startLog 2 0 4) (deliver (pos 3 ∷ []) 7 ∷ promote ∷ []) ≡ answer accepted ∷ answer (promotion rule.spent) ∷ []
-  pub budget-five : answersAfter (startLog 2 0 5) (deliver (pos 3 ∷ []) 7 ∷ promote ∷ []) ≡ answer accepted ∷ answer (promotion rule.promoted) ∷ []
+  pub budget-four : answersAfter (startLog (settingsOf 2 0 4)) (deliver (pos 3 ∷ []) 7 ∷ promote ∷ []) ≡ answer accepted ∷ answer (promotion rule.spent) ∷ []
+  pub budget-five : answersAfter (startLog (settingsOf 2 0 5)) (deliver (pos 3 ∷ []) 7 ∷ promote ∷ []) ≡ answer accepted ∷ answer (promotion rule.promoted) ∷ []
   -- calls in between that leave the log, and refusals: 7, 8, 9, 6, a part too short for 3, 5, and a later start
-  pub between : answersBy (startLog 2 0 64)
+  pub between : answersBy (startLog (settingsOf 2 0 64))
       (whole (point 0 (1 ∷ 2 ∷ 3 ∷ [])) ∷ whole (deliver [] 7) ∷ whole (deliver (pos 1048577 ∷ []) 7) ∷ whole (point 1 (1 ∷ 2 ∷ [])) ∷ whole promote
       ∷ record { call = result; part = record { cells = 512 * 27 - 1; readings = 64 } } ∷ whole (deliver (pos 3 ∷ []) 7) ∷ whole (deliver (pos 3 ∷ []) 7)
-      ∷ whole check ∷ whole (start 9 0 64) ∷ whole crossTotal ∷ whole (start 1 5 6) ∷ whole crossTotal ∷ [])
+      ∷ whole check ∷ whole (start (settingsOf 9 0 64)) ∷ whole crossTotal ∷ whole (start (settingsOf 1 5 6)) ∷ whole crossTotal ∷ [])
       ≡ record { reply = accepted; buffer = 64 ∷ 64 ∷ 3 ∷ [] } ∷ answer (refused 7) ∷ answer (refused 8) ∷ record { reply = refused 9; buffer = 1 ∷ 2 ∷ [] } ∷ answer (refused 6)
       ∷ answer (refused 3) ∷ answer accepted ∷ answer (refused 5)
       ∷ answer (verdict true) ∷ answer (refused 1) ∷ answer (total (pos (3 * 2 ^ 20))) ∷ answer accepted ∷ answer (total (pos 0)) ∷ []
   -- the file: its report's figures
-  pub file : answersAfter (startLog 2 40 64) fileCalls
+  pub file : answersAfter (startLog (settingsOf 2 40 64)) fileCalls
       ≡ answer accepted
       ∷ answer (promotion rule.promoted)
       ∷ answer accepted

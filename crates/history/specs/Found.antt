@@ -8,12 +8,14 @@ use lib.ListN.{length}
 use Rattle.grid.specs.Index.{level, Index, forward, backward}
 use Rattle.area.specs.declared.IndexRecord.{IndexRecord}
 use Rattle.area.specs.Records.{recordsOf}
+use Rattle.area.specs.declared.Settings.{Settings}
+use Rattle.area.specs.Settings.{leastStore}
 use Rattle.area.specs.Entry.{Entry}
+use Rattle.area.specs.Log.{Log}
 use Rattle.area.specs.Encoding.{areaOf, entriesOf, jobWith, none}
 use Rattle.soundness.specs.Clauses.{checked}
 use Rattle.soundness.specs.Held.{forwardLink, backwardLink}
 use Rattle.encoding.specs.Entries.{entryAt, Has, Entered, EnteredOld}
-use Rattle.machine.specs.Log.{Log}
 use Rattle.machine.specs.Steps.{startLog}
 use Rattle.machine.specs.Counts.{countsOf}
 use Rattle.machine.specs.Means.{meanOf, crossOf}
@@ -53,31 +55,31 @@ pub record Found (w : Storage) (l : Log) : Type 0 where
   -- the indicators are 0 while wanted
   pub idle : (p : ℕ) → p < length (l .entries) → entryAt (l .entries) p .state ≡ 0 → entryAt (l .entries) p .indicator ≡ 0
   -- the job record is worked from the log
-  pub job : w .job ≡ jobWith (l .axes) (l .threshold) (l .budget) (l .entries) (crossOf (l .entries))
+  pub job : w .job ≡ jobWith (record { log = l; mean = crossOf (l .entries) })
   -- the area is sound
   pub sound : checked (areaOf (w .job) (w .cells) (w .store)) ≡ true
-  pub neighbours : Neighbours (l .axes) (l .entries)
+  pub neighbours : Neighbours (l .settings .axes) (l .entries)
   pub links : LinksAgree (l .entries) (recordsOf (w .cells))
   -- result and cross total, called on storage that is long enough, answer one and the same mean: the sum of full tensor rules over the
   -- delivered indices, each times its combination coefficient
-  pub result : (x : Part) → Lent w x → 512 * 27 ≤ x .cells → l .budget ≤ x .readings
+  pub result : (x : Part) → Lent w x → 512 * 27 ≤ x .cells → leastStore (l .settings) ≤ x .readings
       → resultCall (areaLent w x) ≡ counts (countsOf (record { log = l; mean = crossOf (l .entries) }))
-  pub cross : (x : Part) → Lent w x → 512 * 27 ≤ x .cells → l .budget ≤ x .readings → crossCall (areaLent w x) ≡ total (crossOf (l .entries))
+  pub cross : (x : Part) → Lent w x → 512 * 27 ≤ x .cells → leastStore (l .settings) ≤ x .readings → crossCall (areaLent w x) ≡ total (crossOf (l .entries))
   -- which is also the sum of the delivered indices' differences
   pub mean : crossOf (l .entries) ≡ meanOf (l .entries)
 
--- After `first`, a start with d, t and b, and `later`:
-pub record Demand (w : Storage) (first : LentCall) (later : List LentCall) (d t b : ℕ) : Type 0 where
+-- After `first`, a start with the settings g, and `later`:
+pub record Demand (w : Storage) (first : LentCall) (later : List LentCall) (g : Settings) : Type 0 where
   -- every answer, refusals included, follows from the arguments and the log
-  pub answers : answersOf w (first ∷ later) ≡ answer accepted ∷ answersBy (startLog d t b) later
+  pub answers : answersOf w (first ∷ later) ≡ answer accepted ∷ answersBy (startLog g) later
   -- and 4 never comes
   pub never-unsound : (y : Answer) → List·Memᴰ y (answersOf w (first ∷ later)) → y .reply ≡ refused 4 → ⊥
   -- the storage is as long as before
   pub cells : length (storageAfter w (first ∷ later) .cells) ≡ length (w .cells)
   pub store : length (storageAfter w (first ∷ later) .store) ≡ length (w .store)
-  pub found : Found (storageAfter w (first ∷ later)) (logAfter (startLog d t b) later)
+  pub found : Found (storageAfter w (first ∷ later)) (logAfter (startLog g) later)
 
 -- The claim, one over the whole list.
 abbrev pub ThirdDemand : Type 0
-ThirdDemand = (w : Storage) (first : LentCall) (later : List LentCall) (d t b : ℕ) → AllLent w (first ∷ later)
-    → first .call ≡ start d t b → startCall (areaLent w (first .part)) d t b .reply ≡ accepted → Demand w first later d t b
+ThirdDemand = (w : Storage) (first : LentCall) (later : List LentCall) (g : Settings) → AllLent w (first ∷ later)
+    → first .call ≡ start g → startCall (areaLent w (first .part)) g .reply ≡ accepted → Demand w first later g

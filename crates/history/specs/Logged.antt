@@ -6,7 +6,8 @@ use Prim.Native.Nat.{ℕ}
 use lib.Dec.{eqb}
 use lib.ListN.{length, take, drop}
 use Rattle.grid.specs.Block.{pointOf}
-use Rattle.machine.specs.Log.{Log, wantedIndex}
+use Rattle.area.specs.Log.{Log}
+use Rattle.machine.specs.Log.{wantedIndex}
 use Rattle.machine.specs.Promote as rule
 use Rattle.machine.specs.Steps.{startLog, deliverLog}
 use Rattle.machine.specs.Causes.{Lengths, firstCause, short, startCauses, pointCauses, deliverCauses, promoteCauses, resultCauses}
@@ -18,7 +19,7 @@ use Rattle.history.specs.Calls.{Call, start, point, deliver, promote, re
 -- The number of the first cause that refuses a call, 0 if none does. Where the table asks whether the area is sound, the log says yes, so
 -- cause 4 never comes; that the calls answer so is claimed in Found.antt. Check has no cause.
 unfoldable pub refusal : Lengths → Log → Call → ℕ
-refusal z l (start d t b) = firstCause (startCauses z d b)
+refusal z l (start g) = firstCause (startCauses z g)
 refusal z l (point n buffer) = firstCause (pointCauses z true l n (length buffer))
 refusal z l (deliver rs i) = firstCause (deliverCauses z true l rs)
 refusal z l promote = firstCause (promoteCauses z true l)
@@ -31,7 +32,7 @@ refusal z l check = 0
 -- What an accepted call does to the log. A promote that is *promoted* makes the selected entry old and appends the admitted; met and spent
 -- leave the log (crate `machine`, specs/Promote.antt).
 unfoldable pub noted : Log → Call → Log
-noted l (start d t b) = startLog d t b
+noted l (start g) = startLog g
 noted l (point n buffer) = l
 noted l (deliver rs i) = deliverLog l rs i
 noted l promote = rule.promote l .log
@@ -52,17 +53,17 @@ logAfter l (x ∷ xs) = logAfter (logStep l x) xs
 -- What an accepted call answers. The mean that result gives is the combination sum over the delivered entries, from their readings; so
 -- is the cross total. Check says no to short storage alone.
 unfoldable pub reply : Lengths → Log → Call → Answer
-reply z l (start d t b) = answer accepted
-reply z l (point n buffer) = record { reply = accepted; buffer = take (l .axes) (pointOf (wantedIndex (l .entries)) n) ++ drop (l .axes) buffer }
+reply z l (start g) = answer accepted
+reply z l (point n buffer) = record { reply = accepted; buffer = take (l .settings .axes) (pointOf (wantedIndex (l .entries)) n) ++ drop (l .settings .axes) buffer }
 reply z l (deliver rs i) = answer accepted
 reply z l promote = answer (promotion (rule.promote l .outcome))
 reply z l result = answer (counts (countsOf (record { log = l; mean = crossOf (l .entries) })))
 reply z l crossTotal = answer (total (crossOf (l .entries)))
-reply z l check = answer (verdict (not (short z (l .budget))))
+reply z l check = answer (verdict (not (short z (l .settings))))
 
 -- The buffer as it is handed over.
 unfoldable pub bufferOf : Call → List ℕ
-bufferOf (start d t b) = []
+bufferOf (start g) = []
 bufferOf (point n buffer) = buffer
 bufferOf (deliver rs i) = []
 bufferOf promote = []

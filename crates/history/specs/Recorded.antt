@@ -9,11 +9,13 @@ use lib.IntN.{ℤ}
 use lib.ListN.{length, take, drop}
 use Rattle.area.specs.declared.IndexRecord.{IndexRecord}
 use Rattle.area.specs.declared.JobRecord.{JobRecord}
+use Rattle.area.specs.declared.Settings.{Settings}
+use Rattle.area.specs.Settings.{leastStore}
+use Rattle.area.specs.Log.{Log}
 use Rattle.area.specs.Encoding.{Area, entriesOf, jobWith}
 use Rattle.soundness.specs.Clauses.{checked}
 use Rattle.encoding.specs.Encodes.{Formed}
 use Rattle.encoding.specs.Entries.{entryAt}
-use Rattle.machine.specs.Log.{Log}
 use Rattle.machine.specs.Steps.{startLog}
 use Rattle.machine.specs.Counts.{countsOf}
 use Rattle.machine.specs.Means.{meanOf, crossOf}
@@ -87,31 +89,31 @@ pub record RecordsFound (w : RecordStorage) (l : Log) : Type 0 where
   -- the indicators are 0 while wanted
   pub idle : (p : ℕ) → p < length (l .entries) → entryAt (l .entries) p .state ≡ 0 → entryAt (l .entries) p .indicator ≡ 0
   -- the job record is worked from the log
-  pub job : w .job ≡ jobWith (l .axes) (l .threshold) (l .budget) (l .entries) (crossOf (l .entries))
+  pub job : w .job ≡ jobWith (record { log = l; mean = crossOf (l .entries) })
   -- the area is sound
   pub sound : checked (areaOn (w .job) (w .records) (w .store)) ≡ true
-  pub neighbours : Neighbours (l .axes) (l .entries)
+  pub neighbours : Neighbours (l .settings .axes) (l .entries)
   pub links : LinksAgree (l .entries) (w .records)
   -- result and cross total, called on storage that is long enough, answer one and the same mean
-  pub result : (x : RecordPart) → LentRecords w x → 512 ≤ x .records → l .budget ≤ x .readings
+  pub result : (x : RecordPart) → LentRecords w x → 512 ≤ x .records → leastStore (l .settings) ≤ x .readings
       → resultCall (recordsLent w x) ≡ counts (countsOf (record { log = l; mean = crossOf (l .entries) }))
-  pub cross : (x : RecordPart) → LentRecords w x → 512 ≤ x .records → l .budget ≤ x .readings → crossCall (recordsLent w x) ≡ total (crossOf (l .entries))
+  pub cross : (x : RecordPart) → LentRecords w x → 512 ≤ x .records → leastStore (l .settings) ≤ x .readings → crossCall (recordsLent w x) ≡ total (crossOf (l .entries))
   -- which is also the sum of the delivered indices' differences
   pub mean : crossOf (l .entries) ≡ meanOf (l .entries)
 
--- After `first`, a start with d, t and b, and `later`:
-pub record RecordsDemand (w : RecordStorage) (first : RecordCall) (later : List RecordCall) (d t b : ℕ) : Type 0 where
+-- After `first`, a start with the settings g, and `later`:
+pub record RecordsDemand (w : RecordStorage) (first : RecordCall) (later : List RecordCall) (g : Settings) : Type 0 where
   -- every answer, refusals included, follows from the arguments and the log
-  pub answers : recordsAnswers w (first ∷ later) ≡ answer accepted ∷ answersBy (startLog d t b) (map callInCells later)
+  pub answers : recordsAnswers w (first ∷ later) ≡ answer accepted ∷ answersBy (startLog g) (map callInCells later)
   -- and 4 never comes
   pub never-unsound : (y : Answer) → List·Memᴰ y (recordsAnswers w (first ∷ later)) → y .reply ≡ refused 4 → ⊥
   -- the storage is as long as before
   pub records : length (recordsAfter w (first ∷ later) .records) ≡ length (w .records)
   pub store : length (recordsAfter w (first ∷ later) .store) ≡ length (w .store)
-  pub found : RecordsFound (recordsAfter w (first ∷ later)) (logAfter (startLog d t b) (map callInCells later))
+  pub found : RecordsFound (recordsAfter w (first ∷ later)) (logAfter (startLog g) (map callInCells later))
 
 -- The third demand over lent records, whatever they hold. Every record of the struct's type has eight levels and sixteen links (crate
 -- `records`, proofs/Typed.antt), so that is asked of the list.
 abbrev pub ThirdDemandOnRecords : Type 0
-ThirdDemandOnRecords = (w : RecordStorage) (first : RecordCall) (later : List RecordCall) (d t b : ℕ) → Formed (w .records) → AllLentRecords w (first ∷ later)
-    → first .call ≡ start d t b → startCall (recordsLent w (first .part)) d t b .reply ≡ accepted → RecordsDemand w first later d t b
+ThirdDemandOnRecords = (w : RecordStorage) (first : RecordCall) (later : List RecordCall) (g : Settings) → Formed (w .records) → AllLentRecords w (first ∷ later)
+    → first .call ≡ start g → startCall (recordsLent w (first .part)) g .reply ≡ accepted → RecordsDemand w first later g

@@ -9,9 +9,12 @@ use Prim.Native.Nat.{ℕ, zero, suc, _*_, _<_, _≤_}
 use Rattle.sums.specs.Sums.{sumOf}
 use Rattle.grid.specs.Block.{block}
 use Rattle.grid.specs.Difference.{scaledDifference}
+use Rattle.area.specs.declared.Settings.{Settings}
+use Rattle.area.specs.Settings.{SettingsFit, leastStore}
+use Rattle.area.specs.Log.{Log}
 use Rattle.area.specs.Entry.{deliveredOf, readingIn, pendingOf}
 use Rattle.encoding.specs.Entries.{EnteredOld}
-use Rattle.machine.specs.Log.{Log, anyWanted, wantedIndex}
+use Rattle.machine.specs.Log.{anyWanted, wantedIndex}
 use Rattle.machine.specs.Promote as rule
 use Rattle.machine.specs.Counts.{countOf}
 use Rattle.machine.specs.Steps.{startLog}
@@ -20,7 +23,7 @@ use Rattle.machine.specs.Means.{crossOf}
 use Rattle.calls.specs.Replies.{accepted, promotion}
 use Rattle.calls.specs.Calls.{startCall}
 use Rattle.published.specs.Figure.{Problem, increment, goesOn, turns}
-use Rattle.published.specs.Turns.{activeOf, Measured, Supplied}
+use Rattle.published.specs.Turns.{activeOf, Poses, Measured, Supplied}
 use Rattle.published.specs.Sums.{Read}
 use Rattle.history.specs.Calls.{Call, start, deliver, promote, Part, LentCall, Answer, answer}
 use Rattle.history.specs.Logged.{noted, logAfter, answerBy}
@@ -35,11 +38,11 @@ use Rattle.history.specs.Found.{Found}
 pub record MeanFollows (l : Log) : Type 0 where
   pub difference : (P : Problem) → Read P (l .entries) → (k : List ℕ) → List·Memᴰ k (deliveredOf (l .entries)) → scaledDifference k (readingIn (l .entries)) ≡ increment P k
   pub sum : (P : Problem) → Read P (l .entries) → crossOf (l .entries) ≡ sumOf (deliveredOf (l .entries)) (increment P)
-  pub some : (P : Problem) × (P .axes ≡ l .axes) × Measured P × Read P (l .entries)
+  pub some : (P : Problem) × (P .axes ≡ l .settings .axes) × Measured P × Read P (l .entries)
 
 abbrev pub MeansFollow : Type 0
-MeansFollow = (w : Storage) (first : LentCall) (later : List LentCall) (d t b : ℕ) → AllLent w (first ∷ later)
-    → first .call ≡ start d t b → startCall (areaLent w (first .part)) d t b .reply ≡ accepted → MeanFollows (logAfter (startLog d t b) later)
+MeansFollow = (w : Storage) (first : LentCall) (later : List LentCall) (g : Settings) → AllLent w (first ∷ later)
+    → first .call ≡ start g → startCall (areaLent w (first .part)) g .reply ≡ accepted → MeanFollows (logAfter (startLog g) later)
 
 -- ---- where Fig. 1 stands, after every list of calls
 
@@ -56,18 +59,18 @@ pub record Follows (P : Problem) (l : Log) (n : ℕ) : Type 0 where
   -- the loop's test held before each of the turns, so Fig. 1 makes them
   pub went-on : (i : ℕ) → i < n → goesOn P (turns P i) ≡ true
   -- and promote, called next in storage that is long enough, answers *met* exactly if the test fails; then Fig. 1 returns this result
-  pub over : (z : Lengths) → 512 ≤ z .records → l .budget ≤ z .readings → (goesOn P (turns P n) ≡ true → ⊥) → answerBy z l promote ≡ answer (promotion rule.met)
+  pub over : (z : Lengths) → 512 ≤ z .records → leastStore (l .settings) ≤ z .readings → (goesOn P (turns P n) ≡ true → ⊥) → answerBy z l promote ≡ answer (promotion rule.met)
   pub goes-on : (z : Lengths) → goesOn P (turns P n) ≡ true → answerBy z l promote ≡ answer (promotion rule.met) → ⊥
 
 -- After every list of the third demand with nothing left wanted, Fig. 1 stands where the log stands, after as many turns as there are old
 -- indices; and a problem that gives these readings and indicators there always is.
 pub record StepsFollow (l : Log) : Type 0 where
-  pub every : (P : Problem) → P .axes ≡ l .axes → P .tolerance ≡ l .threshold → Supplied P (l .entries) → Follows P l (countOf 2 (l .entries))
-  pub some : (anyWanted (l .entries) ≡ true → ⊥) → (P : Problem) × (P .axes ≡ l .axes) × (P .tolerance ≡ l .threshold) × Measured P × Supplied P (l .entries)
+  pub every : (P : Problem) → Poses (l .settings) P → Supplied P (l .entries) → Follows P l (countOf 2 (l .entries))
+  pub some : (anyWanted (l .entries) ≡ true → ⊥) → (P : Problem) × Poses (l .settings) P × Measured P × Supplied P (l .entries)
 
 abbrev pub StepsFollowAll : Type 0
-StepsFollowAll = (w : Storage) (first : LentCall) (later : List LentCall) (d t b : ℕ) → AllLent w (first ∷ later)
-    → first .call ≡ start d t b → startCall (areaLent w (first .part)) d t b .reply ≡ accepted → StepsFollow (logAfter (startLog d t b) later)
+StepsFollowAll = (w : Storage) (first : LentCall) (later : List LentCall) (g : Settings) → AllLent w (first ∷ later)
+    → first .call ≡ start g → startCall (areaLent w (first .part)) g .reply ≡ accepted → StepsFollow (logAfter (startLog g) later)
 
 -- ---- a whole run
 
@@ -88,27 +91,27 @@ turnCalls P l = promote ∷ supplyCalls P (countOf 0 (rule.promote l .log .entri
 unfoldable pub lendAll : Part → List Call → List LentCall
 lendAll x cs = map (λ (c : Call). record { call = c; part = x }) cs
 
--- Start with budget b and the root's delivery.
-unfoldable pub begun : Problem → (budget : ℕ) → List Call
-begun P b = start (P .axes) (P .tolerance) b ∷ supplyCall P (startLog (P .axes) (P .tolerance) b) ∷ []
+-- Start and the root's delivery. The settings are to pose the problem (`Poses`).
+unfoldable pub begun : Problem → Settings → List Call
+begun P g = start g ∷ supplyCall P (startLog g) ∷ []
 
 -- These, and then n turns: the calls, and the log after them. Start begins anew, so the log that it finds does not matter.
-unfoldable pub logOf : Part → Problem → (budget n : ℕ) → Log
-logOf x P b zero = logAfter (startLog (P .axes) (P .tolerance) b) (lendAll x (begun P b))
-logOf x P b (suc n) = logAfter (logOf x P b n) (lendAll x (turnCalls P (logOf x P b n)))
+unfoldable pub logOf : Part → Problem → Settings → (n : ℕ) → Log
+logOf x P g zero = logAfter (startLog g) (lendAll x (begun P g))
+logOf x P g (suc n) = logAfter (logOf x P g n) (lendAll x (turnCalls P (logOf x P g n)))
 
-unfoldable pub callsOf : Part → Problem → (budget n : ℕ) → List Call
-callsOf x P b zero = begun P b
-callsOf x P b (suc n) = callsOf x P b n ++ turnCalls P (logOf x P b n)
+unfoldable pub callsOf : Part → Problem → Settings → (n : ℕ) → List Call
+callsOf x P g zero = begun P g
+callsOf x P g (suc n) = callsOf x P g n ++ turnCalls P (logOf x P g n)
 
-pub record Run (w : Storage) (x : Part) (P : Problem) (b n : ℕ) : Type 0 where
+pub record Run (w : Storage) (x : Part) (P : Problem) (g : Settings) (n : ℕ) : Type 0 where
   -- no call is refused, and every promotion is promoted
-  pub answers : (y : Answer) → List·Memᴰ y (answersOf w (lendAll x (callsOf x P b n))) → (y ≡ answer accepted) ⊎ (y ≡ answer (promotion rule.promoted))
-  pub found : Found (storageAfter w (lendAll x (callsOf x P b n))) (logOf x P b n)
-  pub follows : Follows P (logOf x P b n) n
+  pub answers : (y : Answer) → List·Memᴰ y (answersOf w (lendAll x (callsOf x P g n))) → (y ≡ answer accepted) ⊎ (y ≡ answer (promotion rule.promoted))
+  pub found : Found (storageAfter w (lendAll x (callsOf x P g n))) (logOf x P g n)
+  pub follows : Follows P (logOf x P g n) n
 
 -- After n turns, as long as each promotion is *promoted* (it is *spent* where the budget or the 512 held end the run), in any storage of
 -- which enough is lent, for every integrand whose values are readings.
 abbrev pub RunsFollow : Type 0
-RunsFollow = (w : Storage) (x : Part) (P : Problem) (b n : ℕ) → Lent w x → 512 * 27 ≤ x .cells → b ≤ x .readings → Measured P → 1 ≤ P .axes → P .axes ≤ 8 → 1 ≤ b → b ≤ 8192
-    → ((i : ℕ) → i < n → rule.promote (logOf x P b i) .outcome ≡ rule.promoted) → Run w x P b n
+RunsFollow = (w : Storage) (x : Part) (P : Problem) (g : Settings) (n : ℕ) → Lent w x → 512 * 27 ≤ x .cells → leastStore g ≤ x .readings → Measured P → SettingsFit g → Poses g P
+    → ((i : ℕ) → i < n → rule.promote (logOf x P g i) .outcome ≡ rule.promoted) → Run w x P g n

@@ -37,7 +37,7 @@ pub record Done : Type 0 where
   pub area : Area
 
 unfoldable pub callOn : Area → Call → Done
-callOn a (start d t b) = record { answer = answer (startCall a d t b .reply); area = startCall a d t b .area }
+callOn a (start g) = record { answer = answer (startCall a g .reply); area = startCall a g .area }
 callOn a (point n buffer) = record { answer = record { reply = pointCall a n buffer .reply; buffer = pointCall a n buffer .buffer }; area = a }
 callOn a (deliver rs i) = record { answer = answer (deliverCall a rs i .reply); area = deliverCall a rs i .area }
 callOn a promote = record { answer = answer (promoteCall a .reply); area = promoteCall a .area }

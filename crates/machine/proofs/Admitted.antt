@@ -7,13 +7,13 @@ use mathlib.Core.List.{List}
 use Prim.Native.Nat.{ℕ, _<_, _≤_}
 use native.Mathlib.Decide.{ℕ-discrete}
 use native.Mathlib.Omega.{arith}
-use lib.IntN.{ℤ}
 use lib.ListN.{length, getD, length-set}
 use Rattle.grid.specs.Index.{level, Index, forward, backward}
 use Rattle.grid.proofs.Neighbours.{forward-length, forward-level, forward-other, backward-forward}
 use Rattle.area.specs.Entry.{Entry}
+use Rattle.area.specs.Log.{Machine}
 use Rattle.soundness.proofs.Levels.{at-least}
-use Rattle.encoding.specs.Entries.{entryAt, Has, Entered, EnteredOld, SoundEntries}
+use Rattle.encoding.specs.Entries.{entryAt, Has, Entered, EnteredOld, SoundMachine}
 use Rattle.machine.specs.Promote.{retired, retire, admits, passing, admittedAxes}
 use Rattle.machine.proofs.Passing.{Stands, Rising, passing-is, passing-has, passing-rises}
 use Rattle.machine.proofs.Old.{Admits, reads-admits}
@@ -83,7 +83,13 @@ module _ (es : List Entry) (p : ℕ) (inside : p < length es) where
 
 -- ---- no forward neighbour of an active entry is entered
 
-module _ {d b : ℕ} {m : ℤ} {es : List Entry} (v : SoundEntries d b m es) (p : ℕ) (inside : p < length es) (active : entryAt es p .state ≡ 1) where
+module _ {m : Machine} (v : SoundMachine m) (p : ℕ) (inside : p < length (m .log .entries)) (active : entryAt (m .log .entries) p .state ≡ 1) where
+  abbrev d : ℕ
+  d = m .log .settings .axes
+
+  abbrev es : List Entry
+  es = m .log .entries
+
   abbrev k : List ℕ
   k = entryAt es p .levels
 
@@ -96,10 +102,10 @@ module _ {d b : ℕ} {m : ℤ} {es : List Entry} (v : SoundEntries d b m es) (p 
   not-entered a h x = not-old (subst (EnteredOld es) (backward-forward k a in-k) below)
     where
       in-k : a < length k
-      in-k = omega (arith, v .index p inside .eight, v .axes .1)
+      in-k = omega (arith, v .index p inside .eight, v .settings .axes .1)
 
       above : 1 < level (forward k a) a
-      above = omega (arith, forward-level k a in-k, at-least d k (v .index p inside) a (omega (arith, v .axes .1)))
+      above = omega (arith, forward-level k a in-k, at-least d k (v .index p inside) a (omega (arith, v .settings .axes .1)))
 
       below : EnteredOld es (backward (forward k a) a)
       below =

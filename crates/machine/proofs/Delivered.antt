@@ -9,22 +9,29 @@ use native.Mathlib.Omega.{arith}
 use lib.IntN.{ℤ, pos, natAbs, _+ℤ_}
 use lib.ListN.{length, getD, length-set}
 use Rattle.sums.proofs.Sizes.{abs-add}
-use Rattle.grid.specs.Block.{blockSize}
 use Rattle.grid.specs.Difference.{scaledDifference}
 use Rattle.grid.specs.Terms.{IsReading, InRange}
 use Rattle.grid.proofs.Facts.{difference-facts}
+use Rattle.area.specs.declared.Settings.{Settings}
+use Rattle.area.specs.Settings.{readingCount}
 use Rattle.area.specs.Entry.{Entry, deliveredOf, readingIn}
-use Rattle.encoding.specs.Entries.{entryAt, EnteredOld, SoundEntries}
-use Rattle.machine.specs.Log.{Machine, firstWanted, wantedIndex}
+use Rattle.area.specs.Log.{Machine, withEntries}
+use Rattle.encoding.specs.Entries.{entryAt, EnteredOld, SoundMachine}
+use Rattle.machine.specs.Log.{firstWanted, wantedIndex}
 use Rattle.machine.specs.Steps.{delivered, deliverAt, deliver}
-use Rattle.machine.specs.Facts.{SoundMachine}
 use Rattle.machine.proofs.Wanted.{first-is, before-first}
 use Rattle.machine.proofs.Sets.{set-here, set-each, last-set, levels-kept, different-set, has-set, old-set, set-old, reserved-set, delivered-more}
 use Rattle.machine.proofs.Clauses.{SoundEntry, sound-kept, Joint, sound-at, sound-from}
 use Rattle.machine.proofs.Ranges.{in-range}
 
-module _ {d b : ℕ} {m : ℤ} {es : List Entry} (v : SoundEntries d b m es) (some : firstWanted es < length es) (rs : List ℤ) (i : ℕ)
-    (full : length rs ≡ blockSize (wantedIndex es)) (range : (n : ℕ) → n < length rs → IsReading (getD rs n (pos 0))) where
+module _ {m : Machine} (v : SoundMachine m) (some : firstWanted (m .log .entries) < length (m .log .entries)) (rs : List ℤ) (i : ℕ)
+    (full : length rs ≡ readingCount (m .log .settings) (wantedIndex (m .log .entries))) (range : (n : ℕ) → n < length rs → IsReading (getD rs n (pos 0))) where
+  abbrev g : Settings
+  g = m .log .settings
+
+  abbrev es : List Entry
+  es = m .log .entries
+
   abbrev place : ℕ
   place = firstWanted es
 
@@ -53,7 +60,7 @@ module _ {d b : ℕ} {m : ℤ} {es : List Entry} (v : SoundEntries d b m es) (so
   unfolding deliverAt delivered
   old-before k h = ⊎-elim (λ x. x) (λ x. absurd (omega (arith, x .1))) (set-old es place new some refl k h)
 
-  new-sound : SoundEntry d (EnteredOld after) new
+  new-sound : SoundEntry g (EnteredOld after) new
   unfolding delivered
   new-sound =
       let r = sound-at v place some in
@@ -67,21 +74,20 @@ module _ {d b : ℕ} {m : ℤ} {es : List Entry} (v : SoundEntries d b m es) (so
         behind = λ a h l. old-after _ (r .behind a h l);
       }
 
-  each-sound : (p : ℕ) → p < length after → SoundEntry d (EnteredOld after) (entryAt after p)
+  each-sound : (p : ℕ) → p < length after → SoundEntry g (EnteredOld after) (entryAt after p)
   unfolding deliverAt
   each-sound p h =
-      set-each es place new some (SoundEntry d (EnteredOld after)) new-sound (λ q l n. sound-kept old-after (sound-at v q l)) p (omega (arith, after-length))
+      set-each es place new some (SoundEntry g (EnteredOld after)) new-sound (λ q l n. sound-kept old-after (sound-at v q l)) p (omega (arith, after-length))
 
   pub deliver-count : length (deliveredOf after) ≡ suc (length (deliveredOf es))
   unfolding deliverAt delivered
   deliver-count = delivered-more es place new some is-wanted (omega arith)
 
-  joint : (n : ℤ) → natAbs n ≤ length (deliveredOf after) * 2 ^ 40 → Joint d b n after
+  joint : (n : ℤ) → natAbs n ≤ length (deliveredOf after) * 2 ^ 40 → Joint (record { log = withEntries (m .log) after; mean = n })
   unfolding deliverAt delivered
   joint n h =
       record {
-        axes = v .axes;
-        budget = v .budget;
+        settings = v .settings;
         count = (omega (arith, after-length, v .count .0), omega (arith, after-length, v .count .1));
         different = different-set es place new some refl (v .different);
         first = levels-kept es place new some refl 0 ∙ v .first;
@@ -94,7 +100,7 @@ module _ {d b : ℕ} {m : ℤ} {es : List Entry} (v : SoundEntries d b m es) (so
       }
 
   -- whatever mean is within the bound
-  pub deliver-with : (n : ℤ) → natAbs n ≤ length (deliveredOf after) * 2 ^ 40 → SoundEntries d b n after
+  pub deliver-with : (n : ℤ) → natAbs n ≤ length (deliveredOf after) * 2 ^ 40 → SoundMachine (record { log = withEntries (m .log) after; mean = n })
   deliver-with n h = sound-from (joint n h) each-sound
 
   readings-in-range : InRange (wantedIndex es) (readingIn after)
@@ -108,12 +114,12 @@ module _ {d b : ℕ} {m : ℤ} {es : List Entry} (v : SoundEntries d b m es) (so
       let x = v .index place some in
       difference-facts .difference-size (wantedIndex es) (readingIn after) (x .eight) (x .ceilings) readings-in-range
 
-  pub deliver-entries : SoundEntries d b (m +ℤ scaledDifference (wantedIndex es) (readingIn after)) after
+  pub deliver-entries : SoundMachine (record { log = withEntries (m .log) after; mean = m .mean +ℤ scaledDifference (wantedIndex es) (readingIn after) })
   deliver-entries =
-      deliver-with (m +ℤ scaledDifference (wantedIndex es) (readingIn after))
-      (omega (arith, abs-add m (scaledDifference (wantedIndex es) (readingIn after)), v .mean, difference-small, deliver-count))
+      deliver-with (m .mean +ℤ scaledDifference (wantedIndex es) (readingIn after))
+      (omega (arith, abs-add (m .mean) (scaledDifference (wantedIndex es) (readingIn after)), v .mean, difference-small, deliver-count))
 
 pub deliver-sound : (m : Machine) (rs : List ℤ) (i : ℕ) → SoundMachine m → firstWanted (m .log .entries) < length (m .log .entries)
-    → length rs ≡ blockSize (wantedIndex (m .log .entries)) → ((n : ℕ) → n < length rs → IsReading (getD rs n (pos 0))) → SoundMachine (deliver m rs i)
+    → length rs ≡ readingCount (m .log .settings) (wantedIndex (m .log .entries)) → ((n : ℕ) → n < length rs → IsReading (getD rs n (pos 0))) → SoundMachine (deliver m rs i)
 unfolding deliver
 deliver-sound m rs i v some full range = deliver-entries v some rs i full range

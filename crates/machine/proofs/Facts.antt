@@ -1,13 +1,14 @@
--- Each step keeps the clauses on entries, proved.
+-- Each step keeps the clauses on the state, proved.
 -- Assumes nothing.
 use mathlib.Core.Path.{_≡_, refl}
 use mathlib.Core.Bool.{Bool, true, false, cond}
 use Prim.Native.Nat.{ℕ}
 use native.Mathlib.Omega.{arith}
-use Rattle.machine.specs.Log.{Log, Machine, withEntries}
+use Rattle.area.specs.Log.{Log, Machine, withEntries}
+use Rattle.encoding.specs.Entries.{SoundMachine}
 use Rattle.machine.specs.Promote.{selected, refine, isMet, fits, met, spent, promoted, Promotion, promoteAt, promote}
 use Rattle.machine.specs.Steps.{promoteStep}
-use Rattle.machine.specs.Facts.{SoundMachine, StepFacts}
+use Rattle.machine.specs.Facts.{StepFacts}
 use Rattle.machine.proofs.Selected.{Selected, above-selected}
 use Rattle.machine.proofs.Started.{start-sound}
 use Rattle.machine.proofs.Delivered.{deliver-sound}
@@ -23,10 +24,10 @@ module _ (m : Machine) (v : SoundMachine m) where
 
   promote-at : Selected (l .entries) (selected (l .entries)) → Sound (promoteAt l (selected (l .entries)))
   unfolding promoteAt
-  promote-at s = step (fits (l .budget) (refine (l .axes) (l .entries) (selected (l .entries)))) refl
+  promote-at s = step (fits (l .settings .budget) (refine (l .settings .axes) (l .entries) (selected (l .entries)))) refl
     where
-      step : (t : Bool) → fits (l .budget) (refine (l .axes) (l .entries) (selected (l .entries))) ≡ t
-          → Sound (cond t (record { outcome = promoted; log = withEntries l (refine (l .axes) (l .entries) (selected (l .entries))) }) (record { outcome = spent; log = l }))
+      step : (t : Bool) → fits (l .settings .budget) (refine (l .settings .axes) (l .entries) (selected (l .entries))) ≡ t
+          → Sound (cond t (record { outcome = promoted; log = withEntries l (refine (l .settings .axes) (l .entries) (selected (l .entries))) }) (record { outcome = spent; log = l }))
       step true e = refine-sound v (selected (l .entries)) (s .is .place) (s .is .active) e
       step false e = v
 
@@ -43,7 +44,7 @@ step-facts =
     record {
       start = start-sound;
       deliver = deliver-sound;
-      refine = λ d b mean es p v none h s e. refine-sound v p h s e;
+      refine = λ m p v none h s e. refine-sound v p h s e;
       selects = λ l n. let s = above-selected l n in (s .is .place, s .is .active);
       largest = λ l n q h a. above-selected l n .largest q (record { place = h; active = a });
       lowest = λ l n q h a e. above-selected l n .lowest q (record { place = h; active = a }) e;

@@ -19,7 +19,8 @@ use Rattle.grid.specs.Terms.{DownSet}
 use Rattle.grid.proofs.Facts.{difference-facts, combination}
 use Rattle.area.specs.Records.{Run}
 use Rattle.area.specs.Entry.{Entry, deliveredOf, readingsOf, readingIn}
-use Rattle.area.specs.Encoding.{Area, heldOf, entriesOf}
+use Rattle.area.specs.Log.{Log, Machine, withEntries}
+use Rattle.area.specs.Encoding.{Area, heldOf, entriesOf, machineOf}
 use Rattle.quadrature.specs.Linked.{deliveredIn}
 use Rattle.quadrature.proofs.Delivered.{delivered-sure}
 use Rattle.quadrature.proofs.Encoded.{delivered-same}
@@ -27,14 +28,13 @@ use Rattle.soundness.specs.Held.{stateAt, Holds}
 use Rattle.soundness.specs.Sound.{Sound}
 use Rattle.soundness.proofs.Lower.{lower-old}
 use Rattle.soundness.proofs.Facts.{sound-facts}
-use Rattle.encoding.specs.Entries.{entryAt, Has, SoundEntries}
+use Rattle.encoding.specs.Entries.{entryAt, Has, SoundMachine}
 use Rattle.encoding.specs.Encodes.{encodedArea}
 use Rattle.encoding.proofs.Places.{state-at, has}
 use Rattle.encoding.proofs.Facts.{encoding-facts}
-use Rattle.machine.specs.Log.{Log, Machine, withEntries, wanted, firstWanted, wantedIndex}
+use Rattle.machine.specs.Log.{wanted, firstWanted, wantedIndex}
 use Rattle.machine.specs.Promote.{selected, retired, retire, admittedAxes, refine, isMet, fits, met, spent, promoted, Promotion, promoteAt, promote}
 use Rattle.machine.specs.Steps.{started, delivered, deliverAt, deliver, promoteStep}
-use Rattle.machine.specs.Facts.{SoundMachine}
 use Rattle.machine.specs.Means.{meanOf, crossOf, MeanFacts}
 use Rattle.machine.proofs.Wanted.{first-is}
 use Rattle.machine.proofs.Readings.{Empty, readings-other, readings-set, readings-append, sum-more}
@@ -56,11 +56,11 @@ module _ (a : Area) (sound : Sound a) where
   -- the records' and the entries' delivered are the same
   same : deliveredIn (heldOf a) ≡ deliveredOf (entriesOf a)
   unfolding entriesOf
-  same = delivered-same (a .store) (heldOf a)
+  same = delivered-same (a .job .settings) (a .store) (heldOf a)
 
   entered : (k : List ℕ) (p : ℕ) → Holds (heldOf a) k p → 1 ≤ stateAt (heldOf a) p → EnteredDelivered (entriesOf a) k
   unfolding entriesOf
-  entered k p h s = (p, has (a .store) (heldOf a) k p h, omega (arith, state-at (a .store) (heldOf a) p))
+  entered k p h s = (p, has (a .job .settings) (a .store) (heldOf a) k p h, omega (arith, state-at (a .job .settings) (a .store) (heldOf a) p))
 
   area-lower : (k l : List ℕ) → List·Memᴰ k (deliveredOf (entriesOf a)) → NowhereHigher l k → EnteredDelivered (entriesOf a) l
   area-lower k l m w =
@@ -68,81 +68,89 @@ module _ (a : Area) (sound : Sound a) where
       let h : Holds (heldOf a) k (x .place) = record { place = x .inside; same = x .levels } in
       ⊎-elim (λ e. subst (EnteredDelivered (entriesOf a)) (sym e) (entered k (x .place) h (x .delivered)))
       (λ old. entered l (old .0) (old .1) (omega (arith, old .2)))
-      (lower-old (a .job .axes) (a .job .budget) (heldOf a) (sound .structure) k l (x .place, h) w)
+      (lower-old (a .job .settings .axes) (heldOf a) (sound .structure) k l (x .place, h) w)
 
   area-down : Down (entriesOf a)
   area-down = record { set = subst DownSet same (sound-facts .down a sound); lower = area-lower }
-
-module _ {d b : ℕ} {m : ℤ} {es : List Entry} (v : SoundEntries d b m es) where
-  -- an area that encodes the entries, with nothing past them
-  nothing : Run
-  nothing = record { records = []; rest = [] }
-
-  down : Down es
-  down = subst Down (encoding-facts .read-back d 0 b m es v nothing []) (area-down (encodedArea d 0 b es m nothing []) (encoding-facts .sound d 0 b m es v nothing []))
-
-  cross-is : meanOf es ≡ crossOf es
-  unfolding meanOf crossOf
-  cross-is = combination .identity (deliveredOf es) (readingIn es) (down .set)
-
--- ---- deliver
-
-module _ {d b : ℕ} {m : ℤ} {es : List Entry} (v : SoundEntries d b m es) (some : firstWanted es < length es) (rs : List ℤ) (i : ℕ) where
-  abbrev place : ℕ
-  place = firstWanted es
-
-  abbrev after : List Entry
-  after = deliverAt es place rs i
-
-  -- what is nowhere higher than a delivered index is not the wanted one
-  apart : (k l : List ℕ) → List·Memᴰ k (deliveredOf es) → NowhereHigher l k → l ≢ wantedIndex es
-  apart k l n w e =
-      let s = down v .lower k l n w in
-      let q : s .0 ≡ place = v .different (s .0) place (s .1 .place) some (s .1 .same ∙ e) in
-      omega (arith, s .2, first-is es some, ap (λ p. entryAt es p .state) q)
-
-  readings-kept : (l : List ℕ) → l ≢ wantedIndex es → readingIn after l ≡ readingIn es l
-  unfolding deliverAt delivered readingIn
-  readings-kept l n = ap (λ x j. getD x j (pos 0)) (readings-other es place (delivered (entryAt es place) rs i) l refl n)
-
-  -- so the differences of the delivered stay
-  difference-kept : (k : List ℕ) → List·Memᴰ k (deliveredOf es) → scaledDifference k (readingIn after) ≡ scaledDifference k (readingIn es)
-  difference-kept k n =
-      difference-facts .difference-only k (readingIn after) (readingIn es) (λ l j w h. ap (λ f. f j) (readings-kept l (apart k l n w)))
-
-  sum-after : (f : List ℕ → ℤ) → sumOf (deliveredOf after) f ≡ sumOf (deliveredOf es) f +ℤ f (wantedIndex es)
-  unfolding deliverAt delivered
-  sum-after f = sum-more es place (delivered (entryAt es place) rs i) f some (first-is es some) (omega arith)
-
-  deliver-adds : meanOf after ≡ meanOf es +ℤ scaledDifference (wantedIndex es) (readingIn after)
-  unfolding meanOf scaledMean
-  deliver-adds =
-      sum-after (λ k. scaledDifference k (readingIn after))
-      ∙ ap (λ x. x +ℤ scaledDifference (wantedIndex es) (readingIn after))
-      (sumOf-cong-in (deliveredOf es) (λ k. scaledDifference k (readingIn after)) (λ k. scaledDifference k (readingIn es)) difference-kept)
-
--- ---- promote
 
 ahead-empty : (k axes : List ℕ) → Empty (ahead k axes)
 unfolding wanted
 ahead-empty k axes i h = ap (λ (e : Entry). e .readings) (ahead-at k axes i (omega (arith, length-map axes (λ a. wanted (forward k a)))))
 
-module _ {d b : ℕ} {m : ℤ} {es : List Entry} (v : SoundEntries d b m es) (p : ℕ) (inside : p < length es) (active : entryAt es p .state ≡ 1) where
-  abbrev k : List ℕ
-  k = entryAt es p .levels
+module _ {m : Machine} (v : SoundMachine m) where
+  abbrev es : List Entry
+  es = m .log .entries
 
-  abbrev axes : List ℕ
-  axes = admittedAxes d (retire es p) k
+  -- an area that encodes the entries, with nothing past them
+  nothing : Run
+  nothing = record { records = []; rest = [] }
 
-  refine-readings : (l : List ℕ) → readingsOf (refine d es p) l ≡ readingsOf es l
-  unfolding refine retire retired
-  refine-readings l =
-      readings-append (retire es p) (ahead k axes) l (ahead-empty k axes)
-      ∙ readings-set es p (retired (entryAt es p)) l refl refl
+  down : Down es
+  unfolding machineOf
+  down =
+      subst (λ (x : Machine). Down (x .log .entries)) (encoding-facts .read-back m v nothing []) (area-down (encodedArea m nothing []) (encoding-facts .sound m v nothing []))
 
-  refine-mean : meanOf (refine d es p) ≡ meanOf es
-  unfolding meanOf readingIn
-  refine-mean = ap₂ scaledMean (refine-delivered v p inside active) (fun-ext (λ l. ap (λ x j. getD x j (pos 0)) (refine-readings l)))
+  cross-is : meanOf es ≡ crossOf es
+  unfolding meanOf crossOf
+  cross-is = combination .identity (deliveredOf es) (readingIn es) (down .set)
+
+  -- ---- deliver
+
+  module _ (some : firstWanted es < length es) (rs : List ℤ) (i : ℕ) where
+    abbrev place : ℕ
+    place = firstWanted es
+
+    abbrev after : List Entry
+    after = deliverAt es place rs i
+
+    -- what is nowhere higher than a delivered index is not the wanted one
+    apart : (k l : List ℕ) → List·Memᴰ k (deliveredOf es) → NowhereHigher l k → l ≢ wantedIndex es
+    apart k l n w e =
+        let s = down .lower k l n w in
+        let q : s .0 ≡ place = v .different (s .0) place (s .1 .place) some (s .1 .same ∙ e) in
+        omega (arith, s .2, first-is es some, ap (λ p. entryAt es p .state) q)
+
+    readings-kept : (l : List ℕ) → l ≢ wantedIndex es → readingIn after l ≡ readingIn es l
+    unfolding deliverAt delivered readingIn
+    readings-kept l n = ap (λ x j. getD x j (pos 0)) (readings-other es place (delivered (entryAt es place) rs i) l refl n)
+
+    -- so the differences of the delivered stay
+    difference-kept : (k : List ℕ) → List·Memᴰ k (deliveredOf es) → scaledDifference k (readingIn after) ≡ scaledDifference k (readingIn es)
+    difference-kept k n =
+        difference-facts .difference-only k (readingIn after) (readingIn es) (λ l j w h. ap (λ f. f j) (readings-kept l (apart k l n w)))
+
+    sum-after : (f : List ℕ → ℤ) → sumOf (deliveredOf after) f ≡ sumOf (deliveredOf es) f +ℤ f (wantedIndex es)
+    unfolding deliverAt delivered
+    sum-after f = sum-more es place (delivered (entryAt es place) rs i) f some (first-is es some) (omega arith)
+
+    deliver-adds : meanOf after ≡ meanOf es +ℤ scaledDifference (wantedIndex es) (readingIn after)
+    unfolding meanOf scaledMean
+    deliver-adds =
+        sum-after (λ k. scaledDifference k (readingIn after))
+        ∙ ap (λ x. x +ℤ scaledDifference (wantedIndex es) (readingIn after))
+        (sumOf-cong-in (deliveredOf es) (λ k. scaledDifference k (readingIn after)) (λ k. scaledDifference k (readingIn es)) difference-kept)
+
+  -- ---- promote
+
+  module _ (p : ℕ) (inside : p < length es) (active : entryAt es p .state ≡ 1) where
+    abbrev d : ℕ
+    d = m .log .settings .axes
+
+    abbrev k : List ℕ
+    k = entryAt es p .levels
+
+    abbrev axes : List ℕ
+    axes = admittedAxes d (retire es p) k
+
+    refine-readings : (l : List ℕ) → readingsOf (refine d es p) l ≡ readingsOf es l
+    unfolding refine retire retired
+    refine-readings l =
+        readings-append (retire es p) (ahead k axes) l (ahead-empty k axes)
+        ∙ readings-set es p (retired (entryAt es p)) l refl refl
+
+    refine-mean : meanOf (refine d es p) ≡ meanOf es
+    unfolding meanOf readingIn
+    refine-mean = ap₂ scaledMean (refine-delivered v p inside active) (fun-ext (λ l. ap (λ x j. getD x j (pos 0)) (refine-readings l)))
 
 -- the three answers
 module _ (m : Machine) (v : SoundMachine m) where
@@ -154,9 +162,9 @@ module _ (m : Machine) (v : SoundMachine m) where
 
   promote-at : (isMet l ≡ true → ⊥) → Kept (promoteAt l (selected (l .entries)))
   unfolding promoteAt
-  promote-at n = step (fits (l .budget) (refine (l .axes) (l .entries) (selected (l .entries))))
+  promote-at n = step (fits (l .settings .budget) (refine (l .settings .axes) (l .entries) (selected (l .entries))))
     where
-      step : (t : Bool) → Kept (cond t (record { outcome = promoted; log = withEntries l (refine (l .axes) (l .entries) (selected (l .entries))) }) (record { outcome = spent; log = l }))
+      step : (t : Bool) → Kept (cond t (record { outcome = promoted; log = withEntries l (refine (l .settings .axes) (l .entries) (selected (l .entries))) }) (record { outcome = spent; log = l }))
       step true = let s = step-facts .selects l n in refine-mean v (selected (l .entries)) (s .0) (s .1)
       step false = refl
 
@@ -171,7 +179,7 @@ module _ (m : Machine) (v : SoundMachine m) where
 pub mean-facts : MeanFacts
 mean-facts =
     record {
-      start = λ d t b. unfold meanOf started deliveredOf wanted scaledMean sumOf in refl;
+      start = λ g. unfold meanOf started deliveredOf wanted scaledMean sumOf in refl;
       deliver = λ m rs i v some. unfold deliver in deliver-adds v some rs i;
       promote = λ m v. promote-mean m v;
       cross = λ m v. cross-is v;

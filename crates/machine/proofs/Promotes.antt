@@ -3,8 +3,7 @@
 use mathlib.Core.Path.{_≡_, refl}
 use mathlib.Core.Bool.{Bool, true, false, cond}
 use mathlib.Core.List.{List}
-use Rattle.area.specs.Encoding.{Area, entriesOf}
-use Rattle.machine.specs.Log.{Log, machineOf, written}
+use Rattle.area.specs.Encoding.{Area, entriesOf, machineOf, written}
 use Rattle.machine.specs.Promote.{Promotion, met, selected, isMet, promoteAt, promote}
 use Rattle.machine.specs.Steps.{promoteStep}
 use Rattle.machine.specs.Areas.{AreaPromotion, changedBy, refineOn, promoteOn}

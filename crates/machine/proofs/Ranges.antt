@@ -10,45 +10,50 @@ use lib.IntN.{ℤ, pos}
 use lib.ListN.{length, drop, replicate, length-append, length-drop, length-replicate}
 use Rattle.grid.specs.Terms.{IsReading, InRange}
 use Rattle.area.specs.Records.{Run}
+use Rattle.area.specs.Settings.{leastStore}
 use Rattle.area.specs.Entry.{Entry, readingIn}
-use Rattle.area.specs.Encoding.{Area, heldOf, entriesOf, storeFor, storeWith, jobWith}
+use Rattle.area.specs.Log.{Machine}
+use Rattle.area.specs.Encoding.{Area, heldOf, entriesOf, machineOf, storeFor, storeWith, jobWith}
 use Rattle.quadrature.specs.Ready.{Ready}
 use Rattle.quadrature.proofs.Encoded.{entries-agree}
 use Rattle.soundness.specs.Sound.{Sound}
 use Rattle.soundness.proofs.Gives.{sound-ready}
-use Rattle.encoding.specs.Entries.{entryAt, SoundEntries}
+use Rattle.encoding.specs.Entries.{entryAt, SoundMachine}
 use Rattle.encoding.specs.Encodes.{encodedArea}
 use Rattle.encoding.proofs.Places.{state-at, holds}
 use Rattle.encoding.proofs.Facts.{encoding-facts}
 
-module _ (a : Area) (sound : Sound a) (room : a .job .budget ≤ length (a .store)) where
+module _ (a : Area) (sound : Sound a) (room : leastStore (a .job .settings) ≤ length (a .store)) where
   area-range : (p : ℕ) → p < length (entriesOf a) → 1 ≤ entryAt (entriesOf a) p .state → InRange (entryAt (entriesOf a) p .levels) (readingIn (entriesOf a))
   unfolding entriesOf
-  area-range p h d l n w q = subst IsReading (entries-agree ready l n w q) (ready .range l n w q)
+  area-range p h d l n w q = subst IsReading (entries-agree (a .job .settings) ready l n w q) (ready .range l n w q)
     where
       k : List ℕ
       k = entryAt (entriesOf a) p .levels
 
-      ready : Ready (a .job .axes) (heldOf a) (a .store) k
+      ready : Ready (a .job .settings .axes) (heldOf a) (a .store) k
       ready =
-          sound-ready a sound room k p (holds (a .store) (heldOf a) k p (record { place = h; same = refl })) (omega (arith, state-at (a .store) (heldOf a) p))
+          sound-ready a sound room k p (holds (a .job .settings) (a .store) (heldOf a) k p (record { place = h; same = refl })) (omega (arith, state-at (a .job .settings) (a .store) (heldOf a) p))
 
-module _ {d b : ℕ} {m : ℤ} {es : List Entry} (v : SoundEntries d b m es) where
-  -- an area that encodes the entries, in a store as long as the budget
+module _ {m : Machine} (v : SoundMachine m) where
+  abbrev es : List Entry
+  es = m .log .entries
+
+  -- an area that encodes the state, in a store just long enough
   nothing : Run
   nothing = record { records = []; rest = [] }
 
   zeros : List ℤ
-  zeros = replicate b (pos 0)
+  zeros = replicate (leastStore (m .log .settings)) (pos 0)
 
-  room : b ≤ length (storeWith zeros es)
+  room : leastStore (m .log .settings) ≤ length (storeWith zeros es)
   unfolding storeWith zeros
   room =
       omega
-      (arith, length-append (storeFor es) (drop (length (storeFor es)) zeros), length-drop (length (storeFor es)) zeros, length-replicate b (pos 0))
+      (arith, length-append (storeFor es) (drop (length (storeFor es)) zeros), length-drop (length (storeFor es)) zeros, length-replicate (leastStore (m .log .settings)) (pos 0))
 
   pub in-range : (p : ℕ) → p < length es → 1 ≤ entryAt es p .state → InRange (entryAt es p .levels) (readingIn es)
-  unfolding jobWith
+  unfolding jobWith machineOf
   in-range =
-      subst (λ (x : List Entry). (p : ℕ) → p < length x → 1 ≤ entryAt x p .state → InRange (entryAt x p .levels) (readingIn x))
-      (encoding-facts .read-back d 0 b m es v nothing zeros) (area-range (encodedArea d 0 b es m nothing zeros) (encoding-facts .sound d 0 b m es v nothing zeros) room)
+      subst (λ (x : Machine). (p : ℕ) → p < length (x .log .entries) → 1 ≤ entryAt (x .log .entries) p .state → InRange (entryAt (x .log .entries) p .levels) (readingIn (x .log .entries)))
+      (encoding-facts .read-back m v nothing zeros) (area-range (encodedArea m nothing zeros) (encoding-facts .sound m v nothing zeros) room)

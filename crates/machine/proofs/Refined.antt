@@ -9,16 +9,18 @@ use mathlib.Core.List.{List, [], _∷_, _++_, map}
 use Prim.Native.Nat.{ℕ, zero, suc, _+_, _*_, _^_, _<_, _≤_}
 use native.Mathlib.Decide.{ℕ-discrete, decLt}
 use native.Mathlib.Omega.{arith}
-use lib.IntN.{ℤ, natAbs}
+use lib.IntN.{natAbs}
 use lib.ListN.{length, getD, length-append, length-map}
 use Rattle.grid.specs.Index.{level, Within, Index, forward, backward}
 use Rattle.grid.specs.Coefficient.{sameLevels}
 use Rattle.grid.proofs.Neighbours.{forward-backward}
 use Rattle.grid.proofs.Members.{same-or}
+use Rattle.area.specs.declared.Settings.{Settings}
 use Rattle.area.specs.Entry.{Entry, deliveredOf, reservedBy}
+use Rattle.area.specs.Log.{Machine, holding}
 use Rattle.soundness.proofs.Exactly.{reads-le, reads-and}
 use Rattle.soundness.proofs.Levels.{find}
-use Rattle.encoding.specs.Entries.{entryAt, Entered, EnteredOld, SoundEntries}
+use Rattle.encoding.specs.Entries.{entryAt, Entered, EnteredOld, SoundMachine}
 use Rattle.machine.specs.Log.{wanted}
 use Rattle.machine.specs.Promote.{retired, retire, admittedAxes, refine, fits}
 use Rattle.machine.proofs.Passing.{rising-once}
@@ -45,7 +47,16 @@ pub ahead-wanted : (k axes : List ℕ) (i : ℕ) → i < length (ahead k axes) �
 unfolding wanted
 ahead-wanted k axes i h = ap (λ (e : Entry). e .state) (ahead-at k axes i (omega (arith, length-map axes (λ a. wanted (forward k a)))))
 
-module _ {d b : ℕ} {m : ℤ} {es : List Entry} (v : SoundEntries d b m es) (p : ℕ) (inside : p < length es) (active : entryAt es p .state ≡ 1) where
+module _ {m : Machine} (v : SoundMachine m) (p : ℕ) (inside : p < length (m .log .entries)) (active : entryAt (m .log .entries) p .state ≡ 1) where
+  abbrev g : Settings
+  g = m .log .settings
+
+  abbrev d : ℕ
+  d = g .axes
+
+  abbrev es : List Entry
+  es = m .log .entries
+
   abbrev k : List ℕ
   k = entryAt es p .levels
 
@@ -75,7 +86,7 @@ module _ {d b : ℕ} {m : ℤ} {es : List Entry} (v : SoundEntries d b m es) (p 
 
   -- ---- each entry
 
-  retired-sound : SoundEntry d (EnteredOld after) (retired (entryAt es p))
+  retired-sound : SoundEntry g (EnteredOld after) (retired (entryAt es p))
   unfolding retired
   retired-sound =
       let r = sound-at v p inside in
@@ -89,16 +100,16 @@ module _ {d b : ℕ} {m : ℤ} {es : List Entry} (v : SoundEntries d b m es) (p 
         behind = λ a h l. old-after (backward k a) (r .behind a h l);
       }
 
-  kept-sound : (q : ℕ) → q < length kept → SoundEntry d (EnteredOld after) (entryAt kept q)
+  kept-sound : (q : ℕ) → q < length kept → SoundEntry g (EnteredOld after) (entryAt kept q)
   unfolding retire
   kept-sound q h =
-      set-each es p (retired (entryAt es p)) inside (SoundEntry d (EnteredOld after)) retired-sound (λ r l n. sound-kept old-after (sound-at v r l)) q (omega (arith, retire-length es p inside))
+      set-each es p (retired (entryAt es p)) inside (SoundEntry g (EnteredOld after)) retired-sound (λ r l n. sound-kept old-after (sound-at v r l)) q (omega (arith, retire-length es p inside))
 
-  new-sound : (i : ℕ) → i < length new → SoundEntry d (EnteredOld after) (entryAt new i)
+  new-sound : (i : ℕ) → i < length new → SoundEntry g (EnteredOld after) (entryAt new i)
   new-sound i h =
       let x = axis-is d kept k i (omega (arith, new-length)) in
-      subst (SoundEntry d (EnteredOld after)) (sym (ahead-at k axes i (omega (arith, new-length))))
-      (sound-wanted (forward k (getD axes i 0)) (admitted-index (v .axes .1) index-k (getD axes i 0) (x .0) (x .1)) (λ a ha l.
+      subst (SoundEntry g (EnteredOld after)) (sym (ahead-at k axes i (omega (arith, new-length))))
+      (sound-wanted (forward k (getD axes i 0)) (admitted-index (v .settings .axes .1) index-k (getD axes i 0) (x .0) (x .1)) (λ a ha l.
       old-left kept new (backward (forward k (getD axes i 0)) a) (x .1 .behind a ha l)))
 
   -- ---- all together
@@ -113,7 +124,7 @@ module _ {d b : ℕ} {m : ℤ} {es : List Entry} (v : SoundEntries d b m es) (p 
           let gi : i < length axes = omega (arith, new-length) in
           let gj : j < length axes = omega (arith, new-length) in
           rising-once axes (axes-rise d kept k) i j gi gj
-          (forward-once (v .axes .1) index-k (getD axes i 0) (getD axes j 0) (axis-is d kept k i gi .0) (sym (ahead-levels k axes i gi) ∙ e ∙ ahead-levels k axes j gj))
+          (forward-once (v .settings .axes .1) index-k (getD axes i 0) (getD axes j 0) (axis-is d kept k i gi .0) (sym (ahead-levels k axes i gi) ∙ e ∙ ahead-levels k axes j gj))
 
       apart : (q i : ℕ) → q < length kept → i < length new → entryAt kept q .levels ≡ entryAt new i .levels → ⊥
       apart q i hq hi e =
@@ -161,7 +172,7 @@ module _ {d b : ℕ} {m : ℤ} {es : List Entry} (v : SoundEntries d b m es) (p 
 
       step : ((a : ℕ) × (a < d) × Step a) ⊎ ((a : ℕ) → a < d → Step a → ⊥) → Entered after x
       step (inl s) =
-          step-entered x (s .0) (s .1) (ap (λ y. forward y (s .0)) (sym (s .2 .1)) ∙ forward-backward x (s .0) (omega (arith, s .1, v .axes .1, j .eight)) (s .2 .0)) j old
+          step-entered x (s .0) (s .1) (ap (λ y. forward y (s .0)) (sym (s .2 .1)) ∙ forward-backward x (s .0) (omega (arith, s .1, v .settings .axes .1, j .eight)) (s .2 .0)) j old
       step (inr n) =
           let h = v .admissible x j (λ a ha l. ⊎-elim (λ o. o) (λ e. absurd (n a ha (l, e))) (retire-old es p inside (backward x a) (old-since (backward x a) (old a ha l)))) in
           (h .0, has-left kept new x (h .0) (has-retire es p inside x (h .0) (h .1)))
@@ -170,12 +181,11 @@ module _ {d b : ℕ} {m : ℤ} {es : List Entry} (v : SoundEntries d b m es) (p 
   unfolding retire retired
   delivered-same = delivered-append kept new (ahead-wanted k axes) ∙ delivered-set es p (retired (entryAt es p)) inside refl (omega arith) (omega arith)
 
-  joint : length after ≤ 512 → reservedBy after ≤ b → Joint d b m after
+  joint : length after ≤ 512 → reservedBy after ≤ g .budget → Joint (holding m after)
   unfolding retire retired
   joint few within =
       record {
-        axes = v .axes;
-        budget = v .budget;
+        settings = v .settings;
         count = (omega (arith, length-append kept new, retire-length es p inside, v .count .0), few);
         different = different;
         first =
@@ -185,14 +195,14 @@ module _ {d b : ℕ} {m : ℤ} {es : List Entry} (v : SoundEntries d b m es) (p 
         admissible = admissible;
         last = last;
         within-budget = within;
-        mean = subst (λ l. natAbs m ≤ length l * 2 ^ 40) (sym delivered-same) (v .mean);
+        mean = subst (λ l. natAbs (m .mean) ≤ length l * 2 ^ 40) (sym delivered-same) (v .mean);
       }
 
-  pub refine-sound : fits b (refine d es p) ≡ true → SoundEntries d b m (refine d es p)
+  pub refine-sound : fits (g .budget) (refine d es p) ≡ true → SoundMachine (holding m (refine d es p))
   unfolding refine fits
   refine-sound e =
-      let x = reads-and _ _ (reads-le (length after) 512) (reads-le (reservedBy after) b) .sure e in
-      sound-from (joint (x .0) (x .1)) (append-each kept new (SoundEntry d (EnteredOld after)) kept-sound new-sound)
+      let x = reads-and _ _ (reads-le (length after) 512) (reads-le (reservedBy after) (g .budget)) .sure e in
+      sound-from (joint (x .0) (x .1)) (append-each kept new (SoundEntry g (EnteredOld after)) kept-sound new-sound)
 
   -- what is delivered stays so, and nothing else is
   pub refine-delivered : deliveredOf (refine d es p) ≡ deliveredOf es

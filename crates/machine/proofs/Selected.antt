@@ -10,10 +10,10 @@ use borrow.Author.Tests.{eqb-true, le-leb}
 use lib.Dec.{leb, eqb}
 use lib.ListN.{length}
 use Rattle.area.specs.Entry.{Entry, pendingOf}
+use Rattle.area.specs.Log.{Log}
 use Rattle.soundness.specs.Sound.{Exactly}
 use Rattle.soundness.proofs.Exactly.{reads-eq, reads-le, reads-and}
 use Rattle.encoding.specs.Entries.{entryAt}
-use Rattle.machine.specs.Log.{Log}
 use Rattle.machine.specs.Promote.{largest, firstActive, selected, isMet}
 
 -- a test that says no refutes its statement
@@ -160,8 +160,8 @@ pending-some (e ∷ es) h = step (eqb (e .state) 1) refl h (pending-some es)
 -- so where it is above the threshold there is one to select
 pub above-selected : (l : Log) → (isMet l ≡ true → ⊥) → Selected (l .entries) (selected (l .entries))
 unfolding isMet
-above-selected l n = selected-is (l .entries) (pending-some (l .entries) (above (decLt (l .threshold) (pendingOf (l .entries)))))
+above-selected l n = selected-is (l .entries) (pending-some (l .entries) (above (decLt (l .settings .threshold) (pendingOf (l .entries)))))
   where
-    above : Dec (l .threshold < pendingOf (l .entries)) → 0 < pendingOf (l .entries)
+    above : Dec (l .settings .threshold < pendingOf (l .entries)) → 0 < pendingOf (l .entries)
     above (yes h) = omega arith
-    above (no h) = absurd (n (le-leb (pendingOf (l .entries)) (l .threshold) (omega arith)))
+    above (no h) = absurd (n (le-leb (pendingOf (l .entries)) (l .settings .threshold) (omega arith)))

@@ -3,19 +3,19 @@
 use mathlib.Core.Path.{_≡_, refl, sym}
 use mathlib.Core.Logic.{_⊎_, inl, inr}
 use mathlib.Core.List.{List, [], _∷_}
-use Prim.Native.Nat.{ℕ, zero, suc, _<_, _≤_}
+use Prim.Native.Nat.{ℕ, zero, suc, _<_}
 use native.Mathlib.Omega.{arith}
-use lib.IntN.{pos}
 use Rattle.rule.specs.Points.{newCount}
 use Rattle.grid.specs.Index.{level, Index, root, backward}
 use Rattle.grid.specs.Block.{blockSize}
 use Rattle.grid.proofs.Neighbours.{root-first, root-index}
+use Rattle.area.specs.declared.Settings.{Settings}
+use Rattle.area.specs.Settings.{SettingsFit}
 use Rattle.area.specs.Entry.{Entry, deliveredOf, reservedBy}
 use Rattle.soundness.proofs.Levels.{axis-of, root-or}
-use Rattle.encoding.specs.Entries.{entryAt, Entered, EnteredOld}
+use Rattle.encoding.specs.Entries.{entryAt, Entered, EnteredOld, SoundMachine}
 use Rattle.machine.specs.Log.{wanted}
 use Rattle.machine.specs.Steps.{started}
-use Rattle.machine.specs.Facts.{SoundMachine}
 use Rattle.machine.proofs.Clauses.{SoundEntry, sound-wanted, Joint, sound-from}
 
 abbrev one : List Entry
@@ -33,7 +33,10 @@ one-point : reservedBy one ≡ 1
 unfolding reservedBy wanted blockSize root newCount
 one-point = refl
 
-module _ (d b : ℕ) (axes : (1 ≤ d) × (d ≤ 8)) (budget : (1 ≤ b) × (b ≤ 8192)) where
+module _ (g : Settings) (fit : SettingsFit g) where
+  abbrev d : ℕ
+  d = g .axes
+
   admissible : (k : List ℕ) → Index d k → ((a : ℕ) → a < d → 1 < level k a → EnteredOld one (backward k a)) → Entered one k
   unfolding wanted
   admissible k i old = step (root-or d k i)
@@ -42,25 +45,24 @@ module _ (d b : ℕ) (axes : (1 ≤ d) × (d ≤ 8)) (budget : (1 ≤ b) × (b �
       step (inl e) = (0, record { place = omega arith; same = sym e })
       step (inr s) = absurd (not-old (backward k (s .0)) (old (s .0) (axis-of d k i (s .0) (s .1) (s .2)) (s .2)))
 
-  joint : Joint d b (pos 0) one
-  unfolding wanted deliveredOf
+  joint : Joint (started g)
+  unfolding started wanted deliveredOf
   joint =
       record {
-        axes = axes;
-        budget = budget;
+        settings = fit;
         count = (omega arith, omega arith);
         different = λ p q hp hq e. omega arith;
         first = refl;
         admissible = admissible;
         last = λ p q l h z. all-wanted q h;
-        within-budget = omega (arith, one-point);
+        within-budget = omega (arith, one-point, fit .budget .0);
         mean = omega arith;
       }
 
-  each-sound : (p : ℕ) → p < 1 → SoundEntry d (EnteredOld one) (entryAt one p)
+  each-sound : (p : ℕ) → p < 1 → SoundEntry g (EnteredOld one) (entryAt one p)
   each-sound zero h = sound-wanted root (root-index d) (λ a ha l. absurd (root-first a l))
   each-sound (suc p) h = absurd (omega arith)
 
-pub start-sound : (d t b : ℕ) → 1 ≤ d → d ≤ 8 → 1 ≤ b → b ≤ 8192 → SoundMachine (started d t b)
+pub start-sound : (g : Settings) → SettingsFit g → SoundMachine (started g)
 unfolding started
-start-sound d t b d1 d8 b1 b8 = sound-from (joint d b (d1, d8) (b1, b8)) (each-sound d b (d1, d8) (b1, b8))
+start-sound g fit = sound-from (joint g fit) (each-sound g fit)

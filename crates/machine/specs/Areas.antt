@@ -2,13 +2,13 @@
 use mathlib.Core.List.{List}
 use Prim.Native.Nat.{ℕ}
 use lib.IntN.{ℤ}
-use Rattle.area.specs.Encoding.{Area}
-use Rattle.machine.specs.Log.{machineOf, written}
+use Rattle.area.specs.declared.Settings.{Settings}
+use Rattle.area.specs.Encoding.{Area, machineOf, written}
 use Rattle.machine.specs.Promote.{Outcome, met, spent, promoted, promoteAt, promote}
 use Rattle.machine.specs.Steps.{started, deliver, promoteStep}
 
-unfoldable pub startOn : Area → (axes threshold budget : ℕ) → Area
-startOn a d t b = written a (started d t b)
+unfoldable pub startOn : Area → Settings → Area
+startOn a g = written a (started g)
 
 unfoldable pub deliverOn : Area → List ℤ → ℕ → Area
 deliverOn a rs i = written a (deliver (machineOf a) rs i)

@@ -7,7 +7,10 @@ use lib.Dec.{leb, eqb}
 use lib.IntN.{ℤ, natAbs}
 use lib.ListN.{length}
 use Rattle.grid.specs.Block.{blockSize}
-use Rattle.machine.specs.Log.{Log, anyWanted, wantedIndex}
+use Rattle.area.specs.declared.Settings.{Settings}
+use Rattle.area.specs.Settings.{axesFit, budgetFit, readingCount, leastStore}
+use Rattle.area.specs.Log.{Log}
+use Rattle.machine.specs.Log.{anyWanted, wantedIndex}
 
 -- A row: a test that refuses, and its number.
 pub record Cause : Type 0 where
@@ -27,23 +30,24 @@ pub record Lengths : Type 0 where
   pub records : ℕ
   pub readings : ℕ
 
--- Records under 512, or reading store under the budget: start's own in start, and the log's in every other call.
-unfoldable pub short : Lengths → ℕ → Bool
-short z b = not (leb 512 (z .records) && leb b (z .readings))
+-- Records under 512, or reading store under the least: by start's own settings in start, and by the log's in every other call.
+unfoldable pub short : Lengths → Settings → Bool
+short z g = not (leb 512 (z .records) && leb (leastStore g) (z .readings))
 
 -- All are readings.
 unfoldable pub inRange : List ℤ → Bool
 inRange [] = true
 inRange (x ∷ xs) = leb (natAbs x) 1048576 && inRange xs
 
-unfoldable pub startCauses : Lengths → (axes budget : ℕ) → List Cause
-startCauses z d b = cause (not (leb 1 d && leb d 8)) 1 ∷ cause (not (leb 1 b && leb b 8192)) 2 ∷ cause (short z b) 3 ∷ []
+-- d not 1 to 8; budget not 1 to 8,192; storage too short.
+unfoldable pub startCauses : Lengths → Settings → List Cause
+startCauses z g = cause (not (axesFit g)) 1 ∷ cause (not (budgetFit g)) 2 ∷ cause (short z g) 3 ∷ []
 
 -- The point's number is n, and the lent buffer has w bytes.
 unfoldable pub pointCauses : Lengths → Bool → Log → (n w : ℕ) → List Cause
 pointCauses z sound l n w =
-    cause (short z (l .budget)) 3
-    ∷ cause (not (leb (l .axes) w)) 3
+    cause (short z (l .settings)) 3
+    ∷ cause (not (leb (l .settings .axes) w)) 3
     ∷ cause (not sound) 4
     ∷ cause (not (anyWanted (l .entries))) 5
     ∷ cause (leb (blockSize (wantedIndex (l .entries))) n) 9
@@ -51,15 +55,15 @@ pointCauses z sound l n w =
 
 unfoldable pub deliverCauses : Lengths → Bool → Log → List ℤ → List Cause
 deliverCauses z sound l readings =
-    cause (short z (l .budget)) 3
+    cause (short z (l .settings)) 3
     ∷ cause (not sound) 4
     ∷ cause (not (anyWanted (l .entries))) 5
-    ∷ cause (not (eqb (length readings) (blockSize (wantedIndex (l .entries))))) 7
+    ∷ cause (not (eqb (length readings) (readingCount (l .settings) (wantedIndex (l .entries))))) 7
     ∷ cause (not (inRange readings)) 8
     ∷ []
 
 unfoldable pub promoteCauses : Lengths → Bool → Log → List Cause
-promoteCauses z sound l = cause (short z (l .budget)) 3 ∷ cause (not sound) 4 ∷ cause (anyWanted (l .entries)) 6 ∷ []
+promoteCauses z sound l = cause (short z (l .settings)) 3 ∷ cause (not sound) 4 ∷ cause (anyWanted (l .entries)) 6 ∷ []
 
 unfoldable pub resultCauses : Lengths → Bool → Log → List Cause
-resultCauses z sound l = cause (short z (l .budget)) 3 ∷ cause (not sound) 4 ∷ []
+resultCauses z sound l = cause (short z (l .settings)) 3 ∷ cause (not sound) 4 ∷ []

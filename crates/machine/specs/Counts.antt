@@ -1,21 +1,16 @@
 -- **Result**: the counts of old, active, wanted and reserved; the pending error; the scaled mean; and the ceiling count.
 use mathlib.Core.Bool.{cond}
 use mathlib.Core.List.{List, [], _∷_}
-use Prim.Native.Nat.{ℕ, zero, suc, _+_}
+use Prim.Native.Nat.{ℕ, _+_}
 use lib.Dec.{eqb}
 use lib.IntN.{ℤ}
-use Rattle.grid.specs.Index.{within, forward}
+use Rattle.grid.specs.Index.{cappedAxes}
 use Rattle.area.specs.Entry.{Entry, reservedBy, pendingOf}
-use Rattle.machine.specs.Log.{Machine}
+use Rattle.area.specs.Log.{Machine}
 
 unfoldable pub countOf : ℕ → List Entry → ℕ
 countOf s [] = 0
 countOf s (e ∷ es) = cond (eqb (e .state) s) 1 0 + countOf s es
-
--- The axes below d along which the forward neighbour of k passes a ceiling.
-unfoldable pub cappedAxes : ℕ → List ℕ → ℕ
-cappedAxes zero k = 0
-cappedAxes (suc a) k = cappedAxes a k + cond (within (forward k a)) 0 1
 
 -- The *ceiling count*: the number of pairs of an old index and an axis whose forward neighbour passes a ceiling.
 unfoldable pub ceilingCount : ℕ → List Entry → ℕ
@@ -41,5 +36,5 @@ countsOf m =
       reserved = reservedBy (m .log .entries);
       pending = pendingOf (m .log .entries);
       mean = m .mean;
-      ceiling = ceilingCount (m .log .axes) (m .log .entries);
+      ceiling = ceilingCount (m .log .settings .axes) (m .log .entries);
     }

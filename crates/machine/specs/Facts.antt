@@ -1,29 +1,28 @@
--- Each step keeps the clauses on entries, so the area that encodes its result is sound.
+-- Each step keeps the clauses on the state, so the area that encodes its result is sound.
 use mathlib.Core.Path.{_≡_}
 use mathlib.Core.Bool.{true}
 use mathlib.Core.List.{List}
 use Prim.Native.Nat.{ℕ, _<_, _≤_}
 use lib.IntN.{ℤ, pos}
 use lib.ListN.{length, getD}
-use Rattle.grid.specs.Block.{blockSize}
 use Rattle.grid.specs.Terms.{IsReading}
-use Rattle.area.specs.Entry.{Entry}
-use Rattle.encoding.specs.Entries.{entryAt, SoundEntries}
-use Rattle.machine.specs.Log.{Log, Machine, firstWanted, wantedIndex}
+use Rattle.area.specs.declared.Settings.{Settings}
+use Rattle.area.specs.Settings.{SettingsFit, readingCount}
+use Rattle.area.specs.Log.{Log, Machine, holding}
+use Rattle.encoding.specs.Entries.{entryAt, SoundMachine}
+use Rattle.machine.specs.Log.{firstWanted, wantedIndex}
 use Rattle.machine.specs.Promote.{selected, refine, fits, isMet}
 use Rattle.machine.specs.Steps.{started, deliver, promoteStep}
 
-abbrev pub SoundMachine : Machine → Type 0
-SoundMachine m = SoundEntries (m .log .axes) (m .log .budget) (m .mean) (m .log .entries)
-
 pub record StepFacts : Type 0 where
-  pub start : (d t b : ℕ) → 1 ≤ d → d ≤ 8 → 1 ≤ b → b ≤ 8192 → SoundMachine (started d t b)
-  -- readings as many as the block has points, all in range
+  pub start : (g : Settings) → SettingsFit g → SoundMachine (started g)
+  -- readings as many as the block has, all in range
   pub deliver : (m : Machine) (rs : List ℤ) (i : ℕ) → SoundMachine m → firstWanted (m .log .entries) < length (m .log .entries)
-      → length rs ≡ blockSize (wantedIndex (m .log .entries)) → ((n : ℕ) → n < length rs → IsReading (getD rs n (pos 0))) → SoundMachine (deliver m rs i)
+      → length rs ≡ readingCount (m .log .settings) (wantedIndex (m .log .entries)) → ((n : ℕ) → n < length rs → IsReading (getD rs n (pos 0))) → SoundMachine (deliver m rs i)
   -- refining any active place when nothing is wanted and it fits
-  pub refine : (d b : ℕ) (mean : ℤ) (es : List Entry) (p : ℕ) → SoundEntries d b mean es → length es ≤ firstWanted es → p < length es → entryAt es p .state ≡ 1
-      → fits b (refine d es p) ≡ true → SoundEntries d b mean (refine d es p)
+  pub refine : (m : Machine) (p : ℕ) → SoundMachine m → length (m .log .entries) ≤ firstWanted (m .log .entries)
+      → p < length (m .log .entries) → entryAt (m .log .entries) p .state ≡ 1 → fits (m .log .settings .budget) (refine (m .log .settings .axes) (m .log .entries) p) ≡ true
+      → SoundMachine (holding m (refine (m .log .settings .axes) (m .log .entries) p))
   -- where the pending error is above the threshold, what is selected is active
   pub selects : (l : Log) → (isMet l ≡ true → ⊥) → (selected (l .entries) < length (l .entries)) × (entryAt (l .entries) (selected (l .entries)) .state ≡ 1)
   -- with the largest indicator, at the lowest place among equals

@@ -1,4 +1,4 @@
--- The published algorithm on a list of entries: the log, the steps, what refuses a call, and what is counted. `Areas` says what the
+-- The published algorithm on a list of entries: what is wanted, the steps, what refuses a call, and what is counted. `Areas` says what the
 -- steps are on an area.
 pub mod Log
 pub mod Promote

@@ -6,10 +6,12 @@ use lib.IntN.{ℤ, pos, _+ℤ_}
 use lib.ListN.{length}
 use Rattle.grid.specs.Difference.{scaledDifference, scaledMean}
 use Rattle.grid.specs.Cross.{crossTotal}
+use Rattle.area.specs.declared.Settings.{Settings}
 use Rattle.area.specs.Entry.{Entry, deliveredOf, readingIn}
-use Rattle.machine.specs.Log.{Machine, firstWanted, wantedIndex}
+use Rattle.area.specs.Log.{Machine}
+use Rattle.encoding.specs.Entries.{SoundMachine}
+use Rattle.machine.specs.Log.{firstWanted, wantedIndex}
 use Rattle.machine.specs.Steps.{started, deliver, promoteStep}
-use Rattle.machine.specs.Facts.{SoundMachine}
 
 -- The *scaled mean*: the sum of the delivered indices' differences, times 2^20.
 unfoldable pub meanOf : List Entry → ℤ
@@ -21,7 +23,7 @@ crossOf es = crossTotal (deliveredOf es) (readingIn es)
 
 pub record MeanFacts : Type 0 where
   -- before the first delivery the mean is 0
-  pub start : (d t b : ℕ) → meanOf (started d t b .log .entries) ≡ pos 0
+  pub start : (g : Settings) → meanOf (started g .log .entries) ≡ pos 0
   -- a delivery adds the delivered index's difference: that of every index delivered before stays
   pub deliver : (m : Machine) (rs : List ℤ) (i : ℕ) → SoundMachine m → firstWanted (m .log .entries) < length (m .log .entries)
       → meanOf (deliver m rs i .log .entries) ≡ meanOf (m .log .entries) +ℤ scaledDifference (wantedIndex (m .log .entries)) (readingIn (deliver m rs i .log .entries))

@@ -8,9 +8,10 @@ use lib.ListN.{length, set}
 use Rattle.grid.specs.Index.{level, within, forward, backward}
 use Rattle.grid.specs.Coefficient.{sameLevels}
 use Rattle.area.specs.Entry.{Entry, reservedBy, pendingOf}
+use Rattle.area.specs.Log.{Log, withEntries}
 use Rattle.soundness.specs.Test.{allFrom}
 use Rattle.encoding.specs.Entries.{entryAt}
-use Rattle.machine.specs.Log.{Log, withEntries, wanted}
+use Rattle.machine.specs.Log.{wanted}
 
 -- ---- selecting: the active index of largest indicator, the lowest place among equals
 
@@ -65,7 +66,7 @@ refine d es p = retire es p ++ map (λ a. wanted (forward (entryAt es p .levels)
 
 -- *Met* exactly if the pending error is at most the threshold.
 unfoldable pub isMet : Log → Bool
-isMet l = leb (pendingOf (l .entries)) (l .threshold)
+isMet l = leb (pendingOf (l .entries)) (l .settings .threshold)
 
 -- At most 512 held, and reserved at most the budget. Promote is *spent* exactly if this fails with the admitted appended.
 unfoldable pub fits : ℕ → List Entry → Bool
@@ -83,7 +84,7 @@ pub record Promotion : Type 0 where
 -- Refining a place, unless it is spent, and then nothing changes.
 unfoldable pub promoteAt : Log → ℕ → Promotion
 promoteAt l p =
-    cond (fits (l .budget) (refine (l .axes) (l .entries) p)) (record { outcome = promoted; log = withEntries l (refine (l .axes) (l .entries) p) })
+    cond (fits (l .settings .budget) (refine (l .settings .axes) (l .entries) p)) (record { outcome = promoted; log = withEntries l (refine (l .settings .axes) (l .entries) p) })
     (record { outcome = spent; log = l })
 
 unfoldable pub promote : Log → Promotion

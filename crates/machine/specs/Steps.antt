@@ -6,18 +6,20 @@ use lib.IntN.{ℤ, pos, _+ℤ_}
 use lib.ListN.{set}
 use Rattle.grid.specs.Index.{root}
 use Rattle.grid.specs.Difference.{scaledDifference}
+use Rattle.area.specs.declared.Settings.{Settings}
 use Rattle.area.specs.Entry.{Entry, readingIn}
+use Rattle.area.specs.Log.{Log, Machine, withEntries}
 use Rattle.encoding.specs.Entries.{entryAt}
-use Rattle.machine.specs.Log.{Log, Machine, withEntries, wanted, firstWanted, wantedIndex}
+use Rattle.machine.specs.Log.{wanted, firstWanted, wantedIndex}
 use Rattle.machine.specs.Promote.{promote}
 
--- **Start** leaves in the log d, threshold, budget and the root alone, wanted, so it is held at place 0. Before the first delivery the
--- scaled mean is 0.
-abbrev pub startLog : (axes threshold budget : ℕ) → Log
-startLog d t b = record { axes = d; threshold = t; budget = b; entries = wanted root ∷ [] }
+-- **Start** leaves in the log the settings (d, threshold and budget) and the root alone, wanted, so it is held at place 0. Before the
+-- first delivery the scaled mean is 0.
+abbrev pub startLog : Settings → Log
+startLog g = record { settings = g; entries = wanted root ∷ [] }
 
-unfoldable pub started : (axes threshold budget : ℕ) → Machine
-started d t b = record { log = startLog d t b; mean = pos 0 }
+unfoldable pub started : Settings → Machine
+started g = record { log = startLog g; mean = pos 0 }
 
 -- **Deliver**: the index becomes active, with its readings and the indicator.
 unfoldable pub delivered : Entry → List ℤ → ℕ → Entry

@@ -12,10 +12,9 @@ use lib.ListN.{length}
 use Rattle.area.specs.declared.JobRecord.{JobRecord}
 use Rattle.area.specs.Records.{recordsOf, heldIn}
 use Rattle.area.specs.Entry.{Entry, pendingOf}
-use Rattle.area.specs.Encoding.{Area, areaOf, entriesOf}
+use Rattle.area.specs.Encoding.{Area, areaOf, entriesOf, machineOf}
 use Rattle.soundness.specs.Held.{stateAt}
 use Rattle.encoding.specs.Entries.{entryAt}
-use Rattle.machine.specs.Log.{machineOf}
 use Rattle.machine.specs.Promote.{selected, isMet}
 use Rattle.machine.specs.Areas.{refineOn, promoteOn}
 use Rattle.machine.proofs.Promotes.{promote-by}
@@ -34,14 +33,14 @@ module _ (job : JobRecord) (c : List ℕ) (store : List ℤ) (r : Settled (areaO
   abbrev es : List Entry
   es = entriesOf area
 
-  pub met-is : job .pending ≤ job .threshold → promotionOf (record { outcome = Met; job = job }) c store ≡ promoteOn area
+  pub met-is : job .pending ≤ job .settings .threshold → promotionOf (record { outcome = Met; job = job }) c store ≡ promoteOn area
   unfolding isMet machineOf outcomeOf
-  met-is h = rw (promote-by area, le-leb (pendingOf es) (job .threshold) (omega (arith, r .sound .pending)))
+  met-is h = rw (promote-by area, le-leb (pendingOf es) (job .settings .threshold) (omega (arith, r .sound .numbers .pending)))
 
-  module _ (above : job .threshold < job .pending) (place : ℕ) (place-is : place ≡ selected (headsOf (heldIn c (job .held)))) where
+  module _ (above : job .settings .threshold < job .pending) (place : ℕ) (place-is : place ≡ selected (headsOf (heldIn c (job .held)))) where
     not-met : isMet (machineOf area .log) ≡ false
     unfolding isMet machineOf
-    not-met = lt-leb (pendingOf es) (job .threshold) (omega (arith, r .sound .pending))
+    not-met = lt-leb (pendingOf es) (job .settings .threshold) (omega (arith, r .sound .numbers .pending))
 
     place-selected : place ≡ selected es
     place-selected = place-is ∙ alike-selected (headsOf (heldIn c (job .held))) es (heads-are job c store)

@@ -13,17 +13,21 @@ use lib.ListN.{length, getD, set}
 use Rattle.grid.specs.Index.{level, Within, forward}
 use Rattle.area.specs.declared.JobRecord.{JobRecord}
 use Rattle.area.specs.declared.IndexRecord.{IndexRecord}
+use Rattle.area.specs.declared.Settings.{Settings}
+use Rattle.area.specs.Settings.{readingsFor}
+use Rattle.area.proofs.Readings.{reading-facts}
 use Rattle.area.specs.Records.{Run, recordsOf, runOf, stored, heldIn}
 use Rattle.area.specs.Entry.{Entry, reservedBy}
-use Rattle.area.specs.Encoding.{Area, areaOf, entriesOf}
+use Rattle.area.specs.Log.{Machine, holding}
+use Rattle.area.specs.Encoding.{Area, areaOf, entriesOf, machineOf, written}
 use Rattle.area.proofs.Records.{length-recordsOf}
 use Rattle.quadrature.specs.Readings.{recordAt}
 use Rattle.quadrature.proofs.Held.{held-length, held-record}
 use Rattle.soundness.specs.Held.{levelsAt, stateAt}
-use Rattle.machine.specs.Log.{Machine, firstWanted, machineOf, written, withEntries}
+use Rattle.machine.specs.Log.{firstWanted}
 use Rattle.machine.specs.Promote.{retire, admits, admittedAxes, refine, fits, spent, promoted, promoteAt}
 use Rattle.machine.specs.Areas.{changedBy, refineOn}
-use Rattle.machine.specs.Facts.{SoundMachine}
+use Rattle.encoding.specs.Entries.{SoundMachine}
 use Rattle.machine.proofs.Old.{reads-admits}
 use Rattle.machine.proofs.Facts.{step-facts}
 use Rattle.writing.specs.Changes.{restated, appendedAll, sizesOf}
@@ -52,8 +56,8 @@ module _ (job : JobRecord) (c : List ℕ) (store : List ℤ) (r : Settled (areaO
   long : 512 * 27 ≤ length c
   long = omega (arith, r .lent .records, length-recordsOf c)
 
-  few-axes : job .axes ≤ 8
-  few-axes = r .sound .structure .axes .1
+  few-axes : job .settings .axes ≤ 8
+  few-axes = r .sound .settings .axes .1
 
   searchable : Searchable (heldIn c (job .held))
   unfolding heldIn
@@ -83,18 +87,19 @@ refinable job c store p r h = record { settled = r .0; idle = r .1; place = h .0
 -- its levels as they are read, and the marks that the scan answers with
 pub record Scanned (job : JobRecord) (c : List ℕ) (p : ℕ) (levels marks : List ℕ) : Type 0 where
   pub levels-are : levels ≡ levelsAt (recordsOf c) p
-  pub marks-are : marks ≡ marksOf (job .axes) (admits (job .axes) (retire (headsIn job c) p) (levelsAt (heldIn c (job .held)) p))
+  pub marks-are : marks ≡ marksOf (job .settings .axes) (admits (job .settings .axes) (retire (headsIn job c) p) (levelsAt (heldIn c (job .held)) p))
 
 -- how many are marked, and the sizes of their blocks together
 pub record Counted (job : JobRecord) (levels marks : List ℕ) (count sizes : ℕ) : Type 0 where
-  pub count-is : count ≡ length (markedAxes (job .axes) marks)
-  pub sizes-are : sizes ≡ sizesOf levels (markedAxes (job .axes) marks)
+  pub count-is : count ≡ length (markedAxes (job .settings .axes) marks)
+  pub sizes-are : sizes ≡ sizesOf levels (markedAxes (job .settings .axes) marks)
 
 -- the cells after the place is restated, and after the marked are appended
-pub record Changed (job : JobRecord) (c : List ℕ) (p : ℕ) (levels marks : List ℕ) (indicator : ℕ) (c₁ c₂ : List ℕ) : Type 0 where
+pub record Changed (job : JobRecord) (c : List ℕ) (p : ℕ) (levels marks : List ℕ) (indicator first : ℕ) (c₁ c₂ : List ℕ) : Type 0 where
+  pub first-is : first ≡ readingsFor (job .settings) (job .reserved)
   pub indicator-is : indicator ≡ recordAt (recordsOf c) p .indicator
   pub restated-is : runOf c₁ ≡ stored (runOf c) p (restated (recordAt (recordsOf c) p) 2 indicator)
-  pub appended-is : runOf c₂ ≡ record { records = appendedAll (recordsOf c₁) (job .held) (job .reserved) levels (markedAxes (job .axes) marks); rest = runOf c₁ .rest }
+  pub appended-is : runOf c₂ ≡ record { records = appendedAll (job .settings) (recordsOf c₁) (job .held) first levels (markedAxes (job .settings .axes) marks); rest = runOf c₁ .rest }
 
 module _ {job : JobRecord} {c : List ℕ} {store : List ℤ} {p : ℕ} (t : Refinable job c store p) where
   abbrev area : Area
@@ -107,38 +112,38 @@ module _ {job : JobRecord} {c : List ℕ} {store : List ℤ} {p : ℕ} (t : Refi
   k = levelsAt (recordsOf c) p
 
   abbrev refined : List Entry
-  refined = refine (job .axes) es p
+  refined = refine (job .settings .axes) es p
 
   -- the axes along which it admits
   abbrev axes : List ℕ
-  axes = admittedAxes (job .axes) (retire es p) k
+  axes = admittedAxes (job .settings .axes) (retire es p) k
 
   -- the state after it
   abbrev after : Machine
-  after = record { log = withEntries (machineOf area .log) refined; mean = job .mean }
+  after = holding (machineOf area) refined
 
   -- ---- what the scans ask
 
   pub place-inside : p * 27 + 27 ≤ length c
   place-inside = omega (arith, room job c store (t .settled), t .place)
 
-  pub scan-asks : (job .axes ≤ 8) × (job .held * 27 ≤ length c) × (p < job .held) × Searchable (heldIn c (job .held))
+  pub scan-asks : (job .settings .axes ≤ 8) × (job .held * 27 ≤ length c) × (p < job .held) × Searchable (heldIn c (job .held))
   scan-asks = (few-axes job c store (t .settled), room job c store (t .settled), t .place, searchable job c store (t .settled))
 
   -- ---- the answers
 
-  spent-answer : fits (job .budget) refined ≡ false → refineOn area p ≡ record { outcome = spent; area = area }
+  spent-answer : fits (job .settings .budget) refined ≡ false → refineOn area p ≡ record { outcome = spent; area = area }
   unfolding refineOn promoteAt changedBy machineOf
   spent-answer e = rw e
 
-  promoted-answer : fits (job .budget) refined ≡ true → refineOn area p ≡ record { outcome = promoted; area = written area after }
+  promoted-answer : fits (job .settings .budget) refined ≡ true → refineOn area p ≡ record { outcome = promoted; area = written area after }
   unfolding refineOn promoteAt changedBy machineOf
   promoted-answer e = rw e
 
-  after-sound : fits (job .budget) refined ≡ true → SoundMachine after
+  after-sound : fits (job .settings .budget) refined ≡ true → SoundMachine after
   unfolding machineOf
   after-sound e =
-      step-facts .refine (job .axes) (job .budget) (job .mean) es p (machine-sound area (t .settled)) (t .idle) inside (state-is area (t .settled) p inside ∙ t .active) e
+      step-facts .refine (machineOf area) p (machine-sound area (t .settled)) (t .idle) inside (state-is area (t .settled) p inside ∙ t .active) e
     where
       inside : p < length es
       inside = omega (arith, held-is area (t .settled), t .place)
@@ -152,7 +157,7 @@ module _ {job : JobRecord} {c : List ℕ} {store : List ℤ} {p : ℕ} (t : Refi
   module _ {levels marks : List ℕ} (u : Scanned job c p levels marks) where
     -- what the scan marks by
     abbrev scanned : ℕ → Bool
-    scanned = admits (job .axes) (retire (headsIn job c) p) (levelsAt (heldIn c (job .held)) p)
+    scanned = admits (job .settings .axes) (retire (headsIn job c) p) (levelsAt (heldIn c (job .held)) p)
 
     levels-same : levelsAt (heldIn c (job .held)) p ≡ k
     levels-same = ap (λ (x : IndexRecord). x .levels) (held-record c (job .held) (room job c store (t .settled)) p (t .place))
@@ -162,21 +167,21 @@ module _ {job : JobRecord} {c : List ℕ} {store : List ℤ} {p : ℕ} (t : Refi
         subst (λ x. level x a ≤ 8) (levels-same ∙ sym (u .levels-are))
         (searchable job c store (t .settled) .low p a (omega (arith, t .place, held-length c (job .held) (room job c store (t .settled)))) l)
 
-    marked-axes : markedAxes (job .axes) marks ≡ axes
+    marked-axes : markedAxes (job .settings .axes) marks ≡ axes
     unfolding admittedAxes
     marked-axes =
-        ap (markedAxes (job .axes)) (u .marks-are)
-        ∙ marked-are (job .axes) scanned (few-axes job c store (t .settled))
-        ∙ ap (admittedAxes (job .axes) (retire (headsIn job c) p)) levels-same
-        ∙ alike-axes (retire (headsIn job c) p) (retire es p) (alike-retire (headsIn job c) es (heads-are job c store) p) (job .axes) k
+        ap (markedAxes (job .settings .axes)) (u .marks-are)
+        ∙ marked-are (job .settings .axes) scanned (few-axes job c store (t .settled))
+        ∙ ap (admittedAxes (job .settings .axes) (retire (headsIn job c) p)) levels-same
+        ∙ alike-axes (retire (headsIn job c) p) (retire es p) (alike-retire (headsIn job c) es (heads-are job c store) p) (job .settings .axes) k
 
-    marked-within : MarkedWithin (job .axes) levels marks
+    marked-within : MarkedWithin (job .settings .axes) levels marks
     marked-within a l e =
         subst (λ x. Within (forward x a)) (levels-same ∙ sym (u .levels-are))
-        (reads-admits (job .axes) (retire (headsIn job c) p) (levelsAt (heldIn c (job .held)) p) a .sure
-        (marked-passes (job .axes) scanned (few-axes job c store (t .settled)) a l (ap (λ x. getD x a 0) (sym (u .marks-are)) ∙ e)) .ceilings)
+        (reads-admits (job .settings .axes) (retire (headsIn job c) p) (levelsAt (heldIn c (job .held)) p) a .sure
+        (marked-passes (job .settings .axes) scanned (few-axes job c store (t .settled)) a l (ap (λ x. getD x a 0) (sym (u .marks-are)) ∙ e)) .ceilings)
 
-    pub marks-ask : (job .axes ≤ 8) × MarkedWithin (job .axes) levels marks × ((a : ℕ) → a < 8 → level levels a ≤ 8)
+    pub marks-ask : (job .settings .axes ≤ 8) × MarkedWithin (job .settings .axes) levels marks × ((a : ℕ) → a < 8 → level levels a ≤ 8)
     marks-ask = (few-axes job c store (t .settled), marked-within, levels-low)
 
     module _ {count sizes : ℕ} (v : Counted job levels marks count sizes) where
@@ -198,51 +203,55 @@ module _ {job : JobRecord} {c : List ℕ} {store : List ℤ} {p : ℕ} (t : Refi
       unfolding fits outcomeOf
       too-many l = sym (spent-answer (rw (lt-leb (length refined) 512 (omega (arith, held-refined)))))
 
-      pub too-large : job .held + count ≤ 512 → job .budget < job .reserved + sizes → promotionOf (record { outcome = Spent; job = job }) c store ≡ refineOn area p
+      pub too-large : job .held + count ≤ 512 → job .settings .budget < job .reserved + sizes → promotionOf (record { outcome = Spent; job = job }) c store ≡ refineOn area p
       unfolding fits outcomeOf
       too-large f l =
           sym
           (spent-answer
-          (rw (le-leb (length refined) 512 (omega (arith, held-refined)), lt-leb (reservedBy refined) (job .budget) (omega (arith, reserved-refined)))))
+          (rw (le-leb (length refined) 512 (omega (arith, held-refined)), lt-leb (reservedBy refined) (job .settings .budget) (omega (arith, reserved-refined)))))
 
       -- ---- promoted
 
-      pub append-asks : (n : ℕ) → n ≡ length c → job .held + count ≤ 512 → job .reserved + sizes ≤ job .budget
-          → ((job .held + length (markedAxes (job .axes) marks)) * 27 ≤ n) × (job .held + length (markedAxes (job .axes) marks) ≤ 512)
-          × (job .reserved + sizesOf levels (markedAxes (job .axes) marks) ≤ 8192)
-      append-asks n e few within = (
+      pub append-asks : (n first : ℕ) → n ≡ length c → first ≡ readingsFor (job .settings) (job .reserved) → job .held + count ≤ 512 → job .reserved + sizes ≤ job .settings .budget
+          → ((job .held + length (markedAxes (job .settings .axes) marks)) * 27 ≤ n) × (job .held + length (markedAxes (job .settings .axes) marks) ≤ 512)
+          × (first + readingsFor (job .settings) (sizesOf levels (markedAxes (job .settings .axes) marks)) ≤ 8192)
+      append-asks n first e f few within = (
         omega (arith, v .count-is, long job c store (t .settled)),
         omega (arith, v .count-is),
-        omega (arith, v .sizes-are, t .settled .sound .structure .budget .1),
+        omega (arith, f, ap (readingsFor g) (sym (v .sizes-are)), reading-facts .sum g (job .reserved) sizes, most, reading-facts .least g, reading-facts .most g (t .settled .sound .settings)),
       )
+        where
+          g : Settings
+          g = job .settings
 
-      module _ (few : job .held + count ≤ 512) (within : job .reserved + sizes ≤ job .budget) {indicator : ℕ} {c₁ c₂ : List ℕ} (w : Changed job c p levels marks indicator c₁ c₂)
-          (mean : ℤ) (mean-is : mean ≡ job .mean) where
+          most : readingsFor g (job .reserved + sizes) ≤ readingsFor g (g .budget)
+          most = reading-facts .more g (job .reserved + sizes) (g .budget) within
+
+      module _ (few : job .held + count ≤ 512) (within : job .reserved + sizes ≤ job .settings .budget) {indicator first : ℕ} {c₁ c₂ : List ℕ} (w : Changed job c p levels marks indicator first c₁ c₂) where
         abbrev jobAfter : JobRecord
         jobAfter =
             record {
-              axes = job .axes;
-              threshold = job .threshold;
-              budget = job .budget;
+              settings = job .settings;
               held = job .held + count;
               reserved = job .reserved + sizes;
               pending = job .pending - indicator;
-              mean = mean;
+              mean = job .mean;
             }
 
-        fit : fits (job .budget) refined ≡ true
+        fit : fits (job .settings .budget) refined ≡ true
         unfolding fits
-        fit = rw (le-leb (length refined) 512 (omega (arith, held-refined)), le-leb (reservedBy refined) (job .budget) (omega (arith, reserved-refined)))
+        fit = rw (le-leb (length refined) 512 (omega (arith, held-refined)), le-leb (reservedBy refined) (job .settings .budget) (omega (arith, reserved-refined)))
 
         run-is : runOf c₂ ≡ record {
-          records = appendedAll (set (recordsOf c) p (restated (recordAt (recordsOf c) p) 2 (recordAt (recordsOf c) p .indicator))) (job .held) (job .reserved) k axes;
+          records = appendedAll (job .settings) (set (recordsOf c) p (restated (recordAt (recordsOf c) p) 2 (recordAt (recordsOf c) p .indicator))) (job .held)
+              (readingsFor (job .settings) (job .reserved)) k axes;
           rest = runOf c .rest;
         }
         run-is =
             w .appended-is
-            ∙ ap (λ (x : Run). record { records = appendedAll (x .records) (job .held) (job .reserved) levels (markedAxes (job .axes) marks); rest = x .rest }) (w .restated-is)
+            ∙ ap (λ (x : Run). record { records = appendedAll (job .settings) (x .records) (job .held) first levels (markedAxes (job .settings .axes) marks); rest = x .rest }) (w .restated-is)
             ∙ (λ i. record {
-              records = appendedAll (set (recordsOf c) p (restated (recordAt (recordsOf c) p) 2 (w .indicator-is i))) (job .held) (job .reserved) (u .levels-are i) (marked-axes i);
+              records = appendedAll (job .settings) (set (recordsOf c) p (restated (recordAt (recordsOf c) p) 2 (w .indicator-is i))) (job .held) (w .first-is i) (u .levels-are i) (marked-axes i);
               rest = runOf c .rest;
             })
 
@@ -250,13 +259,11 @@ module _ {job : JobRecord} {c : List ℕ} {store : List ℤ} {p : ℕ} (t : Refi
         after-written =
             (λ i. record {
               job = record {
-                axes = job .axes;
-                threshold = job .threshold;
-                budget = job .budget;
+                settings = job .settings;
                 held = job .held + count-admitted i;
                 reserved = job .reserved + sizes-admitted i;
                 pending = job .pending - w .indicator-is i;
-                mean = mean-is i;
+                mean = job .mean;
               };
               run = run-is i;
               store = store;

@@ -3,6 +3,7 @@ ghost use mathlib.Core.Path.{_≡_};
 ghost use Prim.Native.Nat.{ℕ, _+_, _*_, _<_, _≤_};
 ghost use lib.ListN.{length, getD};
 ghost use Rattle.grid.specs.Index.{level};
+ghost use Rattle.area.specs.Settings.{readingsFor};
 ghost use Rattle.area.specs.Records.{recordsOf, runOf, heldIn};
 ghost use Rattle.area.specs.Encoding.{areaOf, entriesOf};
 ghost use Rattle.quadrature.specs.Readings.{recordAt};
@@ -127,8 +128,9 @@ fn marked_sizes(axes: usize, levels: [u32; 8], marks: [u32; 8]) -> usize
     sum
 }
 
-// Appends the marked forward neighbours in axis order, wanted, to the held, their blocks from `first` on.
+// Appends the marked forward neighbours in axis order, wanted, to the held, their readings from `first` on.
 fn append_marked(
+    settings: area::Settings,
     axes: usize,
     held: usize,
     first: usize,
@@ -137,8 +139,8 @@ fn append_marked(
     cells: &mut [u32],
 )
     requires { ⌜ (axes ≤ 8) × MarkedWithin axes levels marks × ((a : ℕ) → a < 8 → level levels a ≤ 8) ⌝ }
-    requires { ⌜ ((held + length (markedAxes axes marks)) * 27 ≤ length (now cells)) × (held + length (markedAxes axes marks) ≤ 512) × (first + sizesOf levels (markedAxes axes marks) ≤ 8192) ⌝ }
-    ensures { λ r. ⌜ runOf (now (cells .exit)) ≡ record { records = appendedAll (recordsOf (now (cells .entry))) held first levels (markedAxes axes marks); rest = runOf (now (cells .entry)) .rest } ⌝ }
+    requires { ⌜ ((held + length (markedAxes axes marks)) * 27 ≤ length (now cells)) × (held + length (markedAxes axes marks) ≤ 512) × (first + readingsFor settings (sizesOf levels (markedAxes axes marks)) ≤ 8192) ⌝ }
+    ensures { λ r. ⌜ runOf (now (cells .exit)) ≡ record { records = appendedAll settings (recordsOf (now (cells .entry))) held first levels (markedAxes axes marks); rest = runOf (now (cells .entry)) .rest } ⌝ }
 {
     let mut count = held;
     let mut next = first;
@@ -146,10 +148,10 @@ fn append_marked(
     while axis < axes {
         if marks[axis] == 1 {
             let neighbour = grid::forward_neighbour(levels, axis);
-            let size = grid::block_size(neighbour);
+            let readings = area::reading_count(settings, neighbour);
             writing::append(count, next, neighbour, cells);
             count += 1;
-            next += size;
+            next += readings;
         }
         axis += 1;
     }
@@ -162,10 +164,11 @@ pub fn refine(job: area::JobRecord, place: usize, cells: &mut [u32], store: &[i3
     ensures is { λ r. ⌜ promotionOf r (now (cells .exit)) (now (store .entry)) ≡ refineOn (areaOf job (now (cells .entry)) (now (store .entry))) place ⌝ }
     ensures settled { λ r. ⌜ Settled (areaOf (r .job) (now (cells .exit)) (now (store .entry))) ⌝ }
 {
-    let axes = job.axes as usize;
+    let settings = job.settings;
+    let axes = settings.axes as usize;
     let held = job.held as usize;
     let reserved = job.reserved as usize;
-    let budget = job.budget as usize;
+    let budget = settings.budget as usize;
     let levels = area::levels_at(cells, place);
     let marks = admitted(axes, held, place, cells);
     let count = marked_count(axes, marks);
@@ -184,16 +187,12 @@ pub fn refine(job: area::JobRecord, place: usize, cells: &mut [u32], store: &[i3
     }
     let indicator = area::indicator_at(cells, place);
     writing::restate(place, area::OLD, indicator, cells);
-    append_marked(axes, held, reserved, levels, marks, cells);
-    let after = area::JobRecord {
-        axes: job.axes,
-        threshold: job.threshold,
-        budget: job.budget,
-        held: (held + count) as u32,
-        reserved: (reserved + sizes) as u32,
-        pending: job.pending - indicator as u64,
-        mean: job.mean,
-    };
+    let first = area::readings_for(settings, reserved);
+    append_marked(settings, axes, held, first, levels, marks, cells);
+    let mut after = job;
+    after.held = (held + count) as u32;
+    after.reserved = (reserved + sizes) as u32;
+    after.pending = job.pending - indicator as u64;
     Promotion {
         outcome: Outcome::Promoted,
         job: after,
@@ -206,7 +205,7 @@ pub fn promote(job: area::JobRecord, cells: &mut [u32], store: &[i32]) -> Promot
     ensures is { λ r. ⌜ promotionOf r (now (cells .exit)) (now (store .entry)) ≡ promoteOn (areaOf job (now (cells .entry)) (now (store .entry))) ⌝ }
     ensures settled { λ r. ⌜ Settled (areaOf (r .job) (now (cells .exit)) (now (store .entry))) ⌝ }
 {
-    if job.pending <= job.threshold {
+    if job.pending <= job.settings.threshold {
         return Promotion {
             outcome: Outcome::Met,
             job,

@@ -5,14 +5,14 @@ use mathlib.Core.Path.{_≡_, subst}
 use mathlib.Core.Logic.{_⊎_, inl, inr, ⊎-elim}
 use mathlib.Core.List.{List, []}
 use Prim.Native.Nat.{ℕ}
-use lib.IntN.{ℤ}
 use Rattle.grid.specs.Index.{NowhereHigher}
 use Rattle.area.specs.Records.{Run}
 use Rattle.area.specs.Entry.{Entry}
-use Rattle.area.specs.Encoding.{Area, heldOf, entriesOf}
+use Rattle.area.specs.Log.{Machine}
+use Rattle.area.specs.Encoding.{Area, heldOf, entriesOf, machineOf}
 use Rattle.soundness.specs.Sound.{Sound}
 use Rattle.soundness.proofs.Lower.{lower-old}
-use Rattle.encoding.specs.Entries.{Entered, EnteredOld, SoundEntries}
+use Rattle.encoding.specs.Entries.{Entered, EnteredOld, SoundMachine}
 use Rattle.encoding.specs.Encodes.{encodedArea}
 use Rattle.encoding.proofs.Places.{holds, entered-old}
 use Rattle.encoding.proofs.Facts.{encoding-facts}
@@ -23,14 +23,17 @@ Below es = (k l : List ℕ) → Entered es k → NowhereHigher l k → (l ≡ k)
 area-below : (a : Area) → Sound a → Below (entriesOf a)
 unfolding entriesOf
 area-below a sound k l h w =
-    ⊎-elim (λ e. inl e) (λ o. inr (entered-old (a .store) (heldOf a) l o))
-    (lower-old (a .job .axes) (a .job .budget) (heldOf a) (sound .structure) k l (h .0, holds (a .store) (heldOf a) k (h .0) (h .1)) w)
+    ⊎-elim (λ e. inl e) (λ o. inr (entered-old (a .job .settings) (a .store) (heldOf a) l o))
+    (lower-old (a .job .settings .axes) (heldOf a) (sound .structure) k l (h .0, holds (a .job .settings) (a .store) (heldOf a) k (h .0) (h .1)) w)
 
-module _ {d b : ℕ} {m : ℤ} {es : List Entry} (v : SoundEntries d b m es) where
+module _ {m : Machine} (v : SoundMachine m) where
+  abbrev es : List Entry
+  es = m .log .entries
+
   nothing : Run
   nothing = record { records = []; rest = [] }
 
   pub entered-below : (k l : List ℕ) → Entered es k → NowhereHigher l k → (l ≡ k) ⊎ EnteredOld es l
+  unfolding machineOf
   entered-below =
-      subst Below (encoding-facts .read-back d 0 b m es v nothing [])
-      (area-below (encodedArea d 0 b es m nothing []) (encoding-facts .sound d 0 b m es v nothing []))
+      subst (λ (x : Machine). Below (x .log .entries)) (encoding-facts .read-back m v nothing []) (area-below (encodedArea m nothing []) (encoding-facts .sound m v nothing []))

@@ -2,18 +2,20 @@
 -- Assumes nothing.
 use mathlib.Core.Path.{_≡_, refl, ap₂, subst}
 use mathlib.Core.List.{[], _∷_, List·Memᴰ·not-nil}
-use Prim.Native.Nat.{ℕ, zero, suc, _<_, _≤_}
+use Prim.Native.Nat.{ℕ, zero, suc, _<_}
 use native.Mathlib.Nat.{zero-add}
 use native.Mathlib.Omega.{arith}
 use lib.IntN.{pos, +ℤ-idl}
 use Rattle.grid.specs.Index.{root}
+use Rattle.area.specs.declared.Settings.{Settings}
+use Rattle.area.specs.Settings.{SettingsFit}
 use Rattle.area.specs.Entry.{pendingOf}
+use Rattle.encoding.specs.Entries.{SoundMachine}
 use Rattle.machine.specs.Promote.{promoted, promote}
 use Rattle.machine.specs.Steps.{started}
-use Rattle.machine.specs.Facts.{SoundMachine}
 use Rattle.machine.proofs.Facts.{step-facts}
 use Rattle.published.specs.Figure.{Problem, Figure, increment, before, joined, turns}
-use Rattle.published.specs.Turns.{supply, supplies, turnsOn, activeOf, Measured, StandsAt}
+use Rattle.published.specs.Turns.{supply, supplies, turnsOn, activeOf, Poses, Measured, StandsAt}
 use Rattle.published.specs.Facts.{PublishedFacts}
 use Rattle.published.proofs.Scans.{joinedAll}
 use Rattle.published.proofs.Joins.{Agrees, Waiting}
@@ -39,34 +41,34 @@ module _ (P : Problem) where
         pending = refl;
       }
 
-  pub started-waits : (b : ℕ) → Waiting P (started (P .axes) (P .tolerance) b) [] (root ∷ []) nothing
+  pub started-waits : (g : Settings) → Poses g P → Waiting P (started g) [] (root ∷ []) nothing
   unfolding started nothing
-  started-waits b = record { axes = refl; tolerance = refl; entries = refl; agrees = nothing-agrees; result = refl }
+  started-waits g posed = record { posed = posed; entries = refl; agrees = nothing-agrees; result = refl }
 
   pub root-joined : joinedAll P (root ∷ []) nothing ≡ before P
   unfolding joinedAll joined nothing before
   root-joined = ap₂ {C = Figure} (λ r n. record { old = []; active = root ∷ []; result = r; estimate = n }) (+ℤ-idl (increment P root)) (zero-add (P .indicator root))
 
-  module _ (b : ℕ) (measured : Measured P) (d1 : 1 ≤ P .axes) (d8 : P .axes ≤ 8) (b1 : 1 ≤ b) (b8 : b ≤ 8192) where
-    begins-both : SoundMachine (turnsOn P b 0) × StandsAt P (turnsOn P b 0) (before P)
+  module _ (g : Settings) (measured : Measured P) (fit : SettingsFit g) (posed : Poses g P) where
+    begins-both : SoundMachine (turnsOn P g 0) × StandsAt P (turnsOn P g 0) (before P)
     unfolding turnsOn supplies
     begins-both =
-        subst (λ s. SoundMachine (supply P (started (P .axes) (P .tolerance) b)) × StandsAt P (supply P (started (P .axes) (P .tolerance) b)) s) root-joined
-        (supplies-join P measured (root ∷ []) (started (P .axes) (P .tolerance) b) [] nothing (step-facts .start (P .axes) (P .tolerance) b d1 d8 b1 b8) (started-waits b))
+        subst (λ s. SoundMachine (supply P (started g)) × StandsAt P (supply P (started g)) s) root-joined
+        (supplies-join P measured (root ∷ []) (started g) [] nothing (step-facts .start g fit) (started-waits g posed))
 
-    any-turns : (n : ℕ) → ((i : ℕ) → i < n → promote (turnsOn P b i .log) .outcome ≡ promoted) → SoundMachine (turnsOn P b n) × StandsAt P (turnsOn P b n) (turns P n)
+    any-turns : (n : ℕ) → ((i : ℕ) → i < n → promote (turnsOn P g i .log) .outcome ≡ promoted) → SoundMachine (turnsOn P g n) × StandsAt P (turnsOn P g n) (turns P n)
     unfolding turnsOn turns
     any-turns zero all = begins-both
     any-turns (suc n) all =
         let x = any-turns n (λ i h. all i (omega arith)) in
-        OneTurn.one-turn P (turnsOn P b n) (turns P n) (x .0) (x .1) (all n (omega arith)) measured
+        OneTurn.one-turn P (turnsOn P g n) (turns P n) (x .0) (x .1) (all n (omega arith)) measured
 
 pub published-facts : PublishedFacts
 published-facts =
     record {
-      begins = λ P b measured d1 d8 b1 b8. begins-both P b measured d1 d8 b1 b8 .1;
+      begins = λ P g measured fit posed. begins-both P g measured fit posed .1;
       over = Outcomes.over;
       goes-on = Outcomes.goes-on;
       one-turn = λ P m s measured v at e. OneTurn.one-turn P m s v at e measured;
-      any-turns = λ P b n measured d1 d8 b1 b8. any-turns P b measured d1 d8 b1 b8 n;
+      any-turns = λ P g n measured fit posed. any-turns P g measured fit posed n;
     }

@@ -18,7 +18,8 @@ use Rattle.grid.proofs.Levels.{levels-back, within-levels}
 use Rattle.grid.proofs.Members.{same-refl}
 use Rattle.grid.proofs.Facts.{block-facts, difference-facts}
 use Rattle.area.specs.Entry.{Entry, readingsOf, readingIn}
-use Rattle.encoding.specs.Entries.{entryAt, Has, EnteredOld, SoundEntries}
+use Rattle.area.specs.Log.{Machine}
+use Rattle.encoding.specs.Entries.{entryAt, Has, EnteredOld, SoundMachine}
 use Rattle.machine.proofs.Sets.{Different}
 use Rattle.published.specs.Figure.{Problem, increment}
 use Rattle.published.proofs.Retires.{same-no}
@@ -44,8 +45,12 @@ readings-at (e ∷ es) (suc p) u h =
     rw (same-no (e .levels) (entryAt es p .levels) (λ i. let z : 0 ≡ suc p = u 0 (suc p) (omega arith) h i in omega arith))
     (readings-at es p (λ q r hq hr i. let z : suc q ≡ suc r = u (suc q) (suc r) (omega arith) (omega arith) i in omega arith) (omega arith))
 
-module _ (P : Problem) {d b : ℕ} {m : ℤ} {es : List Entry} (v : SoundEntries d b m es)
-    (given : (p : ℕ) → p < length es → 1 ≤ entryAt es p .state → entryAt es p .readings ≡ map (P .integrand) (block (entryAt es p .levels))) where
+module _ (P : Problem) {m : Machine} (v : SoundMachine m)
+    (given : (p : ℕ) → p < length (m .log .entries) → 1 ≤ entryAt (m .log .entries) p .state
+    → entryAt (m .log .entries) p .readings ≡ map (P .integrand) (block (entryAt (m .log .entries) p .levels))) where
+  abbrev es : List Entry
+  es = m .log .entries
+
   abbrev f : List ℕ → ℤ
   f = P .integrand
 
@@ -58,7 +63,7 @@ module _ (P : Problem) {d b : ℕ} {m : ℤ} {es : List Entry} (v : SoundEntries
       ∙ ap (λ k. getD (map f (block k)) n (pos 0)) (h .same)
       ∙ block-value f l n q
 
-  module _ (k : List ℕ) (p : ℕ) (at : Has es k p) (delivered : 1 ≤ entryAt es p .state) (index : Index d k) where
+  module _ (k : List ℕ) (p : ℕ) (at : Has es k p) (delivered : 1 ≤ entryAt es p .state) (index : Index (m .log .settings .axes) k) where
     agrees : Agree k (readingIn es) (sampled f)
     agrees l n w q = step (entered-below v k l (p, at) w)
       where

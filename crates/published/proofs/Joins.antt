@@ -9,11 +9,12 @@ use native.Mathlib.Omega.{arith}
 use lib.Dec.{eqb}
 use Rattle.grid.specs.Block.{block}
 use Rattle.area.specs.Entry.{Entry, pendingOf}
+use Rattle.area.specs.Log.{Machine}
 use Rattle.encoding.specs.Entries.{entryAt, EnteredOld}
-use Rattle.machine.specs.Log.{Machine, wanted}
+use Rattle.machine.specs.Log.{wanted}
 use Rattle.machine.proofs.Appends.{Split, append-left, append-right, append-split, append-each, old-left}
 use Rattle.published.specs.Figure.{Problem, Figure, joined}
-use Rattle.published.specs.Turns.{activeOf, Supplied, StandsAt}
+use Rattle.published.specs.Turns.{activeOf, Poses, Supplied, StandsAt}
 use Rattle.published.proofs.Scans.{joinedAll}
 
 -- the delivered entry of an index
@@ -30,8 +31,7 @@ pub record Agrees (P : Problem) (es : List Entry) (s : Figure) : Type 0 where
 
 -- and those of the indices ks are wanted after them
 pub record Waiting (P : Problem) (m : Machine) (es : List Entry) (ks : List (List ℕ)) (s : Figure) : Type 0 where
-  pub axes : m .log .axes ≡ P .axes
-  pub tolerance : m .log .threshold ≡ P .tolerance
+  pub posed : Poses (m .log .settings) P
   pub entries : m .log .entries ≡ es ++ map wanted ks
   pub agrees : Agrees P es s
   pub result : m .mean ≡ s .result
@@ -48,8 +48,7 @@ pub record Joining (P : Problem) (m : Machine) (s : Figure) : Type 0 where
 pub waiting-none : (P : Problem) (m : Machine) (es : List Entry) (s : Figure) → Waiting P m es [] s → StandsAt P m s
 waiting-none P m es s w =
     record {
-      axes = w .axes;
-      tolerance = w .tolerance;
+      posed = w .posed;
       supplied = a .supplied;
       old-there = a .old-there;
       old-here = a .old-here;

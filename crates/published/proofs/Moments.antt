@@ -14,20 +14,21 @@ use lib.IntN.{ℤ}
 use lib.ListN.{length, set, length-set, length-append}
 use Rattle.grid.specs.Index.{root, forward}
 use Rattle.grid.specs.Block.{block}
+use Rattle.area.specs.declared.Settings.{Settings}
 use Rattle.area.specs.Entry.{Entry}
-use Rattle.encoding.specs.Entries.{entryAt}
-use Rattle.machine.specs.Log.{Log, Machine, withEntries, wanted, firstWanted}
+use Rattle.area.specs.Log.{Log, Machine, withEntries}
+use Rattle.encoding.specs.Entries.{entryAt, SoundMachine}
+use Rattle.machine.specs.Log.{wanted, firstWanted}
 use Rattle.machine.specs.Counts.{countOf}
 use Rattle.machine.specs.Promote.{promoted, selected, retired, retire, admittedAxes, refine, promote}
 use Rattle.machine.specs.Steps.{started, delivered, deliverAt, deliver, promoteStep}
-use Rattle.machine.specs.Facts.{SoundMachine}
 use Rattle.machine.proofs.Wanted.{first-is, first-none}
 use Rattle.machine.proofs.Sets.{set-here, set-there}
 use Rattle.machine.proofs.Appends.{append-left}
 use Rattle.machine.proofs.Admitted.{retire-length}
 use Rattle.machine.proofs.Facts.{step-facts}
 use Rattle.published.specs.Figure.{Problem, Figure, goesOn, joined, turns}
-use Rattle.published.specs.Turns.{supply, Supplied, StandsAt}
+use Rattle.published.specs.Turns.{supply, Poses, Supplied, StandsAt}
 use Rattle.published.proofs.Scans.{joinedAll}
 use Rattle.published.proofs.Joins.{entryFor, Waiting, Joining, waiting-none}
 use Rattle.published.proofs.Supplies.{some-wanted, supply-waits}
@@ -51,7 +52,7 @@ pub record AtTurn (P : Problem) (m : Machine) (n : ℕ) : Type 0 where
 
 -- whatever problem gives what is delivered, as many turns as there are old indices
 abbrev pub OnCourse : Machine → Type 0
-OnCourse m = (P : Problem) → P .axes ≡ m .log .axes → P .tolerance ≡ m .log .threshold → Partly P (m .log .entries) → AtTurn P m (countOf 2 (m .log .entries))
+OnCourse m = (P : Problem) → Poses (m .log .settings) P → Partly P (m .log .entries) → AtTurn P m (countOf 2 (m .log .entries))
 
 -- ---- how many are old
 
@@ -78,17 +79,13 @@ count-appended (e ∷ es) k axes = omega (arith, count-appended es k axes)
 
 -- ---- start
 
-pub start-course : (d t b : ℕ) → OnCourse (started d t b)
+pub start-course : (g : Settings) → OnCourse (started g)
 unfolding started countOf wanted turns
-start-course d t b P e f g =
+start-course g P posed given =
     record {
-      joining = record { given = []; awaited = root ∷ []; figure = nothing; waits = waits; joins = root-joined P };
+      joining = record { given = []; awaited = root ∷ []; figure = nothing; waits = started-waits P g posed; joins = root-joined P };
       went-on = λ i h. absurd (omega (arith, h));
     }
-  where
-    waits : Waiting P (started d t b) [] (root ∷ []) nothing
-    waits =
-        subst (λ x. Waiting P (started x t b) [] (root ∷ []) nothing) e (subst (λ y. Waiting P (started (P .axes) y b) [] (root ∷ []) nothing) f (started-waits P b))
 
 -- ---- deliver
 
@@ -138,8 +135,8 @@ module _ (m : Machine) (rs : List ℤ) (i : ℕ) (some : firstWanted (m .log .en
       ap₂ (deliver m) (x .0) (x .1)
 
   pub deliver-course : SoundMachine (deliver m rs i) → OnCourse m → OnCourse (deliver m rs i)
-  deliver-course v c P a t g =
-      let x : AtTurn P m (countOf 2 es) = c P (unfold deliver in a) (unfold deliver in t) (partly-before P g) in
+  deliver-course v c P posed g =
+      let x : AtTurn P m (countOf 2 es) = c P (unfold deliver in posed) (partly-before P g) in
       subst (AtTurn P (deliver m rs i)) (sym count-deliver)
       (record {
         joining = subst (λ y. Joining P y (turns P (countOf 2 es))) (sym (deliver-is P g))
@@ -182,7 +179,7 @@ module _ (m : Machine) (v : SoundMachine m) (free : length (m .log .entries) ≤
 
   module _ (e : promote (m .log) .outcome ≡ promoted) where
     abbrev after : Log
-    after = withEntries (m .log) (refine (m .log .axes) now (selected now))
+    after = withEntries (m .log) (refine (m .log .settings .axes) now (selected now))
 
     log-is : promoteStep m .log ≡ after
     unfolding promoteStep
@@ -193,13 +190,13 @@ module _ (m : Machine) (v : SoundMachine m) (free : length (m .log .entries) ≤
     active = step-facts .selects (m .log) (promoted-not-met (m .log) e)
 
     count-promoted : countOf 2 (promoteStep m .log .entries) ≡ suc n
-    count-promoted = ap (λ (l : Log). countOf 2 (l .entries)) log-is ∙ count-refine now (selected now) (active .0) (m .log .axes) (active .1)
+    count-promoted = ap (λ (l : Log). countOf 2 (l .entries)) log-is ∙ count-refine now (selected now) (active .0) (m .log .settings .axes) (active .1)
 
-    module _ (P : Problem) (a : P .axes ≡ promoteStep m .log .axes) (t : P .tolerance ≡ promoteStep m .log .threshold) (g : Partly P (promoteStep m .log .entries)) where
+    module _ (P : Problem) (posed : Poses (promoteStep m .log .settings) P) (g : Partly P (promoteStep m .log .entries)) where
       before : AtTurn P m n
       before =
-          c P (a ∙ ap (λ (l : Log). l .axes) log-is) (t ∙ ap (λ (l : Log). l .threshold) log-is)
-          (partly-refined now (selected now) (active .0) (m .log .axes) P (subst (λ (l : Log). Partly P (l .entries)) log-is g))
+          c P (subst (λ (l : Log). Poses (l .settings) P) log-is posed)
+          (partly-refined now (selected now) (active .0) (m .log .settings .axes) P (subst (λ (l : Log). Partly P (l .entries)) log-is g))
 
       stands : StandsAt P m (turns P n)
       stands = joining-none P m (turns P n) (before .joining) free
@@ -216,7 +213,7 @@ module _ (m : Machine) (v : SoundMachine m) (free : length (m .log .entries) ≤
       next = record { joining = turn-joining P m (turns P n) v stands e; went-on = went-on }
 
     turned : OnCourse (promoteStep m)
-    turned P a t g = subst (AtTurn P (promoteStep m)) (sym count-promoted) (next P a t g)
+    turned P posed g = subst (AtTurn P (promoteStep m)) (sym count-promoted) (next P posed g)
 
   pub promote-course : OnCourse (promoteStep m)
   promote-course = step (promoted-or-same (m .log))
@@ -234,9 +231,9 @@ pub record Stands (P : Problem) (m : Machine) : Type 0 where
   pub stands : StandsAt P m (turns P (countOf 2 (m .log .entries)))
   pub went-on : (i : ℕ) → i < countOf 2 (m .log .entries) → goesOn P (turns P i) ≡ true
 
-pub course-stands : (P : Problem) (m : Machine) → OnCourse m → P .axes ≡ m .log .axes → P .tolerance ≡ m .log .threshold → Supplied P (m .log .entries) → Stands P m
-course-stands P m c a t v =
-    let x : AtTurn P m (countOf 2 (m .log .entries)) = c P a t (λ p h s. (v .readings p h, v .indicators p h)) in
+pub course-stands : (P : Problem) (m : Machine) → OnCourse m → Poses (m .log .settings) P → Supplied P (m .log .entries) → Stands P m
+course-stands P m c posed v =
+    let x : AtTurn P m (countOf 2 (m .log .entries)) = c P posed (λ p h s. (v .readings p h, v .indicators p h)) in
     record {
       stands = joining-none P m (turns P (countOf 2 (m .log .entries))) (x .joining) (omega (arith, first-none (m .log .entries) (v .delivered)));
       went-on = x .went-on;

@@ -11,16 +11,16 @@ use borrow.Author.Tests.{ne-eqb}
 use lib.ListN.{length}
 use Rattle.grid.specs.Index.{forward}
 use Rattle.area.specs.Entry.{Entry}
-use Rattle.encoding.specs.Entries.{entryAt}
-use Rattle.machine.specs.Log.{Log, Machine, wanted}
+use Rattle.area.specs.Log.{Log, Machine}
+use Rattle.encoding.specs.Entries.{entryAt, SoundMachine}
+use Rattle.machine.specs.Log.{wanted}
 use Rattle.machine.specs.Counts.{countOf}
 use Rattle.machine.specs.Promote.{promoted, selected, retire, admittedAxes, refine, isMet, promote}
 use Rattle.machine.specs.Steps.{promoteStep}
-use Rattle.machine.specs.Facts.{SoundMachine}
 use Rattle.machine.proofs.Wanted.{first-none}
 use Rattle.machine.proofs.Facts.{step-facts}
 use Rattle.published.specs.Figure.{Problem, Figure, without, moved, scanned, turn}
-use Rattle.published.specs.Turns.{supplies, turnOn, Measured, StandsAt}
+use Rattle.published.specs.Turns.{supplies, turnOn, Poses, Measured, StandsAt}
 use Rattle.published.proofs.Selects.{select-same}
 use Rattle.published.proofs.Retires.{active-retire, pending-retire, retire-there, retire-here, retire-supplied}
 use Rattle.published.proofs.Scans.{joinedAll, scan-admits}
@@ -87,15 +87,14 @@ module _ (P : Problem) (m : Machine) (s : Figure) (v : SoundMachine m) (at : Sta
   unfolding promoteStep refine
   step-entries =
       ap (λ (l : Log). l .entries) (promoted-log (m .log) e)
-      ∙ ap (λ d. refine d es p) (at .axes)
+      ∙ ap (λ d. refine d es p) (sym (at .posed .axes))
       ∙ ap (λ ws. retire es p ++ ws) (wanted-map k (admittedAxes (P .axes) (retire es p) k))
 
   waits : Waiting P (promoteStep m) (retire es p) ks (moved P k s)
   unfolding promoteStep moved
   waits =
       record {
-        axes = ap (λ (l : Log). l .axes) (promoted-log (m .log) e) ∙ at .axes;
-        tolerance = ap (λ (l : Log). l .threshold) (promoted-log (m .log) e) ∙ at .tolerance;
+        posed = subst (λ (l : Log). Poses (l .settings) P) (sym (promoted-log (m .log) e)) (at .posed);
         entries = step-entries;
         agrees = agrees;
         result = at .result;

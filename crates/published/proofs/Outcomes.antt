@@ -8,25 +8,25 @@ use native.Mathlib.Decide.{decLt}
 use native.Mathlib.Omega.{arith}
 use borrow.Author.Tests.{ltb-true, lt-ltb, leb-true, le-leb}
 use Rattle.area.specs.Entry.{pendingOf}
-use Rattle.machine.specs.Log.{Log, Machine, withEntries}
+use Rattle.area.specs.Log.{Log, Machine, withEntries}
 use Rattle.machine.specs.Promote.{Promotion, met, spent, promoted, selected, refine, isMet, fits, promoteAt, promote}
 use Rattle.published.specs.Figure.{Problem, Figure, goesOn}
 use Rattle.published.specs.Turns.{StandsAt}
 
 module _ (l : Log) where
   abbrev refined : Log
-  refined = withEntries l (refine (l .axes) (l .entries) (selected (l .entries)))
+  refined = withEntries l (refine (l .settings .axes) (l .entries) (selected (l .entries)))
 
   -- what promote gives by its two tests
   abbrev given : Bool → Bool → Promotion
   given t u = cond t (record { outcome = met; log = l }) (cond u (record { outcome = promoted; log = refined }) (record { outcome = spent; log = l }))
 
-  given-is : promote l ≡ given (isMet l) (fits (l .budget) (refined .entries))
+  given-is : promote l ≡ given (isMet l) (fits (l .settings .budget) (refined .entries))
   unfolding promote promoteAt
   given-is = refl
 
   met-test : promote l .outcome ≡ met → isMet l ≡ true
-  met-test e = step (isMet l) (fits (l .budget) (refined .entries)) refl (sym (ap (λ (x : Promotion). x .outcome) given-is) ∙ e)
+  met-test e = step (isMet l) (fits (l .settings .budget) (refined .entries)) refl (sym (ap (λ (x : Promotion). x .outcome) given-is) ∙ e)
     where
       step : (t u : Bool) → isMet l ≡ t → given t u .outcome ≡ met → isMet l ≡ true
       step true u q e = q
@@ -34,16 +34,16 @@ module _ (l : Log) where
       step false false q e = absurd (let z : _≡_ {A = ℕ} 0 1 = cc in omega arith)
 
   test-met : isMet l ≡ true → promote l .outcome ≡ met
-  test-met e = ap (λ (x : Promotion). x .outcome) given-is ∙ ap (λ t. given t (fits (l .budget) (refined .entries)) .outcome) e
+  test-met e = ap (λ (x : Promotion). x .outcome) given-is ∙ ap (λ t. given t (fits (l .settings .budget) (refined .entries)) .outcome) e
 
   pub promoted-not-met : promote l .outcome ≡ promoted → isMet l ≡ true → ⊥
   promoted-not-met e q = let m : promote l .outcome ≡ met = test-met q in let z : _≡_ {A = ℕ} 0 1 = cc in omega arith
 
   -- the selected place refined
-  pub promoted-log : promote l .outcome ≡ promoted → promote l .log ≡ withEntries l (refine (l .axes) (l .entries) (selected (l .entries)))
+  pub promoted-log : promote l .outcome ≡ promoted → promote l .log ≡ withEntries l (refine (l .settings .axes) (l .entries) (selected (l .entries)))
   promoted-log e =
       ap (λ (x : Promotion). x .log) given-is
-      ∙ step (isMet l) (fits (l .budget) (refined .entries)) (sym (ap (λ (x : Promotion). x .outcome) given-is) ∙ e)
+      ∙ step (isMet l) (fits (l .settings .budget) (refined .entries)) (sym (ap (λ (x : Promotion). x .outcome) given-is) ∙ e)
     where
       step : (t u : Bool) → given t u .outcome ≡ promoted → given t u .log ≡ refined
       step true u e = absurd (let z : _≡_ {A = ℕ} 0 1 = cc in omega arith)
@@ -53,7 +53,7 @@ module _ (l : Log) where
   -- any other leaves the log
   pub promoted-or-same : (promote l .outcome ≡ promoted) ⊎ (promote l .log ≡ l)
   promoted-or-same =
-      subst (λ (x : Promotion). (x .outcome ≡ promoted) ⊎ (x .log ≡ l)) (sym given-is) (step (isMet l) (fits (l .budget) (refined .entries)))
+      subst (λ (x : Promotion). (x .outcome ≡ promoted) ⊎ (x .log ≡ l)) (sym given-is) (step (isMet l) (fits (l .settings .budget) (refined .entries)))
     where
       step : (t u : Bool) → (given t u .outcome ≡ promoted) ⊎ (given t u .log ≡ l)
       step true u = inr refl
@@ -65,17 +65,17 @@ module _ (l : Log) where
 module _ (P : Problem) (m : Machine) (s : Figure) (at : StandsAt P m s) where
   pub over : (goesOn P s ≡ true → ⊥) → promote (m .log) .outcome ≡ met
   unfolding goesOn isMet
-  over n = test-met (m .log) (le-leb (pendingOf (m .log .entries)) (m .log .threshold) (below (decLt (P .tolerance) (s .estimate))))
+  over n = test-met (m .log) (le-leb (pendingOf (m .log .entries)) (m .log .settings .threshold) (below (decLt (P .tolerance) (s .estimate))))
     where
-      below : Dec (P .tolerance < s .estimate) → pendingOf (m .log .entries) ≤ m .log .threshold
+      below : Dec (P .tolerance < s .estimate) → pendingOf (m .log .entries) ≤ m .log .settings .threshold
       below (yes h) = absurd (n (lt-ltb (P .tolerance) (s .estimate) h))
-      below (no h) = omega (arith, at .pending, at .tolerance)
+      below (no h) = omega (arith, at .pending, at .posed .tolerance)
 
   pub goes-on : goesOn P s ≡ true → promote (m .log) .outcome ≡ met → ⊥
   unfolding goesOn isMet
   goes-on g e =
       omega
-      (arith, ltb-true (P .tolerance) (s .estimate) g, leb-true (pendingOf (m .log .entries)) (m .log .threshold) (met-test (m .log) e), at .pending, at .tolerance)
+      (arith, ltb-true (P .tolerance) (s .estimate) g, leb-true (pendingOf (m .log .entries)) (m .log .settings .threshold) (met-test (m .log) e), at .pending, at .posed .tolerance)
 
   -- a promotion that is promoted is not met, so the test held
   pub promoted-goes-on : promote (m .log) .outcome ≡ promoted → goesOn P s ≡ true

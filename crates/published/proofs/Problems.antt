@@ -6,15 +6,16 @@ use mathlib.Core.Bool.{cond}
 use mathlib.Core.List.{List, [], _∷_}
 use Prim.Native.Nat.{ℕ, zero, suc, _<_, _≤_}
 use native.Mathlib.Omega.{arith}
-use lib.IntN.{ℤ}
 use lib.ListN.{length}
 use Rattle.grid.specs.Coefficient.{sameLevels}
 use Rattle.grid.proofs.Members.{same-refl}
+use Rattle.area.specs.declared.Settings.{Settings}
 use Rattle.area.specs.Entry.{Entry}
-use Rattle.encoding.specs.Entries.{entryAt, SoundEntries}
+use Rattle.area.specs.Log.{Machine}
+use Rattle.encoding.specs.Entries.{entryAt, SoundMachine}
 use Rattle.machine.proofs.Sets.{Different}
 use Rattle.published.specs.Figure.{Problem}
-use Rattle.published.specs.Turns.{Measured, Supplied}
+use Rattle.published.specs.Turns.{Poses, Measured, Supplied}
 use Rattle.published.proofs.Retires.{same-no}
 use Rattle.published.proofs.Sampling.{sampling}
 
@@ -31,13 +32,18 @@ indicator-at (e ∷ es) (suc p) u h =
     rw (same-no (e .levels) (entryAt es p .levels) (λ i. let z : 0 ≡ suc p = u 0 (suc p) (omega arith) h i in omega arith))
     (indicator-at es p (λ q r hq hr i. let z : suc q ≡ suc r = u (suc q) (suc r) (omega arith) (omega arith) i in omega arith) (omega arith))
 
-module _ {d b : ℕ} {m : ℤ} {es : List Entry} (v : SoundEntries d b m es) (all : (p : ℕ) → p < length es → 1 ≤ entryAt es p .state) where
-  pub posed : (t : ℕ) → (P : Problem) × (P .axes ≡ d) × (P .tolerance ≡ t) × Measured P × Supplied P es
-  posed t =
+module _ {m : Machine} (v : SoundMachine m) (all : (p : ℕ) → p < length (m .log .entries) → 1 ≤ entryAt (m .log .entries) p .state) where
+  abbrev g : Settings
+  g = m .log .settings
+
+  abbrev es : List Entry
+  es = m .log .entries
+
+  pub posed : (P : Problem) × Poses g P × Measured P × Supplied P es
+  posed =
       let x = sampling v in (
-        record { axes = d; tolerance = t; integrand = x .0 .integrand; indicator = indicatorOf es },
-        refl,
-        refl,
+        record { axes = g .axes; tolerance = g .threshold; integrand = x .0 .integrand; indicator = indicatorOf es },
+        record { axes = refl; tolerance = refl },
         x .2,
         record { delivered = all; readings = λ p h. x .3 p h (all p h); indicators = λ p h. sym (indicator-at es p (v .different) h) },
       )

@@ -21,8 +21,12 @@ use Rattle.grid.proofs.Levels.{Levels, levels-back, within-levels}
 use Rattle.grid.proofs.Members.{same-refl, same-or}
 use Rattle.grid.proofs.Blocks.{high-digit, low-digit}
 use Rattle.grid.proofs.Facts.{block-facts}
+use Rattle.area.specs.declared.Settings.{Settings}
+use Rattle.area.specs.Settings.{readingCount}
+use Rattle.area.proofs.Readings.{reading-facts}
 use Rattle.area.specs.Entry.{Entry, readingsOf, readingIn}
-use Rattle.encoding.specs.Entries.{entryAt, Has, SoundEntries}
+use Rattle.area.specs.Log.{Machine}
+use Rattle.encoding.specs.Entries.{entryAt, Has, SoundMachine}
 use Rattle.published.specs.Figure.{Problem}
 use Rattle.published.specs.Turns.{Measured}
 use Rattle.published.specs.Sums.{Read}
@@ -73,12 +77,18 @@ taken es x = readingIn es (map levelOf x) (rankIn (map levelOf x) x)
 zero-small : (x : ℤ) → x ≡ pos 0 → IsReading x
 zero-small x e = subst IsReading (sym e) (omega arith)
 
-module _ {d b : ℕ} {m : ℤ} {es : List Entry} (v : SoundEntries d b m es) where
+module _ {m : Machine} (v : SoundMachine m) where
+  abbrev g : Settings
+  g = m .log .settings
+
+  abbrev es : List Entry
+  es = m .log .entries
+
   -- a wanted entry has no readings and a delivered one none past its block, and there the value is 0; the others are in range
   entry-small : (p n : ℕ) → p < length es → IsReading (getD (entryAt es p .readings) n (pos 0))
-  entry-small p n h = step (decLt 0 (entryAt es p .state)) (decLt n (blockSize (entryAt es p .levels)))
+  entry-small p n h = step (decLt 0 (entryAt es p .state)) (decLt n (readingCount g (entryAt es p .levels)))
     where
-      step : Dec (0 < entryAt es p .state) → Dec (n < blockSize (entryAt es p .levels)) → IsReading (getD (entryAt es p .readings) n (pos 0))
+      step : Dec (0 < entryAt es p .state) → Dec (n < readingCount g (entryAt es p .levels)) → IsReading (getD (entryAt es p .readings) n (pos 0))
       step (no s) q = zero-small _ (ap (λ rs. getD rs n (pos 0)) (v .wanted-empty p h (omega arith)))
       step (yes s) (no q) = zero-small _ (List·getD-eq-default (entryAt es p .readings) (pos 0) (omega (arith, v .whole p h s)))
       step (yes s) (yes q) = v .readings p n h s q
@@ -106,19 +116,22 @@ module _ {d b : ℕ} {m : ℤ} {es : List Entry} (v : SoundEntries d b m es) whe
 
     taken-all : entryAt es p .readings ≡ map (taken es) (block k)
     taken-all =
-        ext-getD (pos 0) (entryAt es p .readings) (map (taken es) (block k)) same-length (λ n h. sym (value n (omega (arith, v .whole p inside delivered))))
+        ext-getD (pos 0) (entryAt es p .readings) (map (taken es) (block k)) same-length (λ n h. sym (value n (omega (arith, full))))
       where
+        full : length (entryAt es p .readings) ≡ blockSize k
+        full = v .whole p inside delivered ∙ reading-facts .single g k
+
         same-length : length (entryAt es p .readings) ≡ length (map (taken es) (block k))
-        same-length = v .whole p inside delivered ∙ sym (block-facts .size k) ∙ sym (length-map (block k) (taken es))
+        same-length = full ∙ sym (block-facts .size k) ∙ sym (length-map (block k) (taken es))
 
         value : (n : ℕ) → n < blockSize k → getD (map (taken es) (block k)) n (pos 0) ≡ getD (entryAt es p .readings) n (pos 0)
         value n h = value-at (taken es) (block k) n (omega (arith, block-facts .size k)) ∙ ap (taken es) (block-facts .nth k n h) ∙ taken-at n h
 
   -- its tolerance and indicators say nothing of the readings
-  pub sampling : (P : Problem) × (P .axes ≡ d) × Measured P × Read P es
+  pub sampling : (P : Problem) × (P .axes ≡ g .axes) × Measured P × Read P es
   unfolding taken
   sampling = (
-    record { axes = d; tolerance = 0; integrand = taken es; indicator = λ k. 0 },
+    record { axes = g .axes; tolerance = 0; integrand = taken es; indicator = λ k. 0 },
     refl,
     λ x. reading-small (map levelOf x) (rankIn (map levelOf x) x),
     taken-all,

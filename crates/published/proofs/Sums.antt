@@ -9,13 +9,13 @@ use Prim.Native.Nat.{ℕ, suc, _≤_}
 use native.Mathlib.Omega.{arith}
 use borrow.Author.Tests.{leb-true}
 use lib.Dec.{leb}
-use lib.IntN.{ℤ}
 use Rattle.sums.specs.Sums.{sumOf}
 use Rattle.sums.proofs.Sums.{sumOf-cong-in}
 use Rattle.grid.specs.Index.{Index}
 use Rattle.grid.specs.Difference.{scaledDifference, scaledMean}
 use Rattle.area.specs.Entry.{Entry, deliveredOf, readingIn}
-use Rattle.encoding.specs.Entries.{entryAt, Has, SoundEntries}
+use Rattle.area.specs.Log.{Machine}
+use Rattle.encoding.specs.Entries.{entryAt, Has, SoundMachine}
 use Rattle.machine.specs.Means.{meanOf}
 use Rattle.published.specs.Figure.{Problem, increment}
 use Rattle.published.specs.Sums.{Read, SumFacts}
@@ -40,11 +40,14 @@ delivered-place (e ∷ es) k m = step (leb 1 (e .state)) refl m (delivered-place
         ⊎-elim (λ q. (0, record { place = omega arith; same = sym q }, leb-true 1 (e .state) i)) (λ q. later (ih q)) (List·Memᴰ·cases-cons m)
     step false i m ih = later (ih m)
 
-module _ {d b : ℕ} {m : ℤ} {es : List Entry} (P : Problem) (v : SoundEntries d b m es) (read : Read P es) where
+module _ {m : Machine} (P : Problem) (v : SoundMachine m) (read : Read P (m .log .entries)) where
+  abbrev es : List Entry
+  es = m .log .entries
+
   difference : (k : List ℕ) → List·Memᴰ k (deliveredOf es) → scaledDifference k (readingIn es) ≡ increment P k
   difference k n =
       let x = delivered-place es k n in
-      increment-is P v read k (x .0) (x .1) (x .2) (subst (Index d) (x .1 .same) (v .index (x .0) (x .1 .place)))
+      increment-is P v read k (x .0) (x .1) (x .2) (subst (Index (m .log .settings .axes)) (x .1 .same) (v .index (x .0) (x .1 .place)))
 
   sum : meanOf es ≡ sumOf (deliveredOf es) (increment P)
   unfolding meanOf scaledMean
@@ -53,7 +56,7 @@ module _ {d b : ℕ} {m : ℤ} {es : List Entry} (P : Problem) (v : SoundEntries
 pub sum-facts : SumFacts
 sum-facts =
     record {
-      difference = λ d b m es P v read. difference P v read;
-      sum = λ d b m es P v read. sum P v read;
-      some = λ d b m es v. sampling v;
+      difference = λ m P v read. difference P v read;
+      sum = λ m P v read. sum P v read;
+      some = λ m v. sampling v;
     }

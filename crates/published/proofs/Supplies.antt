@@ -15,10 +15,11 @@ use Rattle.grid.specs.Difference.{scaledDifference}
 use Rattle.grid.specs.Terms.{IsReading}
 use Rattle.grid.proofs.Facts.{block-facts}
 use Rattle.area.specs.Entry.{Entry, readingIn}
-use Rattle.encoding.specs.Entries.{noEntry, entryAt, Has, SoundEntries}
-use Rattle.machine.specs.Log.{Machine, wanted, firstWanted, wantedIndex}
+use Rattle.area.specs.Log.{Machine, holding}
+use Rattle.area.proofs.Readings.{reading-facts}
+use Rattle.encoding.specs.Entries.{noEntry, entryAt, Has, SoundMachine}
+use Rattle.machine.specs.Log.{wanted, firstWanted, wantedIndex}
 use Rattle.machine.specs.Steps.{delivered, deliverAt, deliver}
-use Rattle.machine.specs.Facts.{SoundMachine}
 use Rattle.machine.proofs.Wanted.{first-only}
 use Rattle.machine.proofs.Appends.{append-left, append-each}
 use Rattle.machine.proofs.Facts.{step-facts}
@@ -102,8 +103,8 @@ module _ (P : Problem) where
     -- ---- the difference that is added
 
     module _ (v : SoundMachine (supply P m)) where
-      sound-after : SoundEntries (supply P m .log .axes) (supply P m .log .budget) (supply P m .mean) (more ++ ws)
-      sound-after = subst (SoundEntries (supply P m .log .axes) (supply P m .log .budget) (supply P m .mean)) supply-entries v
+      sound-after : SoundMachine (holding (supply P m) (more ++ ws))
+      sound-after = subst (λ xs. SoundMachine (holding (supply P m) xs)) supply-entries v
 
       given : (p : ℕ) → p < length (more ++ ws) → 1 ≤ entryAt (more ++ ws) p .state → entryAt (more ++ ws) p .readings ≡ map f (block (entryAt (more ++ ws) p .levels))
       given =
@@ -124,7 +125,7 @@ module _ (P : Problem) where
       unfolding entryFor
       added =
           increment-is P sound-after given k (length es) has-new (omega (arith, ap (λ (e : Entry). e .state) at-new))
-          (subst (Index (supply P m .log .axes)) (has-new .same) (sound-after .index (length es) (has-new .place)))
+          (subst (Index (supply P m .log .settings .axes)) (has-new .same) (sound-after .index (length es) (has-new .place)))
 
       supply-mean : supply P m .mean ≡ s .result +ℤ increment P k
       unfolding supply deliver
@@ -134,8 +135,7 @@ module _ (P : Problem) where
       unfolding supply deliver joined
       supply-waits =
           record {
-            axes = w .axes;
-            tolerance = w .tolerance;
+            posed = w .posed;
             entries = supply-entries;
             agrees = more-agrees P es k s (w .agrees);
             result = supply-mean;
@@ -154,7 +154,8 @@ module _ (P : Problem) where
     supply-sound : (m : Machine) → SoundMachine m → firstWanted (m .log .entries) < length (m .log .entries) → SoundMachine (supply P m)
     unfolding supply
     supply-sound m v inside =
-        step-facts .deliver m (map f (block (wantedIndex (m .log .entries)))) (P .indicator (wantedIndex (m .log .entries))) v inside (values-full (wantedIndex (m .log .entries)))
+        step-facts .deliver m (map f (block (wantedIndex (m .log .entries)))) (P .indicator (wantedIndex (m .log .entries))) v inside
+        (values-full (wantedIndex (m .log .entries)) ∙ sym (reading-facts .single (m .log .settings) (wantedIndex (m .log .entries))))
         (values-range (wantedIndex (m .log .entries)))
 
     pub supplies-join : (ks : List (List ℕ)) (m : Machine) (es : List Entry) (s : Figure) → SoundMachine m → Waiting P m es ks s

@@ -2,13 +2,13 @@
 use mathlib.Core.Path.{_≡_}
 use mathlib.Core.List.{List, map, List·Memᴰ}
 use Prim.Native.Nat.{ℕ, _<_, _≤_}
-use lib.IntN.{ℤ}
 use lib.ListN.{length}
 use Rattle.sums.specs.Sums.{sumOf}
 use Rattle.grid.specs.Block.{block}
 use Rattle.grid.specs.Difference.{scaledDifference}
 use Rattle.area.specs.Entry.{Entry, deliveredOf, readingIn}
-use Rattle.encoding.specs.Entries.{entryAt, SoundEntries}
+use Rattle.area.specs.Log.{Machine}
+use Rattle.encoding.specs.Entries.{entryAt, SoundMachine}
 use Rattle.machine.specs.Means.{meanOf}
 use Rattle.published.specs.Figure.{Problem, increment}
 use Rattle.published.specs.Turns.{Measured}
@@ -19,9 +19,9 @@ Read P es = (p : ℕ) → p < length es → 1 ≤ entryAt es p .state → entryA
 
 pub record SumFacts : Type 0 where
   -- the difference of each delivered index is the integrand's increment
-  pub difference : (d b : ℕ) (m : ℤ) (es : List Entry) (P : Problem) → SoundEntries d b m es → Read P es → (k : List ℕ) → List·Memᴰ k (deliveredOf es)
-      → scaledDifference k (readingIn es) ≡ increment P k
+  pub difference : (m : Machine) (P : Problem) → SoundMachine m → Read P (m .log .entries) → (k : List ℕ) → List·Memᴰ k (deliveredOf (m .log .entries))
+      → scaledDifference k (readingIn (m .log .entries)) ≡ increment P k
   -- so the scaled mean is the sum of the increments over the delivered indices, old and active
-  pub sum : (d b : ℕ) (m : ℤ) (es : List Entry) (P : Problem) → SoundEntries d b m es → Read P es → meanOf es ≡ sumOf (deliveredOf es) (increment P)
+  pub sum : (m : Machine) (P : Problem) → SoundMachine m → Read P (m .log .entries) → meanOf (m .log .entries) ≡ sumOf (deliveredOf (m .log .entries)) (increment P)
   -- a point is new in one block only, so whatever the readings are, they are some integrand's
-  pub some : (d b : ℕ) (m : ℤ) (es : List Entry) → SoundEntries d b m es → (P : Problem) × (P .axes ≡ d) × Measured P × Read P es
+  pub some : (m : Machine) → SoundMachine m → (P : Problem) × (P .axes ≡ m .log .settings .axes) × Measured P × Read P (m .log .entries)

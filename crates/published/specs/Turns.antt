@@ -7,9 +7,11 @@ use lib.Dec.{eqb}
 use lib.ListN.{length}
 use Rattle.grid.specs.Block.{block}
 use Rattle.grid.specs.Terms.{IsReading}
+use Rattle.area.specs.declared.Settings.{Settings}
 use Rattle.area.specs.Entry.{Entry, pendingOf}
+use Rattle.area.specs.Log.{Machine}
 use Rattle.encoding.specs.Entries.{entryAt, EnteredOld}
-use Rattle.machine.specs.Log.{Machine, wantedIndex}
+use Rattle.machine.specs.Log.{wantedIndex}
 use Rattle.machine.specs.Counts.{countOf}
 use Rattle.machine.specs.Steps.{started, deliver, promoteStep}
 use Rattle.published.specs.Figure.{Problem, Figure}
@@ -28,10 +30,15 @@ supplies P (suc n) m = supplies P n (supply P m)
 unfoldable pub turnOn : Problem → Machine → Machine
 turnOn P m = supplies P (countOf 0 (promoteStep m .log .entries)) (promoteStep m)
 
--- Start with budget b and the root's delivery, and then n such turns.
-unfoldable pub turnsOn : Problem → (budget : ℕ) → ℕ → Machine
-turnsOn P b zero = supply P (started (P .axes) (P .tolerance) b)
-turnsOn P b (suc n) = turnOn P (turnsOn P b n)
+-- Start and the root's delivery, and then n such turns. The settings are to pose the problem (`Poses`).
+unfoldable pub turnsOn : Problem → Settings → ℕ → Machine
+turnsOn P g zero = supply P (started g)
+turnsOn P g (suc n) = turnOn P (turnsOn P g n)
+
+-- Settings pose a problem that has their number of axes, and their threshold as its tolerance.
+pub record Poses (g : Settings) (P : Problem) : Type 0 where
+  pub axes : P .axes ≡ g .axes
+  pub tolerance : P .tolerance ≡ g .threshold
 
 -- The active indices, in order of place.
 unfoldable pub activeOf : List Entry → List (List ℕ)
@@ -51,8 +58,7 @@ pub record Supplied (P : Problem) (es : List Entry) : Type 0 where
 -- The machine stands where Fig. 1 stands: the same old set, the same active set (also in the same order), the same result, the same
 -- pending error.
 pub record StandsAt (P : Problem) (m : Machine) (s : Figure) : Type 0 where
-  pub axes : m .log .axes ≡ P .axes
-  pub tolerance : m .log .threshold ≡ P .tolerance
+  pub posed : Poses (m .log .settings) P
   pub supplied : Supplied P (m .log .entries)
   pub old-there : (k : List ℕ) → EnteredOld (m .log .entries) k → List·Memᴰ k (s .old)
   pub old-here : (k : List ℕ) → List·Memᴰ k (s .old) → EnteredOld (m .log .entries) k

@@ -17,9 +17,12 @@ use Rattle.grid.specs.Block.{blockSize}
 use Rattle.grid.specs.Coefficient.{sameLevels}
 use Rattle.grid.specs.Terms.{Agree, IsReading}
 use Rattle.area.specs.declared.IndexRecord.{IndexRecord}
+use Rattle.area.specs.declared.Settings.{Settings}
 use Rattle.area.specs.Records.{blank, levelsOf}
 use Rattle.area.specs.Entry.{Entry, deliveredOf, readingsOf, readingIn}
 use Rattle.area.specs.Encoding.{none, placeFrom, placeOf, entryOf}
+use Rattle.area.specs.Settings.{readingCount}
+use Rattle.area.proofs.Readings.{reading-facts}
 use Rattle.quadrature.specs.Readings.{recordAt, placeIn, fetched}
 use Rattle.quadrature.specs.Ready.{Ready}
 use Rattle.quadrature.specs.Linked.{deliveredIn}
@@ -80,15 +83,15 @@ module _ {d : ℕ} (h : ℕ) (rs : List IndexRecord) {s : List ℤ} {k : List �
 
 -- ---- records and entries
 
-module _ (s : List ℤ) where
+module _ (g : Settings) (s : List ℤ) where
   abbrev entries : List IndexRecord → List Entry
-  entries rs = map (entryOf s) rs
+  entries rs = map (entryOf g s) rs
 
   -- an index that is found, and the readings of the first entry that has it
   record Read (rs : List IndexRecord) (k : List ℕ) (p place : ℕ) : Type 0 where
     at : ℕ
     is : place ≡ p + at
-    readings : readingsOf (entries rs) k ≡ entryOf s (recordAt rs at) .readings
+    readings : readingsOf (entries rs) k ≡ entryOf g s (recordAt rs at) .readings
 
   read-at : (p : ℕ) (rs : List IndexRecord) (k : List ℕ) → placeFrom p (levelsOf rs) k < none → Read rs k p (placeFrom p (levelsOf rs) k)
   unfolding placeFrom levelsOf readingsOf entryOf
@@ -103,16 +106,17 @@ module _ (s : List ℤ) where
           let f = ih q in
           record { at = suc (f .at); is = omega (arith, f .is); readings = rw e (f .readings) }
 
-  readings-are : (rs : List IndexRecord) (k : List ℕ) → placeIn rs k < none → readingsOf (entries rs) k ≡ entryOf s (recordAt rs (placeIn rs k)) .readings
+  readings-are : (rs : List IndexRecord) (k : List ℕ) → placeIn rs k < none → readingsOf (entries rs) k ≡ entryOf g s (recordAt rs (placeIn rs k)) .readings
   unfolding placeOf
   readings-are rs k h =
       let f = read-at 0 rs k h in
-      f .readings ∙ ap (λ p. entryOf s (recordAt rs p) .readings) (sym (f .is ∙ NatL.zero-add (f .at)))
+      f .readings ∙ ap (λ p. entryOf g s (recordAt rs p) .readings) (sym (f .is ∙ NatL.zero-add (f .at)))
 
   -- a delivered index's readings, by number
-  entry-reading : (r : IndexRecord) (n : ℕ) → 1 ≤ r .state → n < blockSize (r .levels) → getD (entryOf s r .readings) n (pos 0) ≡ getD s (r .first + n) (pos 0)
+  entry-reading : (r : IndexRecord) (n : ℕ) → 1 ≤ r .state → n < blockSize (r .levels) → getD (entryOf g s r .readings) n (pos 0) ≡ getD s (r .first + n) (pos 0)
   unfolding entryOf
-  entry-reading r n d h = rw (le-leb 1 (r .state) d) (getD-take (blockSize (r .levels)) (drop (r .first) s) n (pos 0) h ∙ getD-drop (r .first) s n (pos 0))
+  entry-reading r n d h =
+      rw (le-leb 1 (r .state) d) (getD-take (readingCount g (r .levels)) (drop (r .first) s) n (pos 0) (rw (reading-facts .single g (r .levels)) h) ∙ getD-drop (r .first) s n (pos 0))
 
   pub delivered-same : (rs : List IndexRecord) → deliveredIn rs ≡ deliveredOf (entries rs)
   unfolding deliveredIn deliveredOf entryOf
@@ -120,11 +124,11 @@ module _ (s : List ℤ) where
   delivered-same (r ∷ rs) = ap (λ ls. cond (leb 1 (r .state)) (r .levels ∷ ls) ls) (delivered-same rs)
 
 -- the readings of an index that is ready, and those of the entries
-module _ {d : ℕ} {rs : List IndexRecord} {s : List ℤ} {k : List ℕ} (ready : Ready d rs s k) where
-  pub entries-agree : Agree k (fetched rs s) (readingIn (map (entryOf s) rs))
+module _ (g : Settings) {d : ℕ} {rs : List IndexRecord} {s : List ℤ} {k : List ℕ} (ready : Ready d rs s k) where
+  pub entries-agree : Agree k (fetched rs s) (readingIn (map (entryOf g s) rs))
   unfolding fetched readingIn
   entries-agree l n w q =
       let found = below-none (ready .found l w) in
       sym
-      (ap (λ x. getD x n (pos 0)) (readings-are s rs l found)
-      ∙ entry-reading s (recordAt rs (placeIn rs l)) n (ready .delivered l w) (subst (λ m. n < blockSize m) (sym (place-levels rs l found)) q))
+      (ap (λ x. getD x n (pos 0)) (readings-are g s rs l found)
+      ∙ entry-reading g s (recordAt rs (placeIn rs l)) n (ready .delivered l w) (subst (λ m. n < blockSize m) (sym (place-levels rs l found)) q))

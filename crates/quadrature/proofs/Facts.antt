@@ -30,11 +30,11 @@ module _ (j : JobRecord) (c : List ℕ) (s : List ℤ) where
   -- readings that are found in the cells are those of the entries
   agree : (d : ℕ) (k : List ℕ) → Ready d (heldIn c (j .held)) s k → Agree k (fetched (recordsOf c) s) (readingIn (entriesOf (areaOf j c s)))
   unfolding heldIn entriesOf
-  agree d k w l n h q = held-agree (j .held) (recordsOf c) w l n h q ∙ entries-agree w l n h q
+  agree d k w l n h q = held-agree (j .held) (recordsOf c) w l n h q ∙ entries-agree (j .settings) w l n h q
 
   delivered-entries : deliveredIn (heldIn c (j .held)) ≡ deliveredOf (entriesOf (areaOf j c s))
   unfolding heldIn entriesOf
-  delivered-entries = delivered-same s (take (j .held) (recordsOf c))
+  delivered-entries = delivered-same (j .settings) s (take (j .held) (recordsOf c))
 
   difference-same : (d : ℕ) (k : List ℕ) → Ready d (heldIn c (j .held)) s k
       → scaledDifference k (fetched (recordsOf c) s) ≡ scaledDifference k (readingIn (entriesOf (areaOf j c s)))

@@ -17,6 +17,7 @@ use Rattle.rule.specs.Points.{newCount}
 use Rattle.grid.proofs.Lower.{lower-back}
 use Rattle.grid.proofs.Neighbours.{root-level, root-within}
 use Rattle.area.specs.declared.IndexRecord.{IndexRecord}
+use Rattle.area.specs.declared.Settings.{Settings}
 use Rattle.area.specs.Records.{levelsOf}
 use Rattle.area.specs.Entry.{indicesOf}
 use Rattle.area.specs.Encoding.{placeFrom, placeOf, linksOf, encoded, encodedFrom, recordsFor, storeFor}
@@ -29,9 +30,9 @@ only-root : (l : List ℕ) → NowhereHigher l root → l ≡ root
 unfolding lower inFront root
 only-root l h = ⊎-elim (λ e. e) (λ m. absurd (List·Memᴰ·not-nil m)) (List·Memᴰ·cases-cons (lower-back root l h))
 
-module _ (d : ℕ) (few : d ≤ 8) (x : ℤ) where
+module _ (g : Settings) (d : ℕ) (few : d ≤ 8) (x : ℤ) where
   abbrev rs : List IndexRecord
-  rs = recordsFor (rootAlone x)
+  rs = recordsFor g (rootAlone x)
 
   abbrev s : List ℤ
   s = storeFor (rootAlone x)
@@ -137,5 +138,5 @@ module _ (d : ℕ) (few : d ≤ 8) (x : ℤ) where
         ahead = λ p a h b. at-first (λ q. getD (recordAt rs q .links) a 0 ≡ placeIn rs (forward (recordAt rs q .levels) a)) (ahead-at a b ∙ ap (λ k. placeIn rs (forward k a)) (sym levels-at)) p h;
       }
 
-pub required-facts : RequiredFacts
-required-facts = record { ready = λ d x h r. ready d h x r; all-ready = λ d x h r. all-ready d h x r; linked = λ d x h. linked d h x }
+pub required-facts : (g : Settings) → RequiredFacts g
+required-facts g = record { ready = λ d x h r. ready g d h x r; all-ready = λ d x h r. all-ready g d h x r; linked = λ d x h. linked g d h x }

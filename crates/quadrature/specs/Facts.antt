@@ -10,6 +10,7 @@ use Rattle.grid.specs.Cross.{crossTotal}
 use Rattle.grid.specs.Terms.{Agree, IsReading}
 use Rattle.area.specs.declared.JobRecord.{JobRecord}
 use Rattle.area.specs.Records.{recordsOf, heldIn}
+use Rattle.area.specs.declared.Settings.{Settings}
 use Rattle.area.specs.Entry.{Entry, deliveredOf, readingIn}
 use Rattle.area.specs.Encoding.{areaOf, entriesOf, recordsFor, storeFor}
 use Rattle.quadrature.specs.Readings.{fetched}
@@ -42,8 +43,8 @@ pub record EntryFacts (j : JobRecord) (c : List ℕ) (s : List ℤ) : Type 0 whe
 unfoldable pub rootAlone : ℤ → List Entry
 rootAlone reading = record { levels = root; state = 1; indicator = 0; readings = reading ∷ [] } ∷ []
 
--- What is required is met by these entries as an area encodes them, for every number of axes and every reading in range.
-pub record RequiredFacts : Type 0 where
-  pub ready : (d : ℕ) (x : ℤ) → d ≤ 8 → IsReading x → Ready d (recordsFor (rootAlone x)) (storeFor (rootAlone x)) root
-  pub all-ready : (d : ℕ) (x : ℤ) → d ≤ 8 → IsReading x → AllReady d 1 (recordsFor (rootAlone x)) (storeFor (rootAlone x))
-  pub linked : (d : ℕ) (x : ℤ) → d ≤ 8 → Linked d (recordsFor (rootAlone x))
+-- What is required is met by these entries as an area encodes them, for all settings, every number of axes and every reading in range.
+pub record RequiredFacts (g : Settings) : Type 0 where
+  pub ready : (d : ℕ) (x : ℤ) → d ≤ 8 → IsReading x → Ready d (recordsFor g (rootAlone x)) (storeFor (rootAlone x)) root
+  pub all-ready : (d : ℕ) (x : ℤ) → d ≤ 8 → IsReading x → AllReady d 1 (recordsFor g (rootAlone x)) (storeFor (rootAlone x))
+  pub linked : (d : ℕ) (x : ℤ) → d ≤ 8 → Linked d (recordsFor g (rootAlone x))

@@ -1,4 +1,4 @@
--- What the walks of the calls share: the rows of a record and of a job record, and what `flatten` gives.
+-- What the walks of the calls share: the rows of a record, of a job record and of settings, and what `flatten` gives.
 -- Assumes nothing.
 use mathlib.Core.Path.{_≡_, sym, subst}
 use Prim.Native.Nat.{ℕ, _≤_}
@@ -21,9 +21,12 @@ use denote.Triple.Clauses.{ensured, lasts}
 use denote.Triple.Spec.{tripleOf}
 use Rattle.area.specs.declared.IndexRecord.{IndexRecord}
 use Rattle.area.specs.declared.JobRecord.{JobRecord}
+use Rattle.area.specs.declared.Settings.{Settings}
 use Rattle.area.proofs.IndexRecord as T
 use Rattle.area.proofs.JobRecord as J
 use Rattle.area.proofs.JobRecord.Laws as J′
+use Rattle.area.proofs.Settings as G
+use Rattle.area.proofs.Settings.Laws as G′
 use Rattle.records.specs.declared.Flat.{Flat}
 use Rattle.records.specs.Lent.{lesser, front}
 use Rattle.records.proofs.Overs.{lesser-left, lesser-right}
@@ -37,6 +40,12 @@ JR = J.the-row
 
 abbrev pub machJ : JobRecord → Val
 machJ j = LL.val J.the-type J′.the-laws j
+
+abbrev pub GR : RattleType
+GR = G.the-row
+
+abbrev pub machG : Settings → Val
+machG g = LL.val G.the-type G′.the-laws g
 
 -- what `flatten` gives of the records ys
 abbrev pub Flattens : Flat → List IndexRecord → Type 0

@@ -5,16 +5,17 @@ use mathlib.Core.Path.{_≡_, refl, ap, sym, _∙_}
 use mathlib.Core.Logic.{inl, inr}
 use mathlib.Core.Bool.{Bool, true, false}
 use mathlib.Core.List.{List, _++_, map, append-assoc}
-use Prim.Native.Nat.{ℕ, _+_, _<_, _≤_}
+use Prim.Native.Nat.{_+_, _<_, _≤_}
 use native.Mathlib.Omega.{arith}
 use borrow.Author.Tests.{le-leb}
 use lib.ListN.{length, drop, length-append, length-map}
 use lib.Seq.{take-append-le, drop-append-le, length-take-le}
+use Rattle.area.specs.declared.Settings.{Settings}
 use Rattle.area.specs.declared.IndexRecord.{IndexRecord}
-use Rattle.area.specs.Encoding.{Area, heldOf, entryOf, entriesOf, recordsFor, runWith}
-use Rattle.soundness.specs.Clauses.{isSound, heldLentClause, wantedLastClause, wantedIdleClause, firstReadingsClause, reservedClause, withinBudgetClause, readingsClause, pendingClause, meanClause}
+use Rattle.area.specs.Encoding.{Area, heldOf, entryOf, entriesOf, recordsFor, runWith, machineOf, written}
+use Rattle.soundness.specs.Clauses.{isSound, heldLentClause, wantedLastClause, wantedIdleClause, firstReadingsClause, readingsClause, numbersClause}
 use Rattle.soundness.proofs.Clauses.{clause-facts}
-use Rattle.machine.specs.Log.{Machine, machineOf, written}
+use Rattle.area.specs.Log.{Machine}
 use Rattle.machine.specs.Causes.{short}
 use Rattle.calls.specs.Replies.{lengthsOf}
 use Rattle.records.specs.Facts.{longer}
@@ -43,9 +44,9 @@ module _ (a : Area) (more : List IndexRecord) (room : 512 ≤ length (a .run .re
 
   -- ---- the lengths that the causes ask for
 
-  pub short-same : (b : ℕ) → short (lengthsOf a⁺) b ≡ short (lengthsOf a) b
+  pub short-same : (g : Settings) → short (lengthsOf a⁺) g ≡ short (lengthsOf a) g
   unfolding short
-  short-same b = rw (le-leb 512 (length (rs ++ more)) room⁺, le-leb 512 (length rs) room)
+  short-same g = rw (le-leb 512 (length (rs ++ more)) room⁺, le-leb 512 (length rs) room)
 
   -- ---- a count of at most 512: the held records are the same
 
@@ -58,20 +59,20 @@ module _ (a : Area) (more : List IndexRecord) (room : 512 ≤ length (a .run .re
 
     pub entries-same : entriesOf a⁺ ≡ entriesOf a
     unfolding entriesOf
-    entries-same = ap (map (entryOf (a .store))) held-same
+    entries-same = ap (map (entryOf (a .job .settings) (a .store))) held-same
 
     pub machine-same : machineOf a⁺ ≡ machineOf a
     unfolding machineOf
-    machine-same = ap {B = Machine} (λ es. record { log = record { axes = a .job .axes; threshold = a .job .threshold; budget = a .job .budget; entries = es }; mean = a .job .mean }) entries-same
+    machine-same = ap {B = Machine} (λ es. record { log = record { settings = a .job .settings; entries = es }; mean = a .job .mean }) entries-same
 
     pub sound-few : isSound a⁺ ≡ isSound a
-    unfolding isSound heldLentClause wantedLastClause wantedIdleClause firstReadingsClause reservedClause withinBudgetClause readingsClause pendingClause meanClause
+    unfolding isSound heldLentClause wantedLastClause wantedIdleClause firstReadingsClause readingsClause numbersClause
     sound-few =
         rw (le-leb (a .job .held) (length (rs ++ more)) (omega (arith, within, length-append rs more)), le-leb (a .job .held) (length rs) within, entries-same, held-same)
 
     pub entries-few : length (entriesOf a) ≤ 512
     unfolding entriesOf
-    entries-few = omega (arith, length-map (heldOf a) (entryOf (a .store)), length-take-le (a .job .held) rs within, few)
+    entries-few = omega (arith, length-map (heldOf a) (entryOf (a .job .settings) (a .store)), length-take-le (a .job .held) rs within, few)
 
   pub sound-same : isSound a⁺ ≡ isSound a
   sound-same = elim (less-or 512 (a .job .held)) [ inl h ↦ (many-unsound a⁺ h ∙ sym (many-unsound a h)) | inr h ↦ sound-few h ]
@@ -81,7 +82,7 @@ module _ (a : Area) (more : List IndexRecord) (room : 512 ≤ length (a .run .re
   pub written-longer : (m : Machine) → length (m .log .entries) ≤ 512 → written a⁺ m ≡ longer (written a m) more
   unfolding written runWith
   written-longer m h =
-      let e : recordsFor (m .log .entries) ++ drop (length (m .log .entries)) (rs ++ more) ≡ (recordsFor (m .log .entries) ++ drop (length (m .log .entries)) rs) ++ more
-      = ap (λ (l : List IndexRecord). recordsFor (m .log .entries) ++ l) (drop-append-le (length (m .log .entries)) rs more (omega (arith, h, room)))
-      ∙ sym (append-assoc (recordsFor (m .log .entries)) (drop (length (m .log .entries)) rs) more) in
+      let e : recordsFor (m .log .settings) (m .log .entries) ++ drop (length (m .log .entries)) (rs ++ more) ≡ (recordsFor (m .log .settings) (m .log .entries) ++ drop (length (m .log .entries)) rs) ++ more
+      = ap (λ (l : List IndexRecord). recordsFor (m .log .settings) (m .log .entries) ++ l) (drop-append-le (length (m .log .entries)) rs more (omega (arith, h, room)))
+      ∙ sym (append-assoc (recordsFor (m .log .settings) (m .log .entries)) (drop (length (m .log .entries)) rs) more) in
       ap {B = Area} (λ (l : List IndexRecord). record { job = written a m .job; run = record { records = l; rest = a .run .rest }; store = written a m .store }) e

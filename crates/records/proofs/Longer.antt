@@ -11,12 +11,14 @@ use borrow.Author.Tests.{le-leb, leb-true}
 use lib.Dec.{leb, eqb}
 use lib.IntN.{ℤ}
 use lib.ListN.{length, length-append, length-set}
+use Rattle.area.specs.declared.Settings.{Settings}
 use Rattle.area.specs.declared.IndexRecord.{IndexRecord}
 use Rattle.area.specs.Entry.{Entry}
-use Rattle.area.specs.Encoding.{Area, entriesOf}
+use Rattle.area.specs.Encoding.{Area, entriesOf, machineOf, written}
 use Rattle.soundness.specs.Clauses.{checked}
 use Rattle.encoding.specs.Entries.{entryAt}
-use Rattle.machine.specs.Log.{Log, Machine, machineOf, written, firstWanted}
+use Rattle.area.specs.Log.{Log, Machine}
+use Rattle.machine.specs.Log.{firstWanted}
 use Rattle.machine.specs.Promote.{Outcome, Promotion, met, spent, promoted, isMet, fits, refine, selected, promoteAt, promote}
 use Rattle.machine.specs.Steps.{started, delivered, deliverAt, deliver, promoteStep}
 use Rattle.machine.specs.Areas.{startOn, deliverOn, changedBy, promoteOn}
@@ -39,11 +41,11 @@ refuses false e = omega (arith, e)
 
 -- short storage, for point also a short buffer
 abbrev narrow : Area → ℕ → Bool
-narrow a w = cond (short (lengthsOf a) (a .job .budget)) true (not (leb (a .job .axes) w))
+narrow a w = cond (short (lengthsOf a) (a .job .settings)) true (not (leb (a .job .settings .axes) w))
 
 module _ (a : Area) (many : 512 < a .job .held) where
   abbrev n : ℕ
-  n = three-four (short (lengthsOf a) (a .job .budget))
+  n = three-four (short (lengthsOf a) (a .job .settings))
 
   result-cause : n ≡ resultCause a
   unfolding firstCause resultCauses machineOf
@@ -59,26 +61,26 @@ module _ (a : Area) (many : 512 < a .job .held) where
 
   point-cause : (k w : ℕ) → three-four (narrow a w) ≡ pointCause a k w
   unfolding firstCause pointCauses machineOf
-  point-cause k w = rw (many-unsound a many) (go (short (lengthsOf a) (a .job .budget)) (not (leb (a .job .axes) w)))
+  point-cause k w = rw (many-unsound a many) (go (short (lengthsOf a) (a .job .settings)) (not (leb (a .job .settings .axes) w)))
     where
       go : (t u : Bool) → three-four (cond t true u) ≡ cond t 3 (cond u 3 4)
       go true u = refl
       go false u = refl
 
   result-many : resultCall a ≡ refused n
-  result-many = sym (result-refuses a n result-cause (refuses (short (lengthsOf a) (a .job .budget))))
+  result-many = sym (result-refuses a n result-cause (refuses (short (lengthsOf a) (a .job .settings))))
 
   cross-many : crossCall a ≡ refused n
-  cross-many = sym (cross-refuses a n result-cause (refuses (short (lengthsOf a) (a .job .budget))))
+  cross-many = sym (cross-refuses a n result-cause (refuses (short (lengthsOf a) (a .job .settings))))
 
   point-many : (k : ℕ) (buffer : List ℕ) → pointCall a k buffer ≡ record { reply = refused (three-four (narrow a (length buffer))); buffer = buffer }
   point-many k buffer = sym (point-refuses a k buffer (three-four (narrow a (length buffer))) (point-cause k (length buffer)) (refuses (narrow a (length buffer))))
 
   deliver-many : (rs : List ℤ) (i : ℕ) → deliverCall a rs i ≡ record { reply = refused n; area = a }
-  deliver-many rs i = sym (deliver-refuses a rs i n (deliver-cause rs) (refuses (short (lengthsOf a) (a .job .budget))))
+  deliver-many rs i = sym (deliver-refuses a rs i n (deliver-cause rs) (refuses (short (lengthsOf a) (a .job .settings))))
 
   promote-many : promoteCall a ≡ record { reply = refused n; area = a }
-  promote-many = sym (promote-refuses a n promote-cause (refuses (short (lengthsOf a) (a .job .budget))))
+  promote-many = sym (promote-refuses a n promote-cause (refuses (short (lengthsOf a) (a .job .settings))))
 
 -- ---- a promotion keeps at most 512
 
@@ -95,10 +97,10 @@ fitting b es e = go (leb (length es) 512) refl
 
 promote-few : (l : Log) → length (l .entries) ≤ 512 → length (promote l .log .entries) ≤ 512
 unfolding promote promoteAt
-promote-few l h = go (isMet l) (fits (l .budget) (refine (l .axes) (l .entries) (selected (l .entries)))) (fitting (l .budget) (refine (l .axes) (l .entries) (selected (l .entries))))
+promote-few l h = go (isMet l) (fits (l .settings .budget) (refine (l .settings .axes) (l .entries) (selected (l .entries)))) (fitting (l .settings .budget) (refine (l .settings .axes) (l .entries) (selected (l .entries))))
   where
-    go : (t u : Bool) → (u ≡ true → length (refine (l .axes) (l .entries) (selected (l .entries))) ≤ 512)
-        → length (cond {A = Promotion} t (record { outcome = met; log = l }) (cond u (record { outcome = promoted; log = record { axes = l .axes; threshold = l .threshold; budget = l .budget; entries = refine (l .axes) (l .entries) (selected (l .entries)) } }) (record { outcome = spent; log = l })) .log .entries) ≤ 512
+    go : (t u : Bool) → (u ≡ true → length (refine (l .settings .axes) (l .entries) (selected (l .entries))) ≤ 512)
+        → length (cond {A = Promotion} t (record { outcome = met; log = l }) (cond u (record { outcome = promoted; log = record { settings = l .settings; entries = refine (l .settings .axes) (l .entries) (selected (l .entries)) } }) (record { outcome = spent; log = l })) .log .entries) ≤ 512
     go true u k = h
     go false true k = k refl
     go false false k = h
@@ -109,19 +111,19 @@ module _ (a : Area) (more : List IndexRecord) (room : 512 ≤ length (a .run .re
   abbrev a⁺ : Area
   a⁺ = longer a more
 
-  same-number : three-four (short (lengthsOf a⁺) (a .job .budget)) ≡ three-four (short (lengthsOf a) (a .job .budget))
-  same-number = ap three-four (short-same a more room (a .job .budget))
+  same-number : three-four (short (lengthsOf a⁺) (a .job .settings)) ≡ three-four (short (lengthsOf a) (a .job .settings))
+  same-number = ap three-four (short-same a more room (a .job .settings))
 
   result-few : a .job .held ≤ 512 → resultCall a⁺ ≡ resultCall a
   unfolding resultCall resultCauses
-  result-few h = rw (machine-same a more room h, sound-few a more room h, short-same a more room (machineOf a .log .budget))
+  result-few h = rw (machine-same a more room h, sound-few a more room h, short-same a more room (machineOf a .log .settings))
 
   pub result-longer : resultCall a⁺ ≡ resultCall a
   result-longer = elim (less-or 512 (a .job .held)) [ inl h ↦ (result-many a⁺ h ∙ ap refused same-number ∙ sym (result-many a h)) | inr h ↦ result-few h ]
 
   cross-few : a .job .held ≤ 512 → crossCall a⁺ ≡ crossCall a
   unfolding crossCall resultCauses
-  cross-few h = rw (machine-same a more room h, sound-few a more room h, short-same a more room (machineOf a .log .budget), entries-same a more room h)
+  cross-few h = rw (machine-same a more room h, sound-few a more room h, short-same a more room (machineOf a .log .settings), entries-same a more room h)
 
   pub cross-longer : crossCall a⁺ ≡ crossCall a
   cross-longer = elim (less-or 512 (a .job .held)) [ inl h ↦ (cross-many a⁺ h ∙ ap refused same-number ∙ sym (cross-many a h)) | inr h ↦ cross-few h ]
@@ -135,16 +137,16 @@ module _ (a : Area) (more : List IndexRecord) (room : 512 ≤ length (a .run .re
   module _ (n : ℕ) (buffer : List ℕ) where
     point-few : a .job .held ≤ 512 → pointCall a⁺ n buffer ≡ pointCall a n buffer
     unfolding pointCall pointCauses
-    point-few h = rw (machine-same a more room h, sound-few a more room h, short-same a more room (machineOf a .log .budget), entries-same a more room h)
+    point-few h = rw (machine-same a more room h, sound-few a more room h, short-same a more room (machineOf a .log .settings), entries-same a more room h)
 
     unfoldable refused-at : Bool → Pointed
-    refused-at t = record { reply = refused (three-four (cond t true (not (leb (a .job .axes) (length buffer))))); buffer = buffer }
+    refused-at t = record { reply = refused (three-four (cond t true (not (leb (a .job .settings .axes) (length buffer))))); buffer = buffer }
 
     pub point-longer : pointCall a⁺ n buffer ≡ pointCall a n buffer
     unfolding refused-at
     point-longer =
         elim (less-or 512 (a .job .held))
-        [ inl h ↦ (point-many a⁺ h n buffer ∙ ap refused-at (short-same a more room (a .job .budget)) ∙ sym (point-many a h n buffer)) | inr h ↦ point-few h ]
+        [ inl h ↦ (point-many a⁺ h n buffer ∙ ap refused-at (short-same a more room (a .job .settings)) ∙ sym (point-many a h n buffer)) | inr h ↦ point-few h ]
 
   -- ---- the calls that write
 
@@ -156,16 +158,16 @@ module _ (a : Area) (more : List IndexRecord) (room : 512 ≤ length (a .run .re
       go true = e
       go false = refl
 
-  start-next : (d t b : ℕ) → startOn a⁺ d t b ≡ longer (startOn a d t b) more
+  start-next : (g : Settings) → startOn a⁺ g ≡ longer (startOn a g) more
   unfolding startOn started
-  start-next d t b = written-longer a more room (started d t b) (omega arith)
+  start-next g = written-longer a more room (started g) (omega arith)
 
-  pub start-longer : (d t b : ℕ) → startCall a⁺ d t b ≡ calledLonger (startCall a d t b) more
+  pub start-longer : (g : Settings) → startCall a⁺ g ≡ calledLonger (startCall a g) more
   unfolding startCall startCauses
-  start-longer d t b =
-      rw (short-same a more room b)
-      (unless-longer _ (record { reply = accepted; area = startOn a d t b }) (record { reply = accepted; area = startOn a⁺ d t b })
-      (ap {B = Called} (λ (x : Area). record { reply = accepted; area = x }) (start-next d t b)))
+  start-longer g =
+      rw (short-same a more room g)
+      (unless-longer _ (record { reply = accepted; area = startOn a g }) (record { reply = accepted; area = startOn a⁺ g })
+      (ap {B = Called} (λ (x : Area). record { reply = accepted; area = x }) (start-next g)))
 
   -- refused by 3 or 4, and nothing changes
   unfoldable refused-by : ℕ → Called
@@ -183,7 +185,7 @@ module _ (a : Area) (more : List IndexRecord) (room : 512 ≤ length (a .run .re
     deliver-few : a .job .held ≤ 512 → deliverCall a⁺ rs i ≡ calledLonger (deliverCall a rs i) more
     unfolding deliverCall deliverCauses
     deliver-few h =
-        rw (machine-same a more room h, sound-few a more room h, short-same a more room (machineOf a .log .budget))
+        rw (machine-same a more room h, sound-few a more room h, short-same a more room (machineOf a .log .settings))
         (unless-longer _ (record { reply = accepted; area = deliverOn a rs i }) (record { reply = accepted; area = deliverOn a⁺ rs i })
         (ap {B = Called} (λ (x : Area). record { reply = accepted; area = x }) (deliver-next h)))
 
@@ -217,7 +219,7 @@ module _ (a : Area) (more : List IndexRecord) (room : 512 ≤ length (a .run .re
   promote-small : a .job .held ≤ 512 → promoteCall a⁺ ≡ calledLonger (promoteCall a) more
   unfolding promoteCall promoteCauses
   promote-small h =
-      rw (machine-same a more room h, sound-few a more room h, short-same a more room (machineOf a .log .budget))
+      rw (machine-same a more room h, sound-few a more room h, short-same a more room (machineOf a .log .settings))
       (unless-longer _ (record { reply = promotion (promoteOn a .outcome); area = promoteOn a .area }) (record { reply = promotion (promoteOn a⁺ .outcome); area = promoteOn a⁺ .area }) (promote-next h))
 
   pub promote-longer : promoteCall a⁺ ≡ calledLonger (promoteCall a) more

@@ -5,6 +5,7 @@ use Prim.Native.Nat.{ℕ, _≤_}
 use lib.IntN.{ℤ}
 use lib.ListN.{length}
 use Rattle.area.specs.declared.IndexRecord.{IndexRecord}
+use Rattle.area.specs.declared.Settings.{Settings}
 use Rattle.area.specs.Encoding.{Area}
 use Rattle.soundness.specs.Clauses.{checked}
 use Rattle.calls.specs.Replies.{Called}
@@ -18,7 +19,7 @@ abbrev pub calledLonger : Called → List IndexRecord → Called
 calledLonger c more = record { reply = c .reply; area = longer (c .area) more }
 
 pub record LentFacts (a : Area) (more : List IndexRecord) : Type 0 where
-  pub start : (d t b : ℕ) → startCall (longer a more) d t b ≡ calledLonger (startCall a d t b) more
+  pub start : (g : Settings) → startCall (longer a more) g ≡ calledLonger (startCall a g) more
   pub point : (n : ℕ) (buffer : List ℕ) → pointCall (longer a more) n buffer ≡ pointCall a n buffer
   pub deliver : (rs : List ℤ) (i : ℕ) → deliverCall (longer a more) rs i ≡ calledLonger (deliverCall a rs i) more
   pub promote : promoteCall (longer a more) ≡ calledLonger (promoteCall a) more

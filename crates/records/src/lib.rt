@@ -102,24 +102,15 @@ fn put_back(records: &mut [area::IndexRecord], n: usize, words: [u32; 13824])
 
 fn flat_start(
     job: area::JobRecord,
-    axes: u32,
-    threshold: u64,
-    budget: u32,
+    settings: area::Settings,
     flat: Flat,
     store: &[i32],
 ) -> FlatCalled
     requires { ⌜ flat .count ≤ 512 ⌝ }
-    ensures { λ r. ⌜ calledOn (r .answer) (front (flat .count) (r .words)) (now (store .entry)) ≡ startCall (areaOn job (front (flat .count) (flat .words)) (now (store .entry))) axes threshold budget ⌝ }
+    ensures { λ r. ⌜ calledOn (r .answer) (front (flat .count) (r .words)) (now (store .entry)) ≡ startCall (areaOn job (front (flat .count) (flat .words)) (now (store .entry))) settings ⌝ }
 {
     let mut words = flat.words;
-    let answer = calls::start(
-        job,
-        axes,
-        threshold,
-        budget,
-        &mut words[..flat.count * 27],
-        store,
-    );
+    let answer = calls::start(job, settings, &mut words[..flat.count * 27], store);
     FlatCalled { answer, words }
 }
 
@@ -196,16 +187,14 @@ fn flat_check(job: area::JobRecord, flat: Flat, store: &[i32]) -> bool
 // Starts a job. The old job record is taken only to hand it back on refusal.
 pub fn start(
     job: area::JobRecord,
-    axes: u32,
-    threshold: u64,
-    budget: u32,
+    settings: area::Settings,
     records: &mut [area::IndexRecord],
     store: &[i32],
 ) -> calls::Answered
-    ensures { λ r. ⌜ calledOn r (now (records .exit)) (now (store .entry)) ≡ startCall (areaOn job (now (records .entry)) (now (store .entry))) axes threshold budget ⌝ }
+    ensures { λ r. ⌜ calledOn r (now (records .exit)) (now (store .entry)) ≡ startCall (areaOn job (now (records .entry)) (now (store .entry))) settings ⌝ }
 {
     let flat = flatten(records);
-    let done = flat_start(job, axes, threshold, budget, flat, store);
+    let done = flat_start(job, settings, flat, store);
     put_back(records, flat.count, done.words);
     done.answer
 }

@@ -10,17 +10,19 @@ use lib.Dec.{leb, eqb}
 use lib.IntN.{ℤ, natAbs}
 use lib.ListN.{length, take, drop, length-append}
 use lib.Seq.{take-at}
+use Rattle.area.proofs.Readings.{reading-facts}
+use Rattle.area.specs.Settings.{readingCount}
 use Rattle.grid.specs.Index.{Within}
-use Rattle.grid.specs.Block.{blockSize}
 use Rattle.area.specs.declared.JobRecord.{JobRecord}
 use Rattle.area.specs.Records.{recordsOf}
-use Rattle.area.specs.Encoding.{Area, areaOf, entriesOf}
+use Rattle.area.specs.Encoding.{Area, areaOf, entriesOf, machineOf}
 use Rattle.quadrature.specs.Readings.{recordAt}
-use Rattle.machine.specs.Log.{Machine, machineOf, firstWanted, anyWanted, wantedIndex}
+use Rattle.area.specs.Log.{Machine}
+use Rattle.machine.specs.Log.{firstWanted, anyWanted, wantedIndex}
 use Rattle.machine.specs.Steps.{deliver}
 use Rattle.machine.specs.Areas.{deliverOn}
 use Rattle.machine.specs.Causes.{firstCause, inRange, resultCauses}
-use Rattle.machine.specs.Facts.{SoundMachine}
+use Rattle.encoding.specs.Entries.{SoundMachine}
 use Rattle.machine.proofs.Facts.{step-facts}
 use Rattle.writing.specs.Settled.{Settled}
 use Rattle.writing.proofs.After.{machine-sound}
@@ -66,7 +68,7 @@ module _ (j : JobRecord) (cells : List ℕ) (store : List ℤ) (st : Settled (ar
 
   none : firstCause (resultCauses ownLengths true (machineOf (areaOf j cells store) .log)) ≡ 0
   unfolding machineOf
-  none = common-none ownLengths true (machineOf (areaOf j cells store) .log) (tests.enough ownLengths (j .budget) (omega arith) (omega (arith, st .sound .structure .budget .1))) refl
+  none = common-none ownLengths true (machineOf (areaOf j cells store) .log) (tests.enough ownLengths (j .settings) (omega arith) (reading-facts .most (j .settings) (st .sound .settings))) refl
 
   first-there : firstWanted (machineOf (areaOf j cells store) .log .entries) < length (machineOf (areaOf j cells store) .log .entries)
   unfolding machineOf
@@ -78,9 +80,10 @@ module _ (j : JobRecord) (cells : List ℕ) (store : List ℤ) (st : Settled (ar
   pub levels-within : (k : List ℕ) → k ≡ recordAt (recordsOf cells) p .levels → Within k
   levels-within k e = subst Within (sym e) (wanted-within j cells store st p is held)
 
-  pub size-is : (k : List ℕ) → k ≡ recordAt (recordsOf cells) p .levels → blockSize k ≡ blockSize (wantedIndex (machineOf (areaOf j cells store) .log .entries))
+  pub count-is : (k : List ℕ) → k ≡ recordAt (recordsOf cells) p .levels
+      → readingCount (j .settings) k ≡ readingCount (machineOf (areaOf j cells store) .log .settings) (wantedIndex (machineOf (areaOf j cells store) .log .entries))
   unfolding machineOf
-  size-is k e = ap blockSize (e ∙ wanted-levels j cells store st p is held)
+  count-is k e = ap (readingCount (j .settings)) (e ∙ wanted-levels j cells store st p is held)
 
   -- ---- entry i of the bytes b
   module _ (b : List ℕ) (i : ℕ) where
@@ -102,11 +105,11 @@ module _ (j : JobRecord) (cells : List ℕ) (store : List ℤ) (st : Settled (ar
     refused : (k n : ℕ) → eqb k 0 ≡ false → deliveryCause b (machineOf (areaOf j cells store)) i ≡ k → goes n ≡ refusedAt k (deliveryByte b i k)
     refused k n f e = ap (λ x. cond (eqb x 0) (next n) (refusedAt x (deliveryByte b i x))) e ∙ ap (λ t. cond t (next n) (refusedAt k (deliveryByte b i k))) f
 
-    pub count-refused : (four b (entryByte i + 4) ≡ blockSize (wantedIndex (machineOf (areaOf j cells store) .log .entries)) → ⊥) → (n : ℕ) → goes n ≡ refusedAt 7 (24 + 12 * i + 4)
+    pub count-refused : (four b (entryByte i + 4) ≡ readingCount (machineOf (areaOf j cells store) .log .settings) (wantedIndex (machineOf (areaOf j cells store) .log .entries)) → ⊥) → (n : ℕ) → goes n ≡ refusedAt 7 (24 + 12 * i + 4)
     unfolding deliveryByte
     count-refused f n = refused 7 n refl (deliver-count ownLengths true (machineOf (areaOf j cells store) .log) rs none some (λ e. f (sym rs-length ∙ e)))
 
-    module _ (whole : four b (entryByte i + 4) ≡ blockSize (wantedIndex (machineOf (areaOf j cells store) .log .entries))) where
+    module _ (whole : four b (entryByte i + 4) ≡ readingCount (machineOf (areaOf j cells store) .log .settings) (wantedIndex (machineOf (areaOf j cells store) .log .entries))) where
       pub range-refused : firstBad (entryOf b i .readings) < four b (entryByte i + 4) → (n : ℕ) → goes n ≡ refusedAt 8 (four b (entryByte i + 8) + 4 * firstBad (entryOf b i .readings))
       unfolding deliveryByte
       range-refused h n =

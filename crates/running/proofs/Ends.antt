@@ -6,33 +6,37 @@ use mathlib.Core.Logic.{_⊎_, inl, inr}
 use mathlib.Core.Bool.{Bool, true, false, cond}
 use mathlib.Core.List.{List}
 use Prim.Native.Nat.{ℕ, zero, suc, _+_, _-_, _<_, _≤_}
-use native.Mathlib.Decide.{ℕ-discrete, decLt}
+use native.Mathlib.Decide.{ℕ-discrete}
 use native.Mathlib.Omega.{arith}
 use borrow.Author.Tests.{eqb-true, eqb-false, leb-false, ltb-false}
 use lib.Dec.{leb, eqb}
 use lib.IntN.{ℤ, _+ℤ_}
 use lib.ListN.{length}
-use Rattle.grid.specs.Block.{blockSize}
+use Rattle.soundness.proofs.Settings.{reads-axes, reads-budget}
+use Rattle.area.proofs.Readings.{reading-facts}
+use Rattle.area.specs.declared.Settings.{Settings}
+use Rattle.area.specs.Settings.{SettingsFit, axesFit, budgetFit, readingCount}
 use Rattle.grid.specs.Difference.{scaledDifference}
 use Rattle.area.specs.Entry.{Entry, readingIn}
-use Rattle.machine.specs.Log.{Log, Machine, wantedIndex, firstWanted, anyWanted}
+use Rattle.area.specs.Log.{Log, Machine}
+use Rattle.machine.specs.Log.{wantedIndex, firstWanted, anyWanted}
 use Rattle.machine.specs.Causes.{firstCause, startCauses, resultCauses, deliverCauses, inRange}
 use Rattle.machine.specs.Promote as rule
 use Rattle.machine.specs.Steps.{started, deliver, promoteStep}
 use Rattle.machine.specs.Counts.{countOf}
-use Rattle.machine.specs.Facts.{SoundMachine}
+use Rattle.encoding.specs.Entries.{SoundMachine}
 use Rattle.machine.specs.Means.{meanOf}
 use Rattle.machine.proofs.Facts.{step-facts}
 use Rattle.machine.proofs.Means.{mean-facts}
-use Rattle.calls.proofs.Accepted.{Startable, startable, Deliverable, deliverable}
-use Rattle.calls.proofs.Causes.{start-axes-low, start-axes-high, start-budget-low, start-budget-high, start-fits, common-none, deliver-count, deliver-range, deliver-fits}
+use Rattle.calls.proofs.Accepted.{startable, Deliverable, deliverable}
+use Rattle.calls.proofs.Causes.{start-axes, start-budget, start-fits, common-none, deliver-count, deliver-range, deliver-fits}
 use Rattle.calls.proofs.Left.{readings-range}
 use Rattle.calls.proofs.Tests as tests
 use Rattle.published.proofs.Outcomes.{promoted-not-met, promoted-log}
 use Rattle.jobfile.specs.Form.{formed, broken, formOf, entryCount}
-use Rattle.jobfile.specs.File.{entryOf, fileOf}
+use Rattle.jobfile.specs.File.{entryOf}
 use Rattle.reporting.specs.Text.{met, spent, short}
-use Rattle.running.specs.Course.{ownLengths, Result, refusedAt, ended, deliveryByte, deliveryCause, byOutcome, course, steps, startByte, startCause, resultIn, resultOf}
+use Rattle.running.specs.Course.{ownLengths, Result, refusedAt, ended, deliveryByte, deliveryCause, byOutcome, course, steps, startByte, startCause, resultIn, resultOf, fileSettings}
 use Rattle.running.specs.Facts.{ByStart, ByDelivery, Stands, Comes}
 use Rattle.running.proofs.Counted.{count-most, delivery-old, refined-old}
 
@@ -54,31 +58,30 @@ promoted-stands m s none =
 -- ---- the numbers of refusals
 
 -- with storage of the run's own only axes and budget can refuse start
-start-numbers : (d b : ℕ) → eqb (firstCause (startCauses ownLengths d b)) 0 ≡ false → ByStart (firstCause (startCauses ownLengths d b))
-start-numbers d b f = axes (decLt d 1) (decLt 8 d) (decLt b 1) (decLt 8192 b)
+start-numbers : (g : Settings) → eqb (firstCause (startCauses ownLengths g)) 0 ≡ false → ByStart (firstCause (startCauses ownLengths g))
+start-numbers g f = step (axesFit g) (budgetFit g) refl refl
   where
-    axes : Dec (d < 1) → Dec (8 < d) → Dec (b < 1) → Dec (8192 < b) → ByStart (firstCause (startCauses ownLengths d b))
-    axes (yes h) e g k = inl (start-axes-low ownLengths d b h)
-    axes (no h) (yes e) g k = inl (start-axes-high ownLengths d b (omega (arith, h)) e)
-    axes (no h) (no e) (yes g) k = inr (start-budget-low ownLengths d b (omega (arith, h)) (omega (arith, e)) g)
-    axes (no h) (no e) (no g) (yes k) = inr (start-budget-high ownLengths d b (omega (arith, h)) (omega (arith, e)) (omega (arith, g)) k)
-    axes (no h) (no e) (no g) (no k) =
-        absurd (eqb-false (firstCause (startCauses ownLengths d b)) 0 f
-        (start-fits ownLengths d b (omega (arith, h)) (omega (arith, e)) (omega (arith, g)) (omega (arith, k)) (tests.enough ownLengths b (omega arith) (omega (arith, k)))))
+    step : (t u : Bool) → axesFit g ≡ t → budgetFit g ≡ u → ByStart (firstCause (startCauses ownLengths g))
+    step false u a b = inl (start-axes ownLengths g a)
+    step true false a b = inr (start-budget ownLengths g a b)
+    step true true a b =
+        absurd (eqb-false (firstCause (startCauses ownLengths g)) 0 f
+        (let fit : SettingsFit g = record { axes = reads-axes g .sure a; budget = reads-budget g .sure b } in
+        start-fits ownLengths g fit (tests.enough ownLengths g (omega arith) (reading-facts .most g fit))))
 
 -- with a block wanted only the count and the range of the readings can refuse a delivery
 delivery-numbers : (m : Machine) (rs : List ℤ) → SoundMachine m → anyWanted (m .log .entries) ≡ true → eqb (firstCause (deliverCauses ownLengths true (m .log) rs)) 0 ≡ false
     → ByDelivery (firstCause (deliverCauses ownLengths true (m .log) rs))
-delivery-numbers m rs v some f = count (ℕ-discrete (length rs) (blockSize (wantedIndex (m .log .entries))))
+delivery-numbers m rs v some f = count (ℕ-discrete (length rs) (readingCount (m .log .settings) (wantedIndex (m .log .entries))))
   where
     none : firstCause (resultCauses ownLengths true (m .log)) ≡ 0
-    none = common-none ownLengths true (m .log) (tests.enough ownLengths (m .log .budget) (omega arith) (omega (arith, v .budget .1))) refl
+    none = common-none ownLengths true (m .log) (tests.enough ownLengths (m .log .settings) (omega arith) (reading-facts .most (m .log .settings) (v .settings))) refl
 
-    range : length rs ≡ blockSize (wantedIndex (m .log .entries)) → (t : Bool) → inRange rs ≡ t → ByDelivery (firstCause (deliverCauses ownLengths true (m .log) rs))
+    range : length rs ≡ readingCount (m .log .settings) (wantedIndex (m .log .entries)) → (t : Bool) → inRange rs ≡ t → ByDelivery (firstCause (deliverCauses ownLengths true (m .log) rs))
     range whole false e = inr (deliver-range ownLengths true (m .log) rs none some whole e)
     range whole true e = absurd (eqb-false (firstCause (deliverCauses ownLengths true (m .log) rs)) 0 f (deliver-fits ownLengths true (m .log) rs none some whole e))
 
-    count : Dec (length rs ≡ blockSize (wantedIndex (m .log .entries))) → ByDelivery (firstCause (deliverCauses ownLengths true (m .log) rs))
+    count : Dec (length rs ≡ readingCount (m .log .settings) (wantedIndex (m .log .entries))) → ByDelivery (firstCause (deliverCauses ownLengths true (m .log) rs))
     count (no h) = inl (deliver-count ownLengths true (m .log) rs none some h)
     count (yes h) = range h (inRange rs) refl
 
@@ -138,7 +141,7 @@ module _ (c : List ℕ) where
             let x = step-facts .selects (m .log) (promoted-not-met (m .log) is) in
             unfold promoteStep in
             ap (λ (l : Log). countOf 2 (l .entries)) (promoted-log (m .log) is)
-            ∙ refined-old (m .log .axes) (m .log .entries) (rule.selected (m .log .entries)) (x .0) (x .1)
+            ∙ refined-old (m .log .settings .axes) (m .log .entries) (rule.selected (m .log .entries)) (x .0) (x .1)
 
     without : (o : rule.Outcome) → (o ≡ rule.promoted → Comes (entryCount c) (course c n (promoteStep m) i)) → Comes (entryCount c) (byOutcome o m i (course c n (promoteStep m) i))
     unfolding byOutcome
@@ -164,19 +167,17 @@ module _ (c : List ℕ) where
 
 -- ---- from the start
 
-started-ends : (c : List ℕ) → entryCount c ≤ 512 → startCause c ≡ 0 → Comes (entryCount c) (course c steps (started (fileOf c .axes) (fileOf c .threshold) (fileOf c .budget)) 0)
+started-ends : (c : List ℕ) → entryCount c ≤ 512 → startCause c ≡ 0 → Comes (entryCount c) (course c steps (started (fileSettings c)) 0)
 started-ends c few none =
-    let x : Startable ownLengths (fileOf c .axes) (fileOf c .budget) = startable ownLengths (fileOf c .axes) (fileOf c .budget) none in
-    course-ends c steps (started (fileOf c .axes) (fileOf c .threshold) (fileOf c .budget)) 0
-    (stands (started (fileOf c .axes) (fileOf c .threshold) (fileOf c .budget))
-    (step-facts .start (fileOf c .axes) (fileOf c .threshold) (fileOf c .budget) (x .axes .0) (x .axes .1) (x .budget .0) (x .budget .1))
-    (unfold started in sym (mean-facts .start (fileOf c .axes) (fileOf c .threshold) (fileOf c .budget)))) (omega arith) (omega (arith, few))
+    course-ends c steps (started (fileSettings c)) 0
+    (stands (started (fileSettings c)) (step-facts .start (fileSettings c) (startable ownLengths (fileSettings c) none .settings))
+    (unfold started in sym (mean-facts .start (fileSettings c)))) (omega arith) (omega (arith, few))
 
 pub run-comes : (c : List ℕ) → entryCount c ≤ 512 → formOf c ≡ formed → Comes (entryCount c) (resultOf c)
 unfolding resultOf resultIn
 run-comes c few e = rw e (begun (eqb (startCause c) 0) refl)
   where
     begun : (t : Bool) → eqb (startCause c) 0 ≡ t
-        → Comes (entryCount c) (cond t (course c steps (started (fileOf c .axes) (fileOf c .threshold) (fileOf c .budget)) 0) (refusedAt (startCause c) (startByte (startCause c))))
+        → Comes (entryCount c) (cond t (course c steps (started (fileSettings c)) 0) (refusedAt (startCause c) (startByte (startCause c))))
     begun true q = started-ends c few (eqb-true (startCause c) 0 q)
-    begun false q = inl (start-numbers (fileOf c .axes) (fileOf c .budget) q)
+    begun false q = inl (start-numbers (fileSettings c) q)

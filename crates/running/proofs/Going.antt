@@ -6,8 +6,8 @@ use Prim.Native.Nat.{ℕ, suc, _+_, _-_}
 use native.Mathlib.Omega.{arith}
 use lib.IntN.{ℤ}
 use Rattle.area.specs.declared.JobRecord.{JobRecord}
-use Rattle.area.specs.Encoding.{areaOf}
-use Rattle.machine.specs.Log.{Machine, machineOf}
+use Rattle.area.specs.Encoding.{areaOf, machineOf}
+use Rattle.area.specs.Log.{Machine}
 use Rattle.reporting.specs.declared.Ending as code
 use Rattle.reporting.specs.Text.{reportText, refusalText}
 use Rattle.reporting.specs.Code.{endingIn}

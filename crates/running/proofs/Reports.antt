@@ -3,7 +3,7 @@
 use mathlib.Core.Path.{_≡_, ap, _∙_}
 use Prim.Native.Nat.{ℕ}
 use lib.IntN.{ℤ}
-use Rattle.machine.specs.Log.{Machine}
+use Rattle.area.specs.Log.{Machine}
 use Rattle.machine.specs.Counts as machine
 use Rattle.counting.specs.declared.Counts.{Counts}
 use Rattle.counting.specs.Answer.{countsIn}
@@ -13,13 +13,13 @@ use Rattle.reporting.specs.Code.{endingIn, figuresIn}
 use Rattle.running.specs.Report.{figuresOf}
 
 pub figures-are : (m : Machine) (e : code.Ending) (u : ℕ) (c : Counts) (z : ℤ) → z ≡ c .mean → countsIn c ≡ machine.countsOf m
-    → figuresIn (record { axes = m .log .axes; old = c .old; active = c .active; wanted = c .wanted; reserved = c .reserved; pending = c .pending; ceiling = c .ceiling; scaled = z; unused = u; ending = e })
+    → figuresIn (record { axes = m .log .settings .axes; old = c .old; active = c .active; wanted = c .wanted; reserved = c .reserved; pending = c .pending; ceiling = c .ceiling; scaled = z; unused = u; ending = e })
     ≡ figuresOf (endingIn e) m u
 unfolding figuresIn figuresOf countsIn
 figures-are m e u c z same is =
     ap {B = Figures}
     (λ x. record {
-      axes = m .log .axes;
+      axes = m .log .settings .axes;
       old = c .old;
       active = c .active;
       wanted = c .wanted;
@@ -32,7 +32,7 @@ figures-are m e u c z same is =
     }) same
     ∙ ap {B = Figures}
     (λ (x : machine.Counts). record {
-      axes = m .log .axes;
+      axes = m .log .settings .axes;
       old = x .old;
       active = x .active;
       wanted = x .wanted;

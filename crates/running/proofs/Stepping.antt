@@ -12,8 +12,9 @@ use lib.IntN.{ℤ}
 use lib.ListN.{length}
 use Rattle.area.specs.declared.JobRecord.{JobRecord}
 use Rattle.area.specs.Records.{heldIn}
-use Rattle.area.specs.Encoding.{Area, areaOf, entriesOf}
-use Rattle.machine.specs.Log.{Machine, machineOf, written, firstWanted, anyWanted}
+use Rattle.area.specs.Encoding.{Area, areaOf, entriesOf, machineOf, written}
+use Rattle.area.specs.Log.{Machine}
+use Rattle.machine.specs.Log.{firstWanted, anyWanted}
 use Rattle.machine.specs.Promote as rule
 use Rattle.machine.specs.Steps.{deliver, promoteStep}
 use Rattle.machine.specs.Areas.{AreaPromotion, changedBy, promoteOn}

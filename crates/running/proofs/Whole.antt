@@ -9,34 +9,32 @@ use borrow.Author.Tests.{lt-ltb, le-ltb, ne-eqb}
 use lib.Dec.{eqb}
 use lib.IntN.{ℤ, pos}
 use lib.ListN.{length}
+use Rattle.area.specs.declared.Settings.{Settings}
 use Rattle.area.specs.declared.JobRecord.{JobRecord}
 use Rattle.area.specs.Records.{runOf, stored}
-use Rattle.area.specs.Encoding.{Area, areaOf}
+use Rattle.area.specs.Encoding.{Area, areaOf, machineOf, written}
 use Rattle.area.proofs.Records.{length-recordsOf}
-use Rattle.machine.specs.Log.{machineOf, written}
 use Rattle.machine.specs.Steps.{started}
 use Rattle.machine.specs.Causes.{firstCause, startCauses}
-use Rattle.machine.specs.Facts.{SoundMachine}
+use Rattle.encoding.specs.Entries.{SoundMachine}
 use Rattle.machine.proofs.Facts.{step-facts}
 use Rattle.writing.specs.Changes.{rootRecord}
 use Rattle.writing.specs.Settled.{Settled}
 use Rattle.writing.proofs.Facts.{write-facts}
 use Rattle.writing.proofs.After.{written-settled}
-use Rattle.calls.proofs.Accepted.{Startable, startable}
+use Rattle.calls.proofs.Accepted.{startable}
 use Rattle.calls.proofs.Written.{written-state}
-use Rattle.jobfile.specs.Bytes.{four, eight}
 use Rattle.jobfile.specs.Form.{Fault, formed, broken, number, byteOf, formOf, entryCount}
-use Rattle.jobfile.specs.File.{fileOf}
 use Rattle.reporting.specs.Text.{refusalText}
 use Rattle.running.specs.declared.Ran.the-variants as rans
-use Rattle.running.specs.Course.{ownLengths, refusedAt, course, steps, startByte, startCause, resultIn, resultOf}
+use Rattle.running.specs.Course.{ownLengths, refusedAt, course, steps, startByte, startCause, resultIn, resultOf, fileSettings}
 use Rattle.running.specs.Report.{textIn, textOf}
 use Rattle.running.specs.Code.{Printed, runOn}
 
 -- ---- what start leaves
 
-module _ (d t b : ℕ) (none : firstCause (startCauses ownLengths d b) ≡ 0) (j : JobRecord) (before cells : List ℕ) (store : List ℤ)
-    (job : j ≡ record { axes = d; threshold = t; budget = b; held = 1; reserved = 1; pending = 0; mean = pos 0 }) (run : runOf cells ≡ stored (runOf before) 0 rootRecord)
+module _ (g : Settings) (none : firstCause (startCauses ownLengths g) ≡ 0) (j : JobRecord) (before cells : List ℕ) (store : List ℤ)
+    (job : j ≡ record { settings = g; held = 1; reserved = 1; pending = 0; mean = pos 0 }) (run : runOf cells ≡ stored (runOf before) 0 rootRecord)
     (long : length before ≡ 13824) (room : length store ≡ 8192) where
   abbrev old : Area
   old = areaOf j before store
@@ -44,23 +42,21 @@ module _ (d t b : ℕ) (none : firstCause (startCauses ownLengths d b) ≡ 0) (j
   records-there : length (areaOf j before store .run .records) ≡ 512
   records-there = length-recordsOf before ∙ ap (λ n. n / 27) long
 
-  sound : SoundMachine (started d t b)
-  sound =
-      let s : Startable ownLengths d b = startable ownLengths d b none in
-      step-facts .start d t b (s .axes .0) (s .axes .1) (s .budget .0) (s .budget .1)
+  sound : SoundMachine (started g)
+  sound = step-facts .start g (startable ownLengths g none .settings)
 
-  area-is : areaOf j cells store ≡ written (areaOf j before store) (started d t b)
+  area-is : areaOf j cells store ≡ written (areaOf j before store) (started g)
   area-is =
       (λ i. record { job = job i; run = run i; store = store })
-      ∙ sym (write-facts .start (areaOf j before store) d t b (omega (arith, records-there)))
+      ∙ sym (write-facts .start (areaOf j before store) g (omega (arith, records-there)))
 
   pub start-settled : Settled (areaOf j cells store)
   start-settled =
-      written-settled (areaOf j before store) (started d t b) sound (omega (arith, records-there))
-      (unfold started in omega (arith, room, startable ownLengths d b none .budget .1)) j cells store area-is
+      written-settled (areaOf j before store) (started g) sound (omega (arith, records-there))
+      (unfold started in omega (arith, room, startable ownLengths g none .readings)) j cells store area-is
 
-  pub start-state : machineOf (areaOf j cells store) ≡ started d t b
-  start-state = ap machineOf area-is ∙ written-state (areaOf j before store) (started d t b) sound
+  pub start-state : machineOf (areaOf j cells store) ≡ started g
+  start-state = ap machineOf area-is ∙ written-state (areaOf j before store) (started g) sound
 
 -- ---- the text of a file
 
@@ -73,7 +69,7 @@ module _ (c : List ℕ) (n : ℕ) (before after : List ℕ) (end : ℕ) where
       text-is = unfold textOf resultOf resultIn textIn in ap (λ x. textIn (entryCount c) (resultIn x c)) e
 
   module _ (right : formOf c ≡ formed) where
-    of-form : textOf c ≡ textIn (entryCount c) (cond (eqb (startCause c) 0) (course c steps (started (fileOf c .axes) (fileOf c .threshold) (fileOf c .budget)) 0) (refusedAt (startCause c) (startByte (startCause c))))
+    of-form : textOf c ≡ textIn (entryCount c) (cond (eqb (startCause c) 0) (course c steps (started (fileSettings c)) 0) (refusedAt (startCause c) (startByte (startCause c))))
     unfolding textOf resultOf resultIn
     of-form = ap (λ x. textIn (entryCount c) (resultIn x c)) right
 
@@ -84,16 +80,16 @@ module _ (c : List ℕ) (n : ℕ) (before after : List ℕ) (end : ℕ) where
         text-is : textOf c ≡ refusalText k byte
         text-is =
             of-form
-            ∙ ap (λ x. textIn (entryCount c) (cond (eqb x 0) (course c steps (started (fileOf c .axes) (fileOf c .threshold) (fileOf c .budget)) 0) (refusedAt x (startByte x)))) (sym e)
-            ∙ ap (λ t. textIn (entryCount c) (cond t (course c steps (started (fileOf c .axes) (fileOf c .threshold) (fileOf c .budget)) 0) (refusedAt k (startByte k)))) (ne-eqb k 0 some)
+            ∙ ap (λ x. textIn (entryCount c) (cond (eqb x 0) (course c steps (started (fileSettings c)) 0) (refusedAt x (startByte x)))) (sym e)
+            ∙ ap (λ t. textIn (entryCount c) (cond t (course c steps (started (fileSettings c)) 0) (refusedAt k (startByte k)))) (ne-eqb k 0 some)
             ∙ ap (λ x. textIn (entryCount c) (refusedAt k x)) b
             ∙ unfold textIn in refl
 
     -- it goes its course
-    pub runs : startCause c ≡ 0 → Printed (textIn (entryCount c) (course c 1025 (started (fileOf c .axes) (fileOf c .threshold) (fileOf c .budget)) 0)) before after end → Printed (textOf c) before after end
+    pub runs : startCause c ≡ 0 → Printed (textIn (entryCount c) (course c 1025 (started (fileSettings c)) 0)) before after end → Printed (textOf c) before after end
     runs e p =
         subst (λ x. Printed x before after end)
-        (sym (of-form ∙ ap (λ x. textIn (entryCount c) (cond (eqb x 0) (course c steps (started (fileOf c .axes) (fileOf c .threshold) (fileOf c .budget)) 0) (refusedAt x (startByte x)))) e)) p
+        (sym (of-form ∙ ap (λ x. textIn (entryCount c) (cond (eqb x 0) (course c steps (started (fileSettings c)) 0) (refusedAt x (startByte x)))) e)) p
 
 -- ---- what run leaves
 
@@ -110,9 +106,8 @@ pub later-byte : (k : ℕ) → (k ≡ 1 → ⊥) → startByte k ≡ 4
 unfolding startByte
 later-byte k f = ap (λ t. cond {A = ℕ} t 0 4) (ne-eqb k 1 f)
 
--- the numbers read from the file
-pub same-run : (c before after : List ℕ) (end : ℕ) {axes threshold budget entries : ℕ} → axes ≡ four c 0 → threshold ≡ eight c 8 → budget ≡ four c 4 → entries ≡ entryCount c
-    → Printed (textIn entries (course c 1025 (started axes threshold budget) 0)) before after end
-    → Printed (textIn (entryCount c) (course c 1025 (started (fileOf c .axes) (fileOf c .threshold) (fileOf c .budget)) 0)) before after end
-unfolding fileOf
-same-run c before after end a t b n p = rw (sym a, sym t, sym b, sym n) p
+-- the number of entries read from the file
+pub same-run : (c before after : List ℕ) (end : ℕ) {g : Settings} {entries : ℕ} → g ≡ fileSettings c → entries ≡ entryCount c
+    → Printed (textIn entries (course c 1025 (started g) 0)) before after end
+    → Printed (textIn (entryCount c) (course c 1025 (started (fileSettings c)) 0)) before after end
+same-run c before after end e n p = rw (sym e, sym n) p

@@ -7,8 +7,8 @@ use lib.Dec.{ltb}
 use lib.IntN.{ℤ}
 use lib.ListN.{length, drop}
 use Rattle.area.specs.declared.JobRecord.{JobRecord}
-use Rattle.area.specs.Encoding.{areaOf}
-use Rattle.machine.specs.Log.{Machine, machineOf}
+use Rattle.area.specs.Log.{Machine}
+use Rattle.area.specs.Encoding.{areaOf, machineOf}
 use Rattle.writing.specs.Settled.{Settled}
 use Rattle.promotion.specs.declared.Outcome as outcome
 use Rattle.promotion.specs.declared.Outcome.the-variants as outcomes

@@ -5,7 +5,10 @@ use mathlib.Core.List.{List, [], _∷_}
 use Prim.Native.Nat.{ℕ, zero, suc, _+_, _*_}
 use lib.Dec.{leb, eqb}
 use lib.IntN.{ℤ, natAbs}
-use Rattle.machine.specs.Log.{Machine, anyWanted}
+use Rattle.area.specs.declared.Settings.{Settings}
+use Rattle.area.specs.Settings.{settingsOf}
+use Rattle.area.specs.Log.{Machine}
+use Rattle.machine.specs.Log.{anyWanted}
 use Rattle.machine.specs.Promote as rule
 use Rattle.machine.specs.Steps.{started, deliver, promoteStep}
 use Rattle.machine.specs.Causes.{Lengths, firstCause, startCauses, deliverCauses}
@@ -66,14 +69,18 @@ steps = 1025
 unfoldable pub startByte : ℕ → ℕ
 startByte n = cond (eqb n 1) 0 4
 
+-- What the file's header starts the job with.
+abbrev pub fileSettings : List ℕ → Settings
+fileSettings c = settingsOf (fileOf c .axes) (fileOf c .threshold) (fileOf c .budget)
+
 abbrev pub startCause : List ℕ → ℕ
-startCause c = firstCause (startCauses ownLengths (fileOf c .axes) (fileOf c .budget))
+startCause c = firstCause (startCauses ownLengths (fileSettings c))
 
 -- The whole form is tested before start.
 unfoldable pub resultIn : Form → List ℕ → Result
 resultIn (broken f) c = refusedAt (number f) (byteOf f)
 resultIn formed c =
-    cond (eqb (startCause c) 0) (course c steps (started (fileOf c .axes) (fileOf c .threshold) (fileOf c .budget)) 0) (refusedAt (startCause c) (startByte (startCause c)))
+    cond (eqb (startCause c) 0) (course c steps (started (fileSettings c)) 0) (refusedAt (startCause c) (startByte (startCause c)))
 
 unfoldable pub resultOf : List ℕ → Result
 resultOf c = resultIn (formOf c) c

@@ -5,8 +5,8 @@ use mathlib.Core.Logic.{_⊎_}
 use mathlib.Core.List.{List}
 use Prim.Native.Nat.{ℕ, _≤_}
 use lib.ListN.{length, take}
-use Rattle.machine.specs.Log.{Machine}
-use Rattle.machine.specs.Facts.{SoundMachine}
+use Rattle.area.specs.Log.{Machine}
+use Rattle.encoding.specs.Entries.{SoundMachine}
 use Rattle.machine.specs.Means.{meanOf, crossOf}
 use Rattle.jobfile.specs.Form.{Fault, formed, broken, byteOf, formOf, entryCount}
 use Rattle.running.specs.declared.Ran.the-variants as rans

@@ -1,7 +1,7 @@
 -- What a run prints: the report of its ending, or only `refused N at B`.
 use mathlib.Core.List.{List, []}
 use Prim.Native.Nat.{ℕ, _-_}
-use Rattle.machine.specs.Log.{Machine}
+use Rattle.area.specs.Log.{Machine}
 use Rattle.machine.specs.Counts.{countsOf}
 use Rattle.jobfile.specs.Form.{entryCount}
 use Rattle.reporting.specs.Text.{Ending, Figures, reportText, refusalText}
@@ -11,7 +11,7 @@ use Rattle.running.specs.Course.{Result, refusedAt, ended, unfinished, r
 unfoldable pub figuresOf : Ending → Machine → (unused : ℕ) → Figures
 figuresOf e m u =
     record {
-      axes = m .log .axes;
+      axes = m .log .settings .axes;
       old = countsOf m .old;
       active = countsOf m .active;
       wanted = countsOf m .wanted;

@@ -3,14 +3,14 @@ ghost use mathlib.Core.Path.{_≡_};
 ghost use mathlib.Core.List.{_++_};
 ghost use Prim.Native.Nat.{ℕ, suc, _+_, _*_, _<_, _≤_};
 ghost use lib.ListN.{length, drop};
-ghost use Rattle.area.specs.Encoding.{areaOf, entriesOf};
-ghost use Rattle.machine.specs.Log.{machineOf, firstWanted};
+ghost use Rattle.area.specs.Encoding.{areaOf, entriesOf, machineOf};
+ghost use Rattle.machine.specs.Log.{firstWanted};
 ghost use Rattle.machine.specs.Steps.{started, deliver};
 ghost use Rattle.writing.specs.Settled.{Settled};
 ghost use Rattle.jobfile.specs.Form.{formed, formOf, entryCount};
 ghost use Rattle.jobfile.specs.File.{readingsAt, entryOf};
 ghost use Rattle.jobfile.specs.Facts.{FormedFile};
-ghost use Rattle.running.specs.Course.{ownLengths, firstBad, unlessRefused, course as courseOf};
+ghost use Rattle.running.specs.Course.{ownLengths, fileSettings, firstBad, unlessRefused, course as courseOf};
 ghost use Rattle.machine.specs.Causes.{firstCause, startCauses};
 ghost use Rattle.reporting.specs.Text.{reportText};
 ghost use Rattle.reporting.specs.Code.{endingIn};
@@ -87,7 +87,8 @@ fn deliver_entry(
     let indicator = jobfile::four_at(bytes, at);
     let count = jobfile::four_at(bytes, at + 4) as usize;
     let from = jobfile::four_at(bytes, at + 8) as usize;
-    let size = grid::block_size(area::levels_at(cells, place));
+    let settings = job.settings;
+    let size = area::reading_count(settings, area::levels_at(cells, place));
     if count != size {
         return Given::Refused(7, at + 4);
     }
@@ -164,7 +165,7 @@ fn put_ended(
 {
     let counts = counting::result(job, cells, store);
     let figures = reporting::Figures {
-        axes: job.axes,
+        axes: job.settings.axes,
         old: counts.old,
         active: counts.active,
         wanted: counts.wanted,
@@ -176,25 +177,6 @@ fn put_ended(
         ending,
     };
     reporting::put_report(figures, report)
-}
-
-// Why start is refused, the run's own storage being long enough for every budget.
-fn start_cause(axes: u32, budget: u32) -> u32
-    ensures { λ r. ⌜ r ≡ firstCause (startCauses ownLengths axes budget) ⌝ }
-{
-    if axes < 1 {
-        return 1;
-    }
-    if 8 < axes {
-        return 1;
-    }
-    if budget < 1 {
-        return 2;
-    }
-    if 8192 < budget {
-        return 2;
-    }
-    0
 }
 
 // Goes on with a run, so many steps at most. It calls itself once for each step.
@@ -246,21 +228,14 @@ fn run_from(
 }
 
 // Runs a job that start accepts, with the area in locals: 512 records, and 8,192 readings for the store and for a block.
-fn run_started(
-    axes: u32,
-    threshold: u64,
-    budget: u32,
-    entries: usize,
-    bytes: &[u8],
-    report: &mut [u8],
-) -> usize
-    requires { ⌜ (firstCause (startCauses ownLengths axes budget) ≡ 0) × FormedFile (now bytes) × (entries ≡ entryCount (now bytes)) × (512 ≤ length (now report)) ⌝ }
-    ensures { λ r. ⌜ Printed (textIn entries (courseOf (now (bytes .entry)) 1025 (started axes threshold budget) 0)) (now (report .entry)) (now (report .exit)) r ⌝ }
+fn run_started(settings: area::Settings, entries: usize, bytes: &[u8], report: &mut [u8]) -> usize
+    requires { ⌜ (firstCause (startCauses ownLengths settings) ≡ 0) × FormedFile (now bytes) × (entries ≡ entryCount (now bytes)) × (512 ≤ length (now report)) ⌝ }
+    ensures { λ r. ⌜ Printed (textIn entries (courseOf (now (bytes .entry)) 1025 (started settings) 0)) (now (report .entry)) (now (report .exit)) r ⌝ }
 {
     let mut cells = [0u32; 13824];
     let mut store = [0i32; 8192];
     let mut block = [0i32; 8192];
-    let job = delivery::start(axes, threshold, budget, &mut cells);
+    let job = delivery::start(settings, &mut cells);
     run_from(
         1025,
         job,
@@ -274,23 +249,33 @@ fn run_started(
     )
 }
 
+// What a file's header starts its job with.
+fn file_settings(bytes: &[u8]) -> area::Settings
+    requires { ⌜ 24 ≤ length (now bytes) ⌝ }
+    ensures { λ r. ⌜ r ≡ fileSettings (now (bytes .entry)) ⌝ }
+{
+    area::Settings {
+        axes: jobfile::four_at(bytes, 0),
+        threshold: jobfile::eight_at(bytes, 8),
+        budget: jobfile::four_at(bytes, 4),
+    }
+}
+
 // Runs a file of the right form.
 fn run_formed(bytes: &[u8], report: &mut [u8]) -> usize
     requires { ⌜ (formOf (now bytes) ≡ formed) × (512 ≤ length (now report)) ⌝ }
     ensures { λ r. ⌜ Printed (textOf (now (bytes .entry))) (now (report .entry)) (now (report .exit)) r ⌝ }
 {
-    let axes = jobfile::four_at(bytes, 0);
-    let budget = jobfile::four_at(bytes, 4);
-    let threshold = jobfile::eight_at(bytes, 8);
+    let settings = file_settings(bytes);
     let entries = jobfile::four_at(bytes, 16) as usize;
-    let cause = start_cause(axes, budget);
+    let cause = calls::start_cause(settings, 512, 8192);
     if cause == 1 {
         return reporting::put_refusal(1, 0, report);
     }
     if cause != 0 {
         return reporting::put_refusal(cause, 4, report);
     }
-    run_started(axes, threshold, budget, entries, bytes, report)
+    run_started(settings, entries, bytes, report)
 }
 
 // Runs a job file, and writes its report, or the line of its refusal, at the beginning of the buffer. 512 bytes suffice.

@@ -26,15 +26,12 @@ held-or rs k = step (find (length rs) (λ p. levelsAt rs p ≡ k) (λ p. List-di
     step (inl s) = inl (s .0, record { place = s .1; same = s .2 })
     step (inr f) = inr (λ s. f (s .0) (s .1 .place) (s .1 .same))
 
-module _ (d b₀ : ℕ) (rs : List IndexRecord) (s : Structure d b₀ rs) where
+module _ (d : ℕ) (most : d ≤ 8) (rs : List IndexRecord) (s : Structure d rs) where
   index : (p : ℕ) → p < length rs → Index d (levelsAt rs p)
   index p h = s .index p h
 
   axis-in : (p a : ℕ) → p < length rs → a < 8 → a < length (levelsAt rs p)
   axis-in p a h l = omega (arith, index p h .eight)
-
-  most : d ≤ 8
-  most = s .axes .1
 
   only : (p : ℕ) → p < length rs → levelsAt rs p ≡ root → p ≡ 0
   only p h e = s .different p 0 h (omega arith) (e ∙ sym (s .first))
@@ -157,5 +154,5 @@ module _ (d b₀ : ℕ) (rs : List IndexRecord) (s : Structure d b₀ rs) where
         step (inl t) = (t .0, t .2)
         step (inr f) = absurd (impossible f)
 
-  pub followed : Followed d b₀ rs
-  followed = record { axes = s .axes; budget = s .budget; count = s .count; index = s .index; states = s .states; first = s .first; only = only; back-none = back-none; back = back; ahead = ahead; complete = complete }
+  pub followed : Followed d rs
+  followed = record { count = s .count; index = s .index; states = s .states; first = s .first; only = only; back-none = back-none; back = back; ahead = ahead; complete = complete }

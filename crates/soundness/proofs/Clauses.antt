@@ -12,19 +12,20 @@ use lib.IntN.{pos, natAbs}
 use lib.ListN.{length, getD}
 use Rattle.sums.specs.Sums.{natSumTo}
 use Rattle.grid.specs.Index.{level, Index, root, forward, backward}
-use Rattle.grid.specs.Block.{blockSize}
 use Rattle.grid.specs.Terms.{IsReading}
 use Rattle.grid.proofs.Levels.{within-sure, within-back}
 use Rattle.grid.proofs.Neighbours.{forward-backward}
 use Rattle.area.specs.declared.IndexRecord.{IndexRecord}
+use Rattle.area.specs.Settings.{readingCount, leastStore}
 use Rattle.area.specs.Entry.{deliveredOf, reservedBy, pendingOf}
 use Rattle.area.specs.Encoding.{Area, heldOf, entriesOf, none}
 use Rattle.quadrature.specs.Readings.{recordAt}
 use Rattle.soundness.specs.Held.{levelsAt, stateAt, forwardLink, backwardLink, Held, HeldOld}
-use Rattle.soundness.specs.Sound.{Names, Structure, Sound, LongEnough, Exactly}
+use Rattle.soundness.specs.Sound.{Names, Structure, NumbersSound, Sound, LongEnough, Exactly}
 use Rattle.soundness.specs.Test.{allFrom}
-use Rattle.soundness.specs.Clauses.{isHeld, isHeldOld, isIndex, names, isReading, axesClause, budgetClause, indexClause, beyondClause, statesClause, countClause, differentClause, firstClause, oldBehind, behindClause, heldIfAdmissible, admissibleClause, forwardLinksClause, backwardLinksClause, noBackwardLinkClause, structureClause, heldLentClause, wantedLastClause, wantedIdleClause, firstReadingsClause, reservedClause, withinBudgetClause, readingsClause, pendingClause, meanClause, isSound, ClauseFacts, checked}
+use Rattle.soundness.specs.Clauses.{isHeld, isHeldOld, isIndex, names, isReading, indexClause, beyondClause, statesClause, countClause, differentClause, firstClause, oldBehind, behindClause, heldIfAdmissible, admissibleClause, forwardLinksClause, backwardLinksClause, noBackwardLinkClause, structureClause, heldLentClause, wantedLastClause, wantedIdleClause, firstReadingsClause, readingsClause, numbersClause, isSound, ClauseFacts, checked}
 use Rattle.soundness.proofs.Exactly.{reads-as, reads-eq, reads-lt, reads-le, reads-not, reads-and, reads-if, reads-all-from, reads-all, reads-any, reads-same}
+use Rattle.soundness.proofs.Settings.{reads-settings}
 use Rattle.soundness.proofs.Levels.{axis-of, root-or}
 
 infixl 35 _and_
@@ -109,14 +110,12 @@ module _ (d : ℕ) (rs : List IndexRecord) where
       and reads-all _ _ (length rs) (λ p h.
       reads-if _ _ (reads-eq (stateAt rs p) 2) (reads-all _ _ d (λ a l. reads-held-if (forward (levelsAt rs p) a)))))
 
-  reads-structure : (b : ℕ) → Exactly (structureClause d b rs) (Structure d b rs)
-  unfolding structureClause axesClause budgetClause indexClause beyondClause statesClause countClause differentClause firstClause behindClause forwardLinksClause backwardLinksClause noBackwardLinkClause
-  reads-structure b =
+  reads-structure : Exactly (structureClause d rs) (Structure d rs)
+  unfolding structureClause indexClause beyondClause statesClause countClause differentClause firstClause behindClause forwardLinksClause backwardLinksClause noBackwardLinkClause
+  reads-structure =
       reads-as
-      (λ ((((((((((((axes, budget), index), beyond), states), count), different), first), behind), admissible), forward-links), backward-links), no-backward-link).
+      (λ ((((((((((index, beyond), states), count), different), first), behind), admissible), forward-links), backward-links), no-backward-link).
       record {
-        axes = axes;
-        budget = budget;
         index = index;
         beyond = λ p a h. beyond p h a;
         states = states;
@@ -129,10 +128,8 @@ module _ (d : ℕ) (rs : List IndexRecord) where
         backward-links = backward-links;
         no-backward-link = no-backward-link;
       })
-      (λ s. ((((((((((((s .axes, s .budget), s .index), λ p h a. s .beyond p a h), s .states), s .count), s .different), s .first), λ p h a. s .behind p a h), s .admissible), s .forward-links), s .backward-links), s .no-backward-link))
-      ((reads-le 1 d and reads-le d 8)
-      and (reads-le 1 b and reads-le b 8192)
-      and reads-all _ _ (length rs) (λ p h. reads-index d (levelsAt rs p))
+      (λ s. ((((((((((s .index, λ p h a. s .beyond p a h), s .states), s .count), s .different), s .first), λ p h a. s .behind p a h), s .admissible), s .forward-links), s .backward-links), s .no-backward-link))
+      (reads-all _ _ (length rs) (λ p h. reads-index d (levelsAt rs p))
       and reads-all _ _ (length rs) (λ p h. reads-beyond d (λ a. reads-eq (forwardLink rs p a) none and reads-eq (backwardLink rs p a) none))
       and reads-all _ _ (length rs) (λ p h. reads-le (stateAt rs p) 2)
       and (reads-le 1 (length rs) and reads-le (length rs) 512)
@@ -155,50 +152,57 @@ module _ (a : Area) where
       (reads-pairs (length rs) (length rs) (λ p q. reads-if _ _ (reads-le p q and reads-eq (stateAt rs p) 0) (reads-eq (stateAt rs q) 0)))
 
   reads-readings : Exactly (readingsClause a)
-      ((p n : ℕ) → p < length rs → 1 ≤ stateAt rs p → n < blockSize (levelsAt rs p)
+      ((p n : ℕ) → p < length rs → 1 ≤ stateAt rs p → n < readingCount (a .job .settings) (levelsAt rs p)
       → (recordAt rs p .first + n < length (a .store)) × IsReading (getD (a .store) (recordAt rs p .first + n) (pos 0)))
   unfolding readingsClause isReading
   reads-readings =
       reads-as (λ f p n h l. f p h l n) (λ f p h l n. f p n h l)
       (reads-all _ _ (length rs) (λ p h.
       reads-if _ _ (reads-le 1 (stateAt rs p))
-      (reads-all _ _ (blockSize (levelsAt rs p)) (λ n l.
+      (reads-all _ _ (readingCount (a .job .settings) (levelsAt rs p)) (λ n l.
       reads-lt (recordAt rs p .first + n) (length (a .store)) and reads-le (natAbs (getD (a .store) (recordAt rs p .first + n) (pos 0))) 1048576))))
 
+  reads-numbers : Exactly (numbersClause a) (NumbersSound a)
+  unfolding numbersClause
+  reads-numbers =
+      reads-as
+      (λ (((reserved, within-budget), pending), mean). record { reserved = reserved; within-budget = within-budget; pending = pending; mean = mean })
+      (λ n. (((n .reserved, n .within-budget), n .pending), n .mean))
+      (reads-eq (a .job .reserved) (reservedBy (entriesOf a))
+      and reads-le (a .job .reserved) (a .job .settings .budget)
+      and reads-eq (a .job .pending) (pendingOf (entriesOf a))
+      and reads-le (natAbs (a .job .mean)) (length (deliveredOf (entriesOf a)) * 2 ^ 40))
+
   pub reads-sound : Exactly (isSound a) (Sound a)
-  unfolding isSound heldLentClause wantedIdleClause firstReadingsClause reservedClause withinBudgetClause pendingClause meanClause
+  unfolding isSound heldLentClause wantedIdleClause firstReadingsClause
   reads-sound =
       reads-as
-      (λ (((((((((lent, structure), wanted-last), wanted-idle), first-readings), reserved), within-budget), readings), pending), mean).
+      (λ (((((((lent, settings), structure), wanted-last), wanted-idle), first-readings), readings), numbers).
       record {
         held-lent = lent;
+        settings = settings;
         structure = structure;
         wanted-last = wanted-last;
         wanted-idle = wanted-idle;
         first-readings = first-readings;
-        reserved = reserved;
-        within-budget = within-budget;
         readings = readings;
-        pending = pending;
-        mean = mean;
+        numbers = numbers;
       })
-      (λ s. (((((((((s .held-lent, s .structure), s .wanted-last), s .wanted-idle), s .first-readings), s .reserved), s .within-budget), s .readings), s .pending), s .mean))
+      (λ s. (((((((s .held-lent, s .settings), s .structure), s .wanted-last), s .wanted-idle), s .first-readings), s .readings), s .numbers))
       (reads-le (a .job .held) (length (a .run .records))
-      and reads-structure (a .job .axes) rs (a .job .budget)
+      and reads-settings (a .job .settings)
+      and reads-structure (a .job .settings .axes) rs
       and reads-wanted-last
       and reads-all _ _ (length rs) (λ p h. reads-if _ _ (reads-eq (stateAt rs p) 0) (reads-eq (recordAt rs p .indicator) 0))
-      and reads-all _ _ (length rs) (λ p h. reads-eq (recordAt rs p .first) (natSumTo p (λ q. blockSize (levelsAt rs q))))
-      and reads-eq (a .job .reserved) (reservedBy (entriesOf a))
-      and reads-le (a .job .reserved) (a .job .budget)
+      and reads-all _ _ (length rs) (λ p h. reads-eq (recordAt rs p .first) (natSumTo p (λ q. readingCount (a .job .settings) (levelsAt rs q))))
       and reads-readings
-      and reads-eq (a .job .pending) (pendingOf (entriesOf a))
-      and reads-le (natAbs (a .job .mean)) (length (deliveredOf (entriesOf a)) * 2 ^ 40))
+      and reads-numbers)
 
 pub reads-checked : (a : Area) → Exactly (checked a) (LongEnough a × Sound a)
 unfolding checked
 reads-checked a =
     reads-as (λ ((records, store), sound). (record { records = records; store = store }, sound)) (λ x. ((x .0 .records, x .0 .store), x .1))
-    (reads-le 512 (length (a .run .records)) and reads-le (a .job .budget) (length (a .store)) and reads-sound a)
+    (reads-le 512 (length (a .run .records)) and reads-le (leastStore (a .job .settings)) (length (a .store)) and reads-sound a)
 
 pub clause-facts : ClauseFacts
-clause-facts = record { agree = reads-sound; answer = reads-checked }
+clause-facts = record { agree = reads-sound; answer = reads-checked; settings = reads-settings }

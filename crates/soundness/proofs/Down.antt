@@ -32,7 +32,7 @@ once (r ∷ rs) u =
     step true n = (out, n)
     step false n = n
 
-module _ (d b₀ : ℕ) (rs : List IndexRecord) (s : Structure d b₀ rs) where
+module _ (d : ℕ) (rs : List IndexRecord) (s : Structure d rs) where
   index-of : (k : List ℕ) → List·Memᴰ k (deliveredIn rs) → Index d k
   index-of k m = let x = delivered-sure rs k m in subst (Index d) (x .levels) (s .index (x .place) (x .inside))
 

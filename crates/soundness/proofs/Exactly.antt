@@ -25,6 +25,15 @@ same-answer true c r s = sym (s .back (r .sure refl))
 same-answer false true r s = r .back (s .sure refl)
 same-answer false false r s = refl
 
+-- a refuted statement makes the answer no, and tests of statements that follow from each other answer alike
+pub refuted : (b : Bool) {P : Type 0} → Exactly b P → (P → ⊥) → b ≡ false
+refuted true r n = absurd (n (r .sure refl))
+refuted false r n = refl
+
+pub same : (a b : Bool) {P Q : Type 0} → Exactly a P → Exactly b Q → (P → Q) → (Q → P) → a ≡ b
+same true b r s f g = sym (s .back (f (r .sure refl)))
+same false b r s f g = sym (refuted b s (λ q. let e = r .back (g q) in let z : _≡_ {A = ℕ} 0 1 = cc in omega arith))
+
 pub reads-eq : (m n : ℕ) → Exactly (eqb m n) (m ≡ n)
 reads-eq m n = record { sure = eqb-true m n; back = eq-eqb m n }
 

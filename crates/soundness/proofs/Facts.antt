@@ -7,6 +7,7 @@ use lib.ListN.{length}
 use lib.Seq.{getD-take, length-take-le}
 use Rattle.area.specs.declared.IndexRecord.{IndexRecord}
 use Rattle.area.specs.Records.{blank}
+use Rattle.area.specs.Settings.{leastStore}
 use Rattle.area.specs.Encoding.{Area, heldOf}
 use Rattle.quadrature.specs.Readings.{recordAt}
 use Rattle.quadrature.specs.Ready.{Ready, AllReady}
@@ -22,8 +23,8 @@ use Rattle.soundness.proofs.Totals.{reads-area}
 use Rattle.soundness.proofs.Gives.{structure-linked, sound-ready}
 use Rattle.soundness.proofs.Down.{delivered-down}
 
-module _ (a : Area) (sound : Sound a) (room : a .job .budget ≤ length (a .store)) where
-  ready : (k : List ℕ) → List·Memᴰ k (deliveredIn (heldOf a)) → Ready (a .job .axes) (heldOf a) (a .store) k
+module _ (a : Area) (sound : Sound a) (room : leastStore (a .job .settings) ≤ length (a .store)) where
+  ready : (k : List ℕ) → List·Memᴰ k (deliveredIn (heldOf a)) → Ready (a .job .settings .axes) (heldOf a) (a .store) k
   ready k m =
       let x = delivered-sure (heldOf a) k m in
       sound-ready a sound room k (x .place) (record { place = x .inside; same = x .levels }) (x .delivered)
@@ -31,7 +32,7 @@ module _ (a : Area) (sound : Sound a) (room : a .job .budget ≤ length (a .stor
   held-count : length (heldOf a) ≡ a .job .held
   held-count = length-take-le (a .job .held) (a .run .records) (sound .held-lent)
 
-  ready-at : (p : ℕ) → p < a .job .held → 1 ≤ recordAt (a .run .records) p .state → Ready (a .job .axes) (a .run .records) (a .store) (recordAt (a .run .records) p .levels)
+  ready-at : (p : ℕ) → p < a .job .held → 1 ≤ recordAt (a .run .records) p .state → Ready (a .job .settings .axes) (a .run .records) (a .store) (recordAt (a .run .records) p .levels)
   ready-at p h w =
       let e : recordAt (heldOf a) p ≡ recordAt (a .run .records) p = getD-take (a .job .held) (a .run .records) p blank h in
       held-ready (a .job .held) (a .run .records)
@@ -39,7 +40,7 @@ module _ (a : Area) (sound : Sound a) (room : a .job .budget ≤ length (a .stor
       (record { place = omega (arith, held-count); same = ap (λ (r : IndexRecord). r .levels) e })
       (subst (λ (r : IndexRecord). 1 ≤ r .state) (sym e) w))
 
-  all-ready : AllReady (a .job .axes) (a .job .held) (a .run .records) (a .store)
+  all-ready : AllReady (a .job .settings .axes) (a .job .held) (a .run .records) (a .store)
   all-ready = record { few = omega (arith, held-count, sound .structure .count .1); room = sound .held-lent; ready = ready-at }
 
 pub follow-facts : FollowFacts
@@ -47,7 +48,7 @@ follow-facts =
     record {
       accepted = structure;
       accepts = followed;
-      tested = λ d b rs formed. reads-structure d rs b formed;
+      tested = λ d few rs formed. reads-structure d rs few formed;
       whole = reads-area;
     }
 
@@ -56,6 +57,6 @@ sound-facts =
     record {
       ready = ready;
       all-ready = all-ready;
-      linked = λ a sound. structure-linked (a .job .axes) (a .job .budget) (heldOf a) (sound .structure);
-      down = λ a sound. delivered-down (a .job .axes) (a .job .budget) (heldOf a) (sound .structure);
+      linked = λ a sound. structure-linked (a .job .settings .axes) (sound .settings .axes .1) (heldOf a) (sound .structure);
+      down = λ a sound. delivered-down (a .job .settings .axes) (heldOf a) (sound .structure);
     }

@@ -22,7 +22,7 @@ pub none-far : 512 ≤ none
 unfolding none
 none-far = omega arith
 
-module _ (d b₀ : ℕ) (rs : List IndexRecord) (f : Followed d b₀ rs) where
+module _ (d : ℕ) (most : d ≤ 8) (rs : List IndexRecord) (f : Followed d rs) where
   index : (p : ℕ) → p < length rs → Index d (levelsAt rs p)
   index p h = f .index p h
 
@@ -116,9 +116,6 @@ module _ (d b₀ : ℕ) (rs : List IndexRecord) (f : Followed d b₀ rs) where
 
   -- ---- completeness
   module _ (k : List ℕ) (i : Index d k) (all : (a : ℕ) → a < d → 1 < level k a → HeldOld rs (backward k a)) where
-    most : d ≤ 8
-    most = f .axes .1
-
     -- p is the backward neighbour of k along a
     module _ (p a : ℕ) (ha : a < d) (l : 1 < level k a) (s : Holds rs (backward k a) p) (o : stateAt rs p ≡ 2) where
       in-k : a < length k
@@ -172,11 +169,9 @@ module _ (d b₀ : ℕ) (rs : List IndexRecord) (f : Followed d b₀ rs) where
             let t : HeldOld rs (backward k (s .0)) = all (s .0) ha (s .2) in
             taken (t .0) (s .0) ha (s .2) (t .1) (t .2) (f .ahead (t .0) (s .0) (t .1 .place) (s .1))
 
-  pub structure : Structure d b₀ rs
+  pub structure : Structure d rs
   structure =
       record {
-        axes = f .axes;
-        budget = f .budget;
         index = f .index;
         states = f .states;
         count = f .count;
@@ -193,4 +188,4 @@ module _ (d b₀ : ℕ) (rs : List IndexRecord) (f : Followed d b₀ rs) where
       }
     where
       axis : {a : ℕ} → a < d → a < 8
-      axis h = omega (arith, f .axes .1)
+      axis h = omega (arith, most)

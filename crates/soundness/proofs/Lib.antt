@@ -3,6 +3,7 @@ pub mod Levels
 pub mod Forth
 pub mod Back
 pub mod Exactly
+pub mod Settings
 pub mod Tests
 pub mod Lower
 pub mod Sizes

@@ -41,7 +41,7 @@ pub held-place : (rs : List IndexRecord) (k : List ℕ) → Held rs k → placeI
 unfolding placeOf
 held-place rs k h = omega (arith, place-below 0 (h .0) rs k (h .1 .place) (h .1 .same))
 
-module _ (d b₀ : ℕ) (rs : List IndexRecord) (s : Structure d b₀ rs) where
+module _ (d : ℕ) (rs : List IndexRecord) (s : Structure d rs) where
   pub place-is : (k : List ℕ) (p : ℕ) → Holds rs k p → placeIn rs k ≡ p
   place-is k p h =
       let inside = held-place rs k (p, h) in

@@ -19,7 +19,7 @@ use Rattle.soundness.specs.Held.{levelsAt, stateAt, forwardLink, backwar
 use Rattle.soundness.specs.Sound.{Exactly, Structure}
 use Rattle.soundness.specs.Follow.{Behind, Ahead, Bars, Followed}
 use Rattle.soundness.specs.Test.{allFrom, indexTest, rootTest, behindTest, backTest, aheadTest, axisTest, placeTest, placesTest, barsTest, openTest, completeTest, allCompleteTest, followedTest}
-use Rattle.soundness.proofs.Exactly.{reads-as, reads-eq, reads-lt, reads-le, reads-not, reads-and, reads-then, reads-cond, reads-or, reads-if, reads-all-from, reads-all, reads-any, reads-same}
+use Rattle.soundness.proofs.Exactly.{reads-as, reads-eq, reads-lt, reads-le, reads-not, reads-and, reads-cond, reads-or, reads-if, reads-all-from, reads-all, reads-any, reads-same}
 use Rattle.soundness.proofs.Forth.{structure}
 use Rattle.soundness.proofs.Back.{followed}
 
@@ -127,75 +127,58 @@ module _ (d : ℕ) (rs : List IndexRecord) where
       (reads-all (openTest d rs p) (Open p) d (λ a ha. reads-open p a))
 
   -- every record has eight levels, as whatever is read from cells has
-  module _ (b₀ : ℕ) (formed : (p : ℕ) → p < length rs → length (levelsAt rs p) ≡ 8) where
+  module _ (few : d ≤ 8) (formed : (p : ℕ) → p < length rs → length (levelsAt rs p) ≡ 8) where
     abbrev Whole : Type 0
-    Whole =
-        ((1 ≤ d) × (d ≤ 8))
-        × (((1 ≤ b₀) × (b₀ ≤ 8192))
-        × (((1 ≤ length rs) × (length rs ≤ 512)) × (((p : ℕ) → p < length rs → Place p) × ((p : ℕ) → p < length rs → Complete p))))
+    Whole = ((1 ≤ length rs) × (length rs ≤ 512)) × (((p : ℕ) → p < length rs → Place p) × ((p : ℕ) → p < length rs → Complete p))
 
-    there : Whole → Followed d b₀ rs
-    there x =
+    there : Whole → Followed d rs
+    there (count, (place, complete)) =
         record {
-          axes = x .0;
-          budget = x .1 .0;
-          count = x .1 .1 .0;
+          count = count;
           index = λ p h. place p h .index;
           states = λ p h. place p h .states;
-          first = place 0 (x .1 .1 .0 .0) .roots .0 refl;
+          first = place 0 (count .0) .roots .0 refl;
           only = λ p h e. zero-or p h e (ℕ-discrete p 0);
           back-none = λ p a h h8 l. place p h .axes a h8 .0 .0 l;
           back = λ p a h h8 l. place p h .axes a h8 .0 .1 (λ m. omega arith);
           ahead = λ p a h h8. place p h .axes a h8 .1;
-          complete = λ p a h ha o e l m. let t : (c : ℕ) × (c < d) × Bars d rs p a c = x .1 .1 .1 .1 p h (o, m) a ha (e, l) in (t .0, t .2);
+          complete = λ p a h ha o e l m. let t : (c : ℕ) × (c < d) × Bars d rs p a c = complete p h (o, m) a ha (e, l) in (t .0, t .2);
         }
       where
-        place : (p : ℕ) → p < length rs → Place p
-        place = x .1 .1 .1 .0
-
         zero-or : (p : ℕ) → p < length rs → levelsAt rs p ≡ root → Dec (p ≡ 0) → p ≡ 0
         zero-or p h e (yes z) = z
         zero-or p h e (no z) = absurd (place p h .roots .1 z e)
 
-    here : Followed d b₀ rs → Whole
+    here : Followed d rs → Whole
     here f = (
-      f .axes,
+      f .count,
       (
-        f .budget,
-        (
-          f .count,
-          (
-            λ p h.
-                record {
-                  index = f .index p h;
-                  states = f .states p h;
-                  roots = (λ e. rw e (f .first), λ n e. n (f .only p h e));
-                  axes = λ a h8. ((f .back-none p a h h8, λ n. f .back p a h h8 (omega arith)), f .ahead p a h h8);
-                },
-            λ p h o a ha w.
-                let t : (c : ℕ) × Bars d rs p a c = f .complete p a h ha (o .0) (w .0) (w .1) (o .1) in
-                (t .0, t .1 .axis, t .1),
-          ),
-        ),
+        λ p h.
+            record {
+              index = f .index p h;
+              states = f .states p h;
+              roots = (λ e. rw e (f .first), λ n e. n (f .only p h e));
+              axes = λ a h8. ((f .back-none p a h h8, λ n. f .back p a h h8 (omega arith)), f .ahead p a h h8);
+            },
+        λ p h o a ha w.
+            let t : (c : ℕ) × Bars d rs p a c = f .complete p a h ha (o .0) (w .0) (w .1) (o .1) in
+            (t .0, t .1 .axis, t .1),
       ),
     )
 
-    pub reads-places : d ≤ 8 → Exactly (placesTest d rs) ((p : ℕ) → p < length rs → Place p)
+    pub reads-places : Exactly (placesTest d rs) ((p : ℕ) → p < length rs → Place p)
     unfolding placesTest
-    reads-places few = reads-all (placeTest d rs) Place (length rs) (λ p h. reads-place few p (formed p h))
+    reads-places = reads-all (placeTest d rs) Place (length rs) (λ p h. reads-place few p (formed p h))
 
     pub reads-completes : Exactly (allCompleteTest d rs) ((p : ℕ) → p < length rs → Complete p)
     unfolding allCompleteTest
     reads-completes = reads-all (completeTest d rs) Complete (length rs) (λ p h. reads-complete p)
 
-    pub reads-followed : Exactly (followedTest d b₀ rs) (Followed d b₀ rs)
+    pub reads-followed : Exactly (followedTest d rs) (Followed d rs)
     unfolding followedTest
     reads-followed =
-        reads-as there here
-        (reads-then _ _ (reads-and _ _ (reads-le 1 d) (reads-le d 8)) (λ h.
-        reads-and _ _ (reads-and _ _ (reads-le 1 b₀) (reads-le b₀ 8192))
-        (reads-and _ _ (reads-and _ _ (reads-le 1 (length rs)) (reads-le (length rs) 512)) (reads-and _ _ (reads-places (h .1)) reads-completes))))
+        reads-as there here (reads-and _ _ (reads-and _ _ (reads-le 1 (length rs)) (reads-le (length rs) 512)) (reads-and _ _ reads-places reads-completes))
 
     -- the test says yes exactly if the held indices and links are those of a sound area
-    pub reads-structure : Exactly (followedTest d b₀ rs) (Structure d b₀ rs)
-    reads-structure = reads-as (structure d b₀ rs) (followed d b₀ rs) reads-followed
+    pub reads-structure : Exactly (followedTest d rs) (Structure d rs)
+    reads-structure = reads-as (structure d few rs) (followed d few rs) reads-followed

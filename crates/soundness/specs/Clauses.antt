@@ -1,6 +1,7 @@
 -- Soundness as a Boolean, for definitions that ask whether an area is sound. Each field of `Structure` and of `Sound` has one definition
--- here, in the same order and with the same words, worked by searching through all places. It is never run, so it may be slow; the
--- check that is run follows links (`Test`, `Totals`). `cond b c true` says: if b then c.
+-- here, in the same order and with the same words, worked by searching through all places; the job record's numbers have one together, and
+-- that of the settings is `settingsFit` (crate `area`). It is never run, so it may be slow; the check that is run follows links (`Test`,
+-- `Totals`). `cond b c true` says: if b then c.
 use mathlib.Core.Bool.{Bool, true, not, cond, _&&_}
 use mathlib.Core.List.{List}
 use Prim.Native.Nat.{ℕ, _+_, _*_, _-_, _^_}
@@ -9,9 +10,10 @@ use lib.IntN.{ℤ, pos, natAbs}
 use lib.ListN.{length, getD}
 use Rattle.sums.specs.Sums.{natSumTo}
 use Rattle.grid.specs.Index.{level, within, root, forward, backward}
-use Rattle.grid.specs.Block.{blockSize}
 use Rattle.grid.specs.Coefficient.{sameLevels}
 use Rattle.area.specs.declared.IndexRecord.{IndexRecord}
+use Rattle.area.specs.declared.Settings.{Settings}
+use Rattle.area.specs.Settings.{SettingsFit, settingsFit, readingCount, leastStore}
 use Rattle.area.specs.Entry.{deliveredOf, reservedBy, pendingOf}
 use Rattle.area.specs.Encoding.{Area, heldOf, entriesOf, none}
 use Rattle.quadrature.specs.Readings.{recordAt}
@@ -42,13 +44,7 @@ isReading x = leb (natAbs x) 1048576
 
 -- ---- the clauses on the held indices and their links
 
--- d, budget, levels and excess are in range; levels beyond axis d are 1
-unfoldable pub axesClause : ℕ → Bool
-axesClause d = leb 1 d && leb d 8
-
-unfoldable pub budgetClause : ℕ → Bool
-budgetClause b = leb 1 b && leb b 8192
-
+-- levels and excess are in range; levels beyond axis d are 1
 unfoldable pub indexClause : ℕ → List IndexRecord → Bool
 indexClause d rs = allFrom (length rs) 0 (λ p. isIndex d (levelsAt rs p))
 
@@ -104,12 +100,10 @@ unfoldable pub noBackwardLinkClause : ℕ → List IndexRecord → Bool
 noBackwardLinkClause d rs =
     allFrom (length rs) 0 (λ p. allFrom d 0 (λ a. cond (eqb (level (levelsAt rs p) a) 1) (eqb (backwardLink rs p a) none) true))
 
--- All of them. d is the number of axes, b the budget, rs the held records.
-unfoldable pub structureClause : ℕ → ℕ → List IndexRecord → Bool
-structureClause d b rs =
-    axesClause d
-    && budgetClause b
-    && indexClause d rs
+-- All of them. d is the number of axes, rs the held records.
+unfoldable pub structureClause : ℕ → List IndexRecord → Bool
+structureClause d rs =
+    indexClause d rs
     && beyondClause d rs
     && statesClause rs
     && countClause rs
@@ -137,53 +131,47 @@ unfoldable pub wantedIdleClause : Area → Bool
 wantedIdleClause a =
     allFrom (length (heldOf a)) 0 (λ p. cond (eqb (stateAt (heldOf a) p) 0) (eqb (recordAt (heldOf a) p .indicator) 0) true)
 
--- first readings are the running sum of block sizes
+-- first readings are the running sum of block sizes, in readings
 unfoldable pub firstReadingsClause : Area → Bool
 firstReadingsClause a =
-    allFrom (length (heldOf a)) 0 (λ p. eqb (recordAt (heldOf a) p .first) (natSumTo p (λ q. blockSize (levelsAt (heldOf a) q))))
-
--- reserved is the sum of the held blocks' sizes and within the budget
-unfoldable pub reservedClause : Area → Bool
-reservedClause a = eqb (a .job .reserved) (reservedBy (entriesOf a))
-
-unfoldable pub withinBudgetClause : Area → Bool
-withinBudgetClause a = leb (a .job .reserved) (a .job .budget)
+    allFrom (length (heldOf a)) 0 (λ p. eqb (recordAt (heldOf a) p .first) (natSumTo p (λ q. readingCount (a .job .settings) (levelsAt (heldOf a) q))))
 
 -- delivered readings are in range
 unfoldable pub readingsClause : Area → Bool
 readingsClause a =
     allFrom (length (heldOf a)) 0 (λ p.
     cond (leb 1 (stateAt (heldOf a) p))
-    (allFrom (blockSize (levelsAt (heldOf a) p)) 0 (λ n.
+    (allFrom (readingCount (a .job .settings) (levelsAt (heldOf a) p)) 0 (λ n.
     ltb (recordAt (heldOf a) p .first + n) (length (a .store)) && isReading (getD (a .store) (recordAt (heldOf a) p .first + n) (pos 0)))) true)
 
--- the pending error is the active sum
-unfoldable pub pendingClause : Area → Bool
-pendingClause a = eqb (a .job .pending) (pendingOf (entriesOf a))
-
+-- the job record's own numbers: reserved is the sum of the held blocks' sizes and within the budget; the pending error is the active sum;
 -- the scaled mean is in size at most the delivered count times 2^40
-unfoldable pub meanClause : Area → Bool
-meanClause a = leb (natAbs (a .job .mean)) (length (deliveredOf (entriesOf a)) * 2 ^ 40)
+unfoldable pub numbersClause : Area → Bool
+numbersClause a =
+    eqb (a .job .reserved) (reservedBy (entriesOf a))
+    && leb (a .job .reserved) (a .job .settings .budget)
+    && eqb (a .job .pending) (pendingOf (entriesOf a))
+    && leb (natAbs (a .job .mean)) (length (deliveredOf (entriesOf a)) * 2 ^ 40)
 
 -- Whether an area is sound: the clauses, in order.
 unfoldable pub isSound : Area → Bool
 isSound a =
     heldLentClause a
-    && structureClause (a .job .axes) (a .job .budget) (heldOf a)
+    && settingsFit (a .job .settings)
+    && structureClause (a .job .settings .axes) (heldOf a)
     && wantedLastClause a
     && wantedIdleClause a
     && firstReadingsClause a
-    && reservedClause a
-    && withinBudgetClause a
     && readingsClause a
-    && pendingClause a
-    && meanClause a
+    && numbersClause a
 
 -- **Check** answers yes exactly if the area is sound; it says no to short storage.
 unfoldable pub checked : Area → Bool
-checked a = leb 512 (length (a .run .records)) && leb (a .job .budget) (length (a .store)) && isSound a
+checked a = leb 512 (length (a .run .records)) && leb (leastStore (a .job .settings)) (length (a .store)) && isSound a
 
 -- They say yes exactly if the area is sound, and lies in storage that is long enough, whatever the area.
 pub record ClauseFacts : Type 0 where
   pub agree : (a : Area) → Exactly (isSound a) (Sound a)
   pub answer : (a : Area) → Exactly (checked a) (LongEnough a × Sound a)
+  -- and so do the settings' Booleans
+  pub settings : (g : Settings) → Exactly (settingsFit g) (SettingsFit g)

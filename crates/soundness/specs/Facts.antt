@@ -5,6 +5,7 @@ use Prim.Native.Nat.{ℕ, _<_, _≤_}
 use lib.ListN.{length}
 use Rattle.grid.specs.Terms.{DownSet}
 use Rattle.area.specs.declared.IndexRecord.{IndexRecord}
+use Rattle.area.specs.Settings.{leastStore}
 use Rattle.area.specs.Encoding.{Area, heldOf}
 use Rattle.quadrature.specs.Ready.{Ready, AllReady}
 use Rattle.quadrature.specs.Linked.{deliveredIn, Linked}
@@ -14,22 +15,22 @@ use Rattle.soundness.specs.Follow.{Followed}
 use Rattle.soundness.specs.Test.{followedTest}
 use Rattle.soundness.specs.Totals.{areaTest}
 
--- Following links accepts exactly the held indices and links of a sound area.
+-- Following links accepts exactly the held indices and links of a sound area; d is at most 8.
 pub record FollowFacts : Type 0 where
-  pub accepted : (d b : ℕ) (rs : List IndexRecord) → Followed d b rs → Structure d b rs
-  pub accepts : (d b : ℕ) (rs : List IndexRecord) → Structure d b rs → Followed d b rs
+  pub accepted : (d : ℕ) → d ≤ 8 → (rs : List IndexRecord) → Followed d rs → Structure d rs
+  pub accepts : (d : ℕ) → d ≤ 8 → (rs : List IndexRecord) → Structure d rs → Followed d rs
   -- and as a test, on records of eight levels, it says yes exactly then
-  pub tested : (d b : ℕ) (rs : List IndexRecord) → ((p : ℕ) → p < length rs → length (levelsAt rs p) ≡ 8) → Exactly (followedTest d b rs) (Structure d b rs)
+  pub tested : (d : ℕ) → d ≤ 8 → (rs : List IndexRecord) → ((p : ℕ) → p < length rs → length (levelsAt rs p) ≡ 8) → Exactly (followedTest d rs) (Structure d rs)
   -- and the whole test says yes exactly if the area is sound and lies in storage that is long enough
   pub whole : (a : Area) → ((p : ℕ) → p < length (heldOf a) → length (levelsAt (heldOf a) p) ≡ 8) → Exactly (areaTest a) (LongEnough a × Sound a)
 
--- In a sound area; where readings are asked for, the store is no shorter than the budget:
+-- In a sound area; where readings are asked for, the store is long enough:
 pub record SoundFacts : Type 0 where
   -- every delivered index is ready, among the held and for the sum over the places, so its difference and tensor rule can be worked
-  pub ready : (a : Area) → Sound a → a .job .budget ≤ length (a .store) → (k : List ℕ) → List·Memᴰ k (deliveredIn (heldOf a))
-      → Ready (a .job .axes) (heldOf a) (a .store) k
-  pub all-ready : (a : Area) → Sound a → a .job .budget ≤ length (a .store) → AllReady (a .job .axes) (a .job .held) (a .run .records) (a .store)
+  pub ready : (a : Area) → Sound a → leastStore (a .job .settings) ≤ length (a .store) → (k : List ℕ) → List·Memᴰ k (deliveredIn (heldOf a))
+      → Ready (a .job .settings .axes) (heldOf a) (a .store) k
+  pub all-ready : (a : Area) → Sound a → leastStore (a .job .settings) ≤ length (a .store) → AllReady (a .job .settings .axes) (a .job .held) (a .run .records) (a .store)
   -- the held records are linked, so coefficients can be worked
-  pub linked : (a : Area) → Sound a → Linked (a .job .axes) (heldOf a)
+  pub linked : (a : Area) → Sound a → Linked (a .job .settings .axes) (heldOf a)
   -- and the delivered indices are what the combination identity asks for
   pub down : (a : Area) → Sound a → DownSet (deliveredIn (heldOf a))

@@ -5,6 +5,8 @@ use Prim.Native.Nat.{ℕ, _+_, _<_}
 use lib.ListN.{length, getD}
 use Rattle.grid.specs.Block.{blockSize}
 use Rattle.area.specs.declared.IndexRecord.{IndexRecord}
+use Rattle.area.specs.declared.Settings.{Settings}
+use Rattle.area.specs.Settings.{readingCount}
 use Rattle.quadrature.specs.Readings.{recordAt}
 
 abbrev pub levelsAt : List IndexRecord → ℕ → List ℕ
@@ -21,9 +23,12 @@ forwardLink rs p a = getD (recordAt rs p .links) a 0
 abbrev pub backwardLink : List IndexRecord → ℕ → ℕ → ℕ
 backwardLink rs p a = getD (recordAt rs p .links) (8 + a) 0
 
--- The size of the block of a place.
+-- How many points the block of a place has, and how many readings.
 abbrev pub sizeAt : List IndexRecord → ℕ → ℕ
 sizeAt rs p = blockSize (levelsAt rs p)
+
+abbrev pub countAt : Settings → List IndexRecord → ℕ → ℕ
+countAt g rs p = readingCount g (levelsAt rs p)
 
 -- The place p holds the index k.
 pub record Holds (rs : List IndexRecord) (k : List ℕ) (p : ℕ) : Type 0 where

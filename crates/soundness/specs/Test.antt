@@ -71,7 +71,5 @@ completeTest d rs p = cond (eqb (stateAt rs p) 2 && ltb (excess (levelsAt rs p))
 unfoldable pub allCompleteTest : ℕ → List IndexRecord → Bool
 allCompleteTest d rs = allFrom (length rs) 0 (completeTest d rs)
 
-unfoldable pub followedTest : ℕ → ℕ → List IndexRecord → Bool
-followedTest d b rs =
-    (leb 1 d && leb d 8)
-    && ((leb 1 b && leb b 8192) && ((leb 1 (length rs) && leb (length rs) 512) && (placesTest d rs && allCompleteTest d rs)))
+unfoldable pub followedTest : ℕ → List IndexRecord → Bool
+followedTest d rs = (leb 1 (length rs) && leb (length rs) 512) && (placesTest d rs && allCompleteTest d rs)

@@ -8,9 +8,11 @@ use lib.ListN.{length, getD}
 use Rattle.sums.specs.Sums.{natSumTo}
 use Rattle.area.specs.declared.IndexRecord.{IndexRecord}
 use Rattle.area.specs.declared.JobRecord.{JobRecord}
+use Rattle.area.specs.declared.Settings.{Settings}
+use Rattle.area.specs.Settings.{settingsFit, readingsFor, leastStore}
 use Rattle.area.specs.Encoding.{Area, heldOf}
 use Rattle.quadrature.specs.Readings.{recordAt}
-use Rattle.soundness.specs.Held.{stateAt, sizeAt}
+use Rattle.soundness.specs.Held.{stateAt, countAt}
 use Rattle.soundness.specs.Test.{allFrom, placesTest, allCompleteTest}
 
 -- A wanted place has indicator 0, and the next place is wanted too.
@@ -25,16 +27,16 @@ allWantedTest rs = allFrom (length rs) 0 (wantedTest rs)
 unfoldable pub readingTest : List ℤ → ℕ → Bool
 readingTest s i = leb (natAbs (getD s i (pos 0))) 1048576
 
--- The block of a place begins where those before it end, ends within the budget b, and has readings in range unless it is wanted.
-unfoldable pub blockTest : ℕ → List IndexRecord → List ℤ → ℕ → Bool
-blockTest b rs s p =
-    eqb (recordAt rs p .first) (natSumTo p (sizeAt rs))
-    && (leb (natSumTo p (sizeAt rs) + sizeAt rs p) b
-    && cond (eqb (stateAt rs p) 0) true (allFrom (sizeAt rs p) (natSumTo p (sizeAt rs)) (readingTest s)))
+-- The block of a place begins where those before it end, ends within the least store, and has readings in range unless it is wanted.
+unfoldable pub blockTest : Settings → List IndexRecord → List ℤ → ℕ → Bool
+blockTest g rs s p =
+    eqb (recordAt rs p .first) (natSumTo p (countAt g rs))
+    && (leb (natSumTo p (countAt g rs) + countAt g rs p) (leastStore g)
+    && cond (eqb (stateAt rs p) 0) true (allFrom (countAt g rs p) (natSumTo p (countAt g rs)) (readingTest s)))
 
--- All blocks; together they come to the reserved readings r.
-unfoldable pub blocksTest : ℕ → ℕ → List IndexRecord → List ℤ → Bool
-blocksTest r b rs s = allFrom (length rs) 0 (blockTest b rs s) && eqb (natSumTo (length rs) (sizeAt rs)) r
+-- All blocks; together they come to the readings of the reserved points r.
+unfoldable pub blocksTest : Settings → ℕ → List IndexRecord → List ℤ → Bool
+blocksTest g r rs s = allFrom (length rs) 0 (blockTest g rs s) && eqb (natSumTo (length rs) (countAt g rs)) (readingsFor g r)
 
 -- The sum of the active indicators and the number of delivered places, along the places.
 unfoldable pub pendingIn : List IndexRecord → ℕ
@@ -43,19 +45,17 @@ pendingIn rs = natSumTo (length rs) (λ p. cond (eqb (stateAt rs p) 1) (recordAt
 unfoldable pub deliveredCount : List IndexRecord → ℕ
 deliveredCount rs = natSumTo (length rs) (λ p. cond (eqb (stateAt rs p) 0) 0 1)
 
--- Axes, budget and held are in range, and lent storage of so many records and readings is long enough.
+-- Settings and held are in range, and lent storage of so many records and readings is long enough.
 unfoldable pub jobTest : JobRecord → ℕ → ℕ → Bool
 jobTest j records readings =
-    leb 512 records
-    && (leb (j .budget) readings
-    && (leb 1 (j .axes) && (leb (j .axes) 8 && (leb 1 (j .budget) && (leb (j .budget) 8192 && (leb 1 (j .held) && leb (j .held) 512))))))
+    leb 512 records && (leb (leastStore (j .settings)) readings && (settingsFit (j .settings) && (leb 1 (j .held) && leb (j .held) 512)))
 
 -- The held records, and the figures that the job record has of them.
 unfoldable pub heldTest : JobRecord → List IndexRecord → List ℤ → Bool
 heldTest j rs s =
-    (placesTest (j .axes) rs && allCompleteTest (j .axes) rs)
+    (placesTest (j .settings .axes) rs && allCompleteTest (j .settings .axes) rs)
     && (allWantedTest rs
-    && (blocksTest (j .reserved) (j .budget) rs s && (eqb (pendingIn rs) (j .pending) && leb (natAbs (j .mean)) (deliveredCount rs * 2 ^ 40))))
+    && (blocksTest (j .settings) (j .reserved) rs s && (eqb (pendingIn rs) (j .pending) && leb (natAbs (j .mean)) (deliveredCount rs * 2 ^ 40))))
 
 unfoldable pub areaTest : Area → Bool
 areaTest a = jobTest (a .job) (length (a .run .records)) (length (a .store)) && heldTest (a .job) (heldOf a) (a .store)

@@ -10,7 +10,6 @@ use Prim.Native.Nat.{ℕ, zero, suc, _+_, _<_, _≤_}
 use native.Mathlib.Omega.{arith}
 use borrow.Author.Tests.{lt-leb}
 use lib.Dec.{eqb}
-use lib.IntN.{ℤ}
 use lib.ListN.{length, set, drop, length-append, length-map, length-set}
 use Rattle.grid.specs.Index.{level, Within, within, Index, forward, backward}
 use Rattle.grid.specs.Coefficient.{sameLevels}
@@ -19,12 +18,15 @@ use Rattle.grid.proofs.Members.{same-sure}
 use Rattle.grid.proofs.Neighbours.{forward-length, forward-level, forward-other, backward-forward}
 use Rattle.area.specs.declared.IndexRecord.{IndexRecord}
 use Rattle.area.specs.Entry.{Entry, reservedBy}
+use Rattle.area.specs.declared.Settings.{Settings}
+use Rattle.area.specs.Settings.{readingsFor}
+use Rattle.area.specs.Log.{Machine}
 use Rattle.area.specs.Encoding.{recordsFor}
 use Rattle.soundness.specs.Sound.{Exactly}
 use Rattle.soundness.specs.Test.{allFrom}
 use Rattle.soundness.proofs.Levels.{at-least}
 use Rattle.soundness.proofs.Exactly.{reads-all}
-use Rattle.encoding.specs.Entries.{entryAt, Entered, EnteredOld, SoundEntries}
+use Rattle.encoding.specs.Entries.{entryAt, Entered, EnteredOld, SoundMachine}
 use Rattle.machine.specs.Log.{wanted}
 use Rattle.machine.specs.Promote.{retired, retire, isOld, backwardOld, admits, passing, admittedAxes, refine}
 use Rattle.writing.specs.Changes.{appendedAll}
@@ -76,7 +78,16 @@ module _ (es : List Entry) (p : ℕ) (e : Entry) (same : e .levels ≡ entryAt e
 
 -- ---- an active place
 
-module _ (d b : ℕ) (mean : ℤ) (es : List Entry) (v : SoundEntries d b mean es) (p : ℕ) (inside : p < length es) (active : entryAt es p .state ≡ 1) where
+module _ (m : Machine) (v : SoundMachine m) (p : ℕ) (inside : p < length (m .log .entries)) (active : entryAt (m .log .entries) p .state ≡ 1) where
+  abbrev settings : Settings
+  settings = m .log .settings
+
+  abbrev d : ℕ
+  d = settings .axes
+
+  abbrev es : List Entry
+  es = m .log .entries
+
   abbrev k : List ℕ
   k = entryAt es p .levels
 
@@ -94,7 +105,7 @@ module _ (d b : ℕ) (mean : ℤ) (es : List Entry) (v : SoundEntries d b mean e
   k-index = v .index p inside
 
   in-k : (a : ℕ) → a < d → a < length k
-  in-k a h = omega (arith, k-index .eight, v .axes .1)
+  in-k a h = omega (arith, k-index .eight, v .settings .axes .1)
 
   old-based : Based d old
   old-based =
@@ -116,7 +127,7 @@ module _ (d b : ℕ) (mean : ℤ) (es : List Entry) (v : SoundEntries d b mean e
     not-entered t = step (subst (EnteredOld es) (backward-forward k a (in-k a h)) behind)
       where
         above : 1 < level (forward k a) a
-        above = omega (arith, forward-level k a (in-k a h), at-least d k k-index a (omega (arith, v .axes .1)))
+        above = omega (arith, forward-level k a (in-k a h), at-least d k k-index a (omega (arith, v .settings .axes .1)))
 
         behind : EnteredOld es (backward (forward k a) a)
         behind =
@@ -159,12 +170,12 @@ module _ (d b : ℕ) (mean : ℤ) (es : List Entry) (v : SoundEntries d b mean e
       )
 
   pub refine-run : (rest : List IndexRecord) → length (refine d es p) ≤ 512 → length (admittedAxes d (retire es p) k) ≤ length rest
-      → appendedAll (recordsFor (retire es p) ++ rest) (length es) (reservedBy es) k (admittedAxes d (retire es p) k)
-      ≡ recordsFor (refine d es p) ++ drop (length (admittedAxes d (retire es p) k)) rest
+      → appendedAll settings (recordsFor settings (retire es p) ++ rest) (length es) (readingsFor settings (reservedBy es)) k (admittedAxes d (retire es p) k)
+      ≡ recordsFor settings (refine d es p) ++ drop (length (admittedAxes d (retire es p) k)) rest
   unfolding refine retire admittedAxes
   refine-run rest few room =
-      ap₂ (λ n f. appendedAll (recordsFor old ++ rest) n f k axes) (sym old-length) (sym (reserved-set es p (retired (entryAt es p)) kept))
-      ∙ append-all d k axes old old-based (nexts (admits d old k) d 0 old (omega arith) (λ c l u g. next-admitted c (omega arith) g)) rest
+      ap₂ (λ n f. appendedAll settings (recordsFor settings old ++ rest) n (readingsFor settings f) k axes) (sym old-length) (sym (reserved-set es p (retired (entryAt es p)) kept))
+      ∙ append-all settings d k axes old old-based (nexts (admits d old k) d 0 old (omega arith) (λ c l u g. next-admitted c (omega arith) g)) rest
       (omega (arith, length-append old (ahead k axes), length-map axes (λ a. wanted (forward k a)))) room
     where
       axes : List ℕ

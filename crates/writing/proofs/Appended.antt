@@ -15,6 +15,8 @@ use Rattle.grid.specs.Index.{level, Index, forward, backward}
 use Rattle.grid.proofs.Members.{same-or}
 use Rattle.grid.proofs.Neighbours.{forward-level, backward-level, backward-forward, forward-backward}
 use Rattle.area.specs.declared.IndexRecord.{IndexRecord}
+use Rattle.area.specs.declared.Settings.{Settings}
+use Rattle.area.specs.Settings.{readingsFor}
 use Rattle.area.specs.Records.{blank, levelsOf}
 use Rattle.area.specs.Entry.{Entry, indicesOf, reservedBy}
 use Rattle.area.specs.Encoding.{none, placeOf, linksOf, encoded, encodedFrom, recordsFor}
@@ -47,7 +49,7 @@ indices-length : (es : List Entry) → length (indicesOf es) ≡ length es
 unfolding indicesOf
 indices-length es = length-map es (λ (e : Entry). e .levels)
 
-module _ (d : ℕ) (es : List Entry) (b : Based d es) where
+module _ (settings : Settings) (d : ℕ) (es : List Entry) (b : Based d es) where
   place-has : (k : List ℕ) (p : ℕ) → Has es k p → placeOf (indicesOf es) k ≡ p
   place-has k p h =
       place-first k es p h
@@ -108,7 +110,7 @@ module _ (d : ℕ) (es : List Entry) (b : Based d es) where
     -- ---- the links of an entry
 
     abbrev rs : List IndexRecord
-    rs = recordsFor es
+    rs = recordsFor settings es
 
     abbrev named : List IndexRecord
     named = namedFrom 8 0 new (length es) rs
@@ -149,7 +151,7 @@ module _ (d : ℕ) (es : List Entry) (b : Based d es) where
 
       own-links : recordAt rs p .links ≡ linksOf ls k
       unfolding recordsFor
-      own-links = encoded-links ls 0 es p h
+      own-links = encoded-links settings ls 0 es p h
 
       named-links : recordAt named p .links ≡ linksOf more k
       named-links =
@@ -163,7 +165,7 @@ module _ (d : ℕ) (es : List Entry) (b : Based d es) where
 
           ahead : (a : ℕ) → a < 8 → x ≡ forward k a → getD (recordAt named p .links) a 0 ≡ placeOf more (forward k a)
           ahead a g e =
-              named-hit new (length es) 8 0 rs p a (omega arith) (omega arith) (ahead-hit a g e) (λ z. omega (arith, none-far)) (omega (arith, records-length es))
+              named-hit new (length es) 8 0 rs p a (omega arith) (omega arith) (ahead-hit a g e) (λ z. omega (arith, none-far)) (omega (arith, records-length settings es))
               (omega (arith, sixteen))
               ∙ sym (ap (placeOf more) (sym e) ∙ place-new x es (m .absent))
 
@@ -174,56 +176,56 @@ module _ (d : ℕ) (es : List Entry) (b : Based d es) where
 
     -- ---- the records
 
-    named-records : named ≡ encodedFrom more 0 es
+    named-records : named ≡ encodedFrom settings more 0 es
     named-records =
-        ext-getD blank named (encodedFrom more 0 es) (named-length new (length es) 8 0 rs ∙ records-length es ∙ sym (encoded-length more 0 es))
-        (λ p h. each p (omega (arith, named-length new (length es) 8 0 rs, records-length es)))
+        ext-getD blank named (encodedFrom settings more 0 es) (named-length new (length es) 8 0 rs ∙ records-length settings es ∙ sym (encoded-length settings more 0 es))
+        (λ p h. each p (omega (arith, named-length new (length es) 8 0 rs, records-length settings es)))
       where
-        same : {A : Type 0} (g : IndexRecord → A) → ((f : ℕ) (e : Entry) → g (encoded ls f e) ≡ g (encoded more f e)) → (p : ℕ)
-            → g (recordAt rs p) ≡ g (recordAt (encodedFrom more 0 es) p)
-        same g e p = unfold recordsFor in encoded-same ls more g e 0 es p
+        same : {A : Type 0} (h : IndexRecord → A) → ((f : ℕ) (e : Entry) → h (encoded ls f e) ≡ h (encoded more f e)) → (p : ℕ)
+            → h (recordAt rs p) ≡ h (recordAt (encodedFrom settings more 0 es) p)
+        same h e p = unfold recordsFor in encoded-same settings ls more h e 0 es p
 
-        each : (p : ℕ) → p < length es → recordAt named p ≡ recordAt (encodedFrom more 0 es) p
+        each : (p : ℕ) → p < length es → recordAt named p ≡ recordAt (encodedFrom settings more 0 es) p
         each p h = λ i. record {
           levels = (named-levels new (length es) 8 0 rs p ∙ same (λ (r : IndexRecord). r .levels) (λ f e. unfold encoded in refl) p) i;
           state = (named-state new (length es) 8 0 rs p ∙ same (λ (r : IndexRecord). r .state) (λ f e. unfold encoded in refl) p) i;
           indicator = (named-indicator new (length es) 8 0 rs p ∙ same (λ (r : IndexRecord). r .indicator) (λ f e. unfold encoded in refl) p) i;
           first = (named-first new (length es) 8 0 rs p ∙ same (λ (r : IndexRecord). r .first) (λ f e. unfold encoded in refl) p) i;
-          links = (named-links p h ∙ sym (encoded-links more 0 es p h)) i;
+          links = (named-links p h ∙ sym (encoded-links settings more 0 es p h)) i;
         }
 
-    new-record : encoded more (0 + reservedBy es) (wanted x) ≡ admittedRecord new x (reservedBy es)
+    new-record : encoded more (0 + readingsFor settings (reservedBy es)) (wanted x) ≡ admittedRecord new x (readingsFor settings (reservedBy es))
     unfolding encoded wanted admittedRecord
-    new-record = λ i. record { levels = x; state = 0; indicator = 0; first = zero-add (reservedBy es) i; links = sym new-links i }
+    new-record = λ i. record { levels = x; state = 0; indicator = 0; first = zero-add (readingsFor settings (reservedBy es)) i; links = sym new-links i }
 
-    append-records : recordsFor (es ++ (wanted x ∷ [])) ≡ named ++ (admittedRecord new x (reservedBy es) ∷ [])
+    append-records : recordsFor settings (es ++ (wanted x ∷ [])) ≡ named ++ (admittedRecord new x (readingsFor settings (reservedBy es)) ∷ [])
     unfolding recordsFor
     append-records =
-        ap (λ l. encodedFrom l 0 (es ++ (wanted x ∷ []))) (indices-append es x)
-        ∙ encoded-append more 0 es (wanted x)
+        ap (λ l. encodedFrom settings l 0 (es ++ (wanted x ∷ []))) (indices-append es x)
+        ∙ encoded-append settings more 0 es (wanted x)
         ∙ ap₂ (λ l r. l ++ (r ∷ [])) (sym named-records) new-record
 
     -- ---- the run of records, which goes on past those of the entries
 
     pub append-run : (rest : List IndexRecord) → 1 ≤ length rest
-        → appended (rs ++ rest) (length es) (reservedBy es) x ≡ recordsFor (es ++ (wanted x ∷ [])) ++ drop 1 rest
+        → appended (rs ++ rest) (length es) (readingsFor settings (reservedBy es)) x ≡ recordsFor settings (es ++ (wanted x ∷ [])) ++ drop 1 rest
     unfolding appended
     append-run rest h =
-        ap (λ l. set (namedFrom 8 0 (newLinks l x) (length es) (rs ++ rest)) (length es) (admittedRecord (newLinks l x) x (reservedBy es))) levels-are
+        ap (λ l. set (namedFrom 8 0 (newLinks l x) (length es) (rs ++ rest)) (length es) (admittedRecord (newLinks l x) x (readingsFor settings (reservedBy es)))) levels-are
         ∙ ap (λ l. set l (length es) record-new) (named-rest new (length es) 8 0 rs rest bounded)
         ∙ set-past rest h
         ∙ ap (λ l. l ++ drop 1 rest) (sym append-records)
       where
         record-new : IndexRecord
-        record-new = admittedRecord new x (reservedBy es)
+        record-new = admittedRecord new x (readingsFor settings (reservedBy es))
 
         levels-are : levelsOf (take (length es) (rs ++ rest)) ≡ ls
-        levels-are = ap levelsOf (take-at rs rest (length es) (records-length es)) ∙ unfold recordsFor in encoded-levels ls 0 es
+        levels-are = ap levelsOf (take-at rs rest (length es) (records-length settings es)) ∙ unfold recordsFor in encoded-levels settings ls 0 es
 
         bounded : (a : ℕ) → a < 0 + 8 → (getD new (8 + a) 0 ≡ none) ⊎ (getD new (8 + a) 0 < length rs)
-        bounded a g = ⊎-elim inl (λ l. inr (omega (arith, records-length es, indices-length es))) (new-bounded ls x a (omega arith))
+        bounded a g = ⊎-elim inl (λ l. inr (omega (arith, records-length settings es, indices-length es))) (new-bounded ls x a (omega arith))
 
         set-past : (rest : List IndexRecord) → 1 ≤ length rest → set (named ++ rest) (length es) record-new ≡ (named ++ (record-new ∷ [])) ++ drop 1 rest
         set-past [] l = absurd (omega arith)
         set-past (r ∷ rest) l =
-            set-at named r rest record-new (length es) (named-length new (length es) 8 0 rs ∙ records-length es) ∙ sym (append-assoc named (record-new ∷ []) rest)
+            set-at named r rest record-new (length es) (named-length new (length es) 8 0 rs ∙ records-length settings es) ∙ sym (append-assoc named (record-new ∷ []) rest)

@@ -7,10 +7,11 @@ use native.Mathlib.Omega.{arith}
 use lib.IntN.{ℤ}
 use lib.ListN.{length, set, drop, length-set}
 use lib.Seq.{sets}
-use Rattle.grid.specs.Block.{blockSize}
 use Rattle.area.specs.declared.IndexRecord.{IndexRecord}
+use Rattle.area.specs.declared.Settings.{Settings}
+use Rattle.area.specs.Settings.{readingCount}
 use Rattle.area.specs.Entry.{Entry, reservedBy, pendingOf}
-use Rattle.area.specs.Encoding.{Area, heldOf, entriesOf, recordsFor, storeFor, storeWith}
+use Rattle.area.specs.Encoding.{Area, heldOf, entriesOf, machineOf, recordsFor, storeFor, storeWith}
 use Rattle.quadrature.specs.Readings.{recordAt}
 use Rattle.encoding.specs.Entries.{entryAt}
 use Rattle.encoding.proofs.Places.{levels-at, entries-length}
@@ -24,13 +25,16 @@ use Rattle.writing.proofs.Store.{first-free, deliver-pending, deliver-s
 use Rattle.writing.proofs.Areas.{clauses, held-is, store-is, held-record, entry-record, entry-replaced}
 
 module _ (a : Area) (r : Settled a) where
+  abbrev g : Settings
+  g = a .job .settings
+
   abbrev es : List Entry
   es = entriesOf a
 
   abbrev all : List IndexRecord
   all = a .run .records
 
-  module _ (rs : List ℤ) (i : ℕ) (some : firstWanted es < length es) (right : length rs ≡ blockSize (wantedIndex es)) where
+  module _ (rs : List ℤ) (i : ℕ) (some : firstWanted es < length es) (right : length rs ≡ readingCount g (wantedIndex es)) where
     abbrev w : ℕ
     w = firstWanted es
 
@@ -44,33 +48,36 @@ module _ (a : Area) (r : Settled a) where
     pub delivered-held : length next ≡ a .job .held
     delivered-held = delivered-count ∙ sym (held-is a r)
 
-    pub delivered-records : recordsFor next ++ drop (length next) all ≡ set all w (restated (recordAt all w) 1 i)
+    pub delivered-records : recordsFor g next ++ drop (length next) all ≡ set all w (restated (recordAt all w) 1 i)
     unfolding deliverAt delivered
-    delivered-records = ap (λ n. recordsFor next ++ drop n all) delivered-count ∙ entry-replaced a r w some (delivered (entryAt es w) rs i) refl
+    delivered-records = ap (λ n. recordsFor g next ++ drop n all) delivered-count ∙ entry-replaced a r w some (delivered (entryAt es w) rs i) refl
 
     pub delivered-reserved : reservedBy next ≡ a .job .reserved
     unfolding deliverAt delivered
-    delivered-reserved = reserved-set es w (delivered (entryAt es w) rs i) refl ∙ sym (r .sound .reserved)
+    delivered-reserved = reserved-set es w (delivered (entryAt es w) rs i) refl ∙ sym (r .sound .numbers .reserved)
 
     pub delivered-pending : pendingOf next ≡ a .job .pending + i
-    delivered-pending = deliver-pending (a .job .axes) (a .job .budget) (a .job .mean) es (clauses a r) some rs i ∙ ap (λ n. n + i) (sym (r .sound .pending))
+    unfolding machineOf
+    delivered-pending = deliver-pending (machineOf a) (clauses a r) some rs i ∙ ap (λ n. n + i) (sym (r .sound .numbers .pending))
 
     -- the block begins where the stored readings end
     pub first-is : recordAt all w .first ≡ length (storeFor es)
-    first-is = ap (λ (x : IndexRecord). x .first) (entry-record a r w some) ∙ first-free (a .job .axes) (a .job .budget) (a .job .mean) es (clauses a r) some
+    unfolding machineOf
+    first-is = ap (λ (x : IndexRecord). x .first) (entry-record a r w some) ∙ first-free (machineOf a) (clauses a r) some
 
     room : length (storeFor es) + length rs ≤ length (a .store)
     unfolding entriesOf
     room =
         omega (
           arith,
-          range-facts .block a (r .sound) w (omega (arith, entries-length (a .store) (heldOf a))),
+          range-facts .block a (r .sound) w (omega (arith, entries-length g (a .store) (heldOf a))),
           ap (λ (x : IndexRecord). x .first) (held-record a r w some),
           first-is,
-          ap blockSize (levels-at (a .store) (heldOf a) w),
+          ap (readingCount g) (levels-at g (a .store) (heldOf a) w),
           r .lent .store,
         )
 
     pub delivered-store : storeWith (a .store) next ≡ sets (a .store) (recordAt all w .first) rs
+    unfolding machineOf
     delivered-store =
-        deliver-store (a .job .axes) (a .job .budget) (a .job .mean) es (clauses a r) some rs i (a .store) (store-is a r) room ∙ ap (λ n. sets (a .store) n rs) (sym first-is)
+        deliver-store (machineOf a) (clauses a r) some rs i (a .store) (store-is a r) room ∙ ap (λ n. sets (a .store) n rs) (sym first-is)

@@ -14,6 +14,9 @@ use lib.Seq.{map-set-same}
 use Rattle.grid.specs.Index.{forward}
 use Rattle.grid.specs.Block.{blockSize}
 use Rattle.area.specs.declared.IndexRecord.{IndexRecord}
+use Rattle.area.specs.declared.Settings.{Settings}
+use Rattle.area.specs.Settings.{readingsFor, readingCount}
+use Rattle.area.proofs.Readings.{reading-facts}
 use Rattle.area.specs.Records.{blank, levelsOf}
 use Rattle.area.specs.Entry.{Entry, indicesOf, reservedBy, pendingOf}
 use Rattle.area.specs.Encoding.{linksOf, encoded, encodedFrom, recordsFor, storeFor}
@@ -33,20 +36,20 @@ pub levels-set : (es : List Entry) (p : ℕ) (e : Entry) → e .levels ≡ entry
 unfolding indicesOf
 levels-set es p e same = mapped-at (λ (x : Entry). x .levels) noEntry (set es p e) es (indices-set es p e same)
 
-restated-from : (ls : List (List ℕ)) (f : ℕ) (es : List Entry) (p : ℕ) (e : Entry) → e .levels ≡ entryAt es p .levels
-    → encodedFrom ls f (set es p e) ≡ set (encodedFrom ls f es) p (restated (recordAt (encodedFrom ls f es) p) (e .state) (e .indicator))
+restated-from : (g : Settings) (ls : List (List ℕ)) (f : ℕ) (es : List Entry) (p : ℕ) (e : Entry) → e .levels ≡ entryAt es p .levels
+    → encodedFrom g ls f (set es p e) ≡ set (encodedFrom g ls f es) p (restated (recordAt (encodedFrom g ls f es) p) (e .state) (e .indicator))
 unfolding encodedFrom encoded restated
-restated-from ls f [] p e same = refl
-restated-from ls f (x ∷ es) zero e same =
+restated-from g ls f [] p e same = refl
+restated-from g ls f (x ∷ es) zero e same =
     ap {B = List IndexRecord}
-    (λ (k : List ℕ). (record { levels = k; state = e .state; indicator = e .indicator; first = f; links = linksOf ls k }) ∷ encodedFrom ls (f + blockSize k) es) same
-restated-from ls f (x ∷ es) (suc p) e same = ap (λ (rs : List IndexRecord). encoded ls f x ∷ rs) (restated-from ls (f + blockSize (x .levels)) es p e same)
+    (λ (k : List ℕ). (record { levels = k; state = e .state; indicator = e .indicator; first = f; links = linksOf ls k }) ∷ encodedFrom g ls (f + readingCount g k) es) same
+restated-from g ls f (x ∷ es) (suc p) e same = ap (λ (rs : List IndexRecord). encoded ls f x ∷ rs) (restated-from g ls (f + readingCount g (x .levels)) es p e same)
 
-pub restated-records : (es : List Entry) (p : ℕ) (e : Entry) → e .levels ≡ entryAt es p .levels
-    → recordsFor (set es p e) ≡ set (recordsFor es) p (restated (recordAt (recordsFor es) p) (e .state) (e .indicator))
+pub restated-records : (g : Settings) (es : List Entry) (p : ℕ) (e : Entry) → e .levels ≡ entryAt es p .levels
+    → recordsFor g (set es p e) ≡ set (recordsFor g es) p (restated (recordAt (recordsFor g es) p) (e .state) (e .indicator))
 unfolding recordsFor
-restated-records es p e same =
-    ap (λ ls. encodedFrom ls 0 (set es p e)) (indices-set es p e same) ∙ restated-from (indicesOf es) 0 es p e same
+restated-records g es p e same =
+    ap (λ ls. encodedFrom g ls 0 (set es p e)) (indices-set es p e same) ∙ restated-from g (indicesOf es) 0 es p e same
 
 pub reserved-set : (es : List Entry) (p : ℕ) (e : Entry) → e .levels ≡ entryAt es p .levels → reservedBy (set es p e) ≡ reservedBy es
 unfolding reservedBy
@@ -100,39 +103,42 @@ module _ (k : List ℕ) where
 
 -- ---- the records of entries, by field
 
-module _ (ls : List (List ℕ)) where
-  pub encoded-levels : (f : ℕ) (es : List Entry) → levelsOf (encodedFrom ls f es) ≡ indicesOf es
+module _ (g : Settings) (ls : List (List ℕ)) where
+  pub encoded-levels : (f : ℕ) (es : List Entry) → levelsOf (encodedFrom g ls f es) ≡ indicesOf es
   unfolding levelsOf encodedFrom encoded indicesOf
   encoded-levels f [] = refl
-  encoded-levels f (e ∷ es) = ap (λ l. e .levels ∷ l) (encoded-levels (f + blockSize (e .levels)) es)
+  encoded-levels f (e ∷ es) = ap (λ l. e .levels ∷ l) (encoded-levels (f + readingCount g (e .levels)) es)
 
-  pub encoded-length : (f : ℕ) (es : List Entry) → length (encodedFrom ls f es) ≡ length es
+  pub encoded-length : (f : ℕ) (es : List Entry) → length (encodedFrom g ls f es) ≡ length es
   unfolding encodedFrom
   encoded-length f [] = refl
-  encoded-length f (e ∷ es) = ap suc (encoded-length (f + blockSize (e .levels)) es)
+  encoded-length f (e ∷ es) = ap suc (encoded-length (f + readingCount g (e .levels)) es)
 
-  pub encoded-links : (f : ℕ) (es : List Entry) (p : ℕ) → p < length es → recordAt (encodedFrom ls f es) p .links ≡ linksOf ls (entryAt es p .levels)
+  pub encoded-links : (f : ℕ) (es : List Entry) (p : ℕ) → p < length es → recordAt (encodedFrom g ls f es) p .links ≡ linksOf ls (entryAt es p .levels)
   unfolding encodedFrom encoded
   encoded-links f [] p h = absurd (omega arith)
   encoded-links f (e ∷ es) zero h = refl
-  encoded-links f (e ∷ es) (suc p) h = encoded-links (f + blockSize (e .levels)) es p (omega arith)
+  encoded-links f (e ∷ es) (suc p) h = encoded-links (f + readingCount g (e .levels)) es p (omega arith)
 
-  pub encoded-append : (f : ℕ) (es : List Entry) (e : Entry) → encodedFrom ls f (es ++ (e ∷ [])) ≡ encodedFrom ls f es ++ (encoded ls (f + reservedBy es) e ∷ [])
+  pub encoded-append : (f : ℕ) (es : List Entry) (e : Entry) → encodedFrom g ls f (es ++ (e ∷ [])) ≡ encodedFrom g ls f es ++ (encoded ls (f + readingsFor g (reservedBy es)) e ∷ [])
   unfolding encodedFrom reservedBy
-  encoded-append f [] e = ap (λ n. encoded ls n e ∷ []) (sym (add-zero f))
+  encoded-append f [] e = ap (λ n. encoded ls n e ∷ []) (sym (ap (λ n. f + n) (reading-facts .none g) ∙ add-zero f))
   encoded-append f (x ∷ es) e =
       ap (λ rs. encoded ls f x ∷ rs)
-      (encoded-append (f + blockSize (x .levels)) es e ∙ ap (λ n. encodedFrom ls (f + blockSize (x .levels)) es ++ (encoded ls n e ∷ [])) (omega arith))
+      (encoded-append (f + readingCount g (x .levels)) es e ∙ ap (λ n. encodedFrom g ls (f + readingCount g (x .levels)) es ++ (encoded ls n e ∷ [])) further)
+    where
+      further : f + readingCount g (x .levels) + readingsFor g (reservedBy es) ≡ f + readingsFor g (blockSize (x .levels) + reservedBy es)
+      further = omega (arith, reading-facts .count g (x .levels), reading-facts .sum g (blockSize (x .levels)) (reservedBy es))
 
   -- what is no link does not depend on what the links are looked up in
-  module _ (ms : List (List ℕ)) {A : Type 0} (g : IndexRecord → A) (same : (f : ℕ) (e : Entry) → g (encoded ls f e) ≡ g (encoded ms f e)) where
-    encoded-map : (f : ℕ) (es : List Entry) → map g (encodedFrom ls f es) ≡ map g (encodedFrom ms f es)
+  module _ (ms : List (List ℕ)) {A : Type 0} (h : IndexRecord → A) (same : (f : ℕ) (e : Entry) → h (encoded ls f e) ≡ h (encoded ms f e)) where
+    encoded-map : (f : ℕ) (es : List Entry) → map h (encodedFrom g ls f es) ≡ map h (encodedFrom g ms f es)
     unfolding encodedFrom
     encoded-map f [] = refl
-    encoded-map f (e ∷ es) = ap₂ (λ x (xs : List A). x ∷ xs) (same f e) (encoded-map (f + blockSize (e .levels)) es)
+    encoded-map f (e ∷ es) = ap₂ (λ x (xs : List A). x ∷ xs) (same f e) (encoded-map (f + readingCount g (e .levels)) es)
 
-    pub encoded-same : (f : ℕ) (es : List Entry) (p : ℕ) → g (recordAt (encodedFrom ls f es) p) ≡ g (recordAt (encodedFrom ms f es) p)
-    encoded-same f es p = mapped-at g blank (encodedFrom ls f es) (encodedFrom ms f es) (encoded-map f es) p
+    pub encoded-same : (f : ℕ) (es : List Entry) (p : ℕ) → h (recordAt (encodedFrom g ls f es) p) ≡ h (recordAt (encodedFrom g ms f es) p)
+    encoded-same f es p = mapped-at h blank (encodedFrom g ls f es) (encodedFrom g ms f es) (encoded-map f es) p
 
 pub indices-append : (es : List Entry) (x : List ℕ) → indicesOf (es ++ (wanted x ∷ [])) ≡ indicesOf es ++ (x ∷ [])
 unfolding indicesOf wanted

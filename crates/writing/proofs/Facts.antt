@@ -1,6 +1,5 @@
 -- What each step changes in storage, proved: the job record field by field, the records and the store. Assumes nothing.
-use Rattle.area.specs.Encoding.{runWith, jobWith}
-use Rattle.machine.specs.Log.{machineOf, written}
+use Rattle.area.specs.Encoding.{machineOf, runWith, jobWith, written}
 use Rattle.machine.specs.Steps.{started, deliver}
 use Rattle.writing.specs.Facts.{WriteFacts}
 use Rattle.writing.proofs.Start.{root-job, root-run, root-store}
@@ -11,16 +10,14 @@ pub write-facts : WriteFacts
 unfolding written machineOf started deliver jobWith runWith
 write-facts =
     record {
-      start = λ a d t b h j. record {
-        job = root-job d t b j;
-        run = record { records = root-run (a .run .records) h j; rest = a .run .rest };
+      start = λ a g h j. record {
+        job = root-job g j;
+        run = record { records = root-run g (a .run .records) h j; rest = a .run .rest };
         store = root-store (a .store) j;
       };
       deliver = λ a rs i r some right j. record {
         job = record {
-          axes = a .job .axes;
-          threshold = a .job .threshold;
-          budget = a .job .budget;
+          settings = a .job .settings;
           held = delivered-held a r rs i some right j;
           reserved = delivered-reserved a r rs i some right j;
           pending = delivered-pending a r rs i some right j;
@@ -31,9 +28,7 @@ write-facts =
       };
       refine = λ a p r idle h active fit j. record {
         job = record {
-          axes = a .job .axes;
-          threshold = a .job .threshold;
-          budget = a .job .budget;
+          settings = a .job .settings;
           held = refined-held a r p h active j;
           reserved = refined-reserved a r p h active j;
           pending = refined-pending a r p h active j;

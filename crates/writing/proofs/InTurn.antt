@@ -12,6 +12,9 @@ use lib.Seq.{drop-nil, getD-append-seam}
 use Rattle.grid.specs.Index.{level, Index, forward, backward}
 use Rattle.grid.specs.Block.{blockSize}
 use Rattle.area.specs.declared.IndexRecord.{IndexRecord}
+use Rattle.area.specs.declared.Settings.{Settings}
+use Rattle.area.specs.Settings.{readingsFor, readingCount}
+use Rattle.area.proofs.Readings.{reading-facts}
 use Rattle.area.specs.Entry.{Entry, reservedBy}
 use Rattle.area.specs.Encoding.{recordsFor}
 use Rattle.encoding.specs.Entries.{noEntry, entryAt, Entered}
@@ -99,16 +102,18 @@ drop-one : (n : ℕ) (rs : List IndexRecord) → drop n (drop 1 rs) ≡ drop (su
 drop-one n [] = drop-nil n
 drop-one n (r ∷ rs) = refl
 
-pub append-all : (d : ℕ) (k axes : List ℕ) (es : List Entry) → Based d es → Nexts d es k axes → (rest : List IndexRecord)
+pub append-all : (settings : Settings) (d : ℕ) (k axes : List ℕ) (es : List Entry) → Based d es → Nexts d es k axes → (rest : List IndexRecord)
     → length es + length axes ≤ 512 → length axes ≤ length rest
-    → appendedAll (recordsFor es ++ rest) (length es) (reservedBy es) k axes ≡ recordsFor (es ++ ahead k axes) ++ drop (length axes) rest
+    → appendedAll settings (recordsFor settings es ++ rest) (length es) (readingsFor settings (reservedBy es)) k axes
+    ≡ recordsFor settings (es ++ ahead k axes) ++ drop (length axes) rest
 unfolding appendedAll
-append-all d k [] es b m rest few room = ap (λ l. recordsFor l ++ rest) (sym (append-nil es))
-append-all d k (a ∷ axes) es b m rest few room =
-    ap (λ l. appendedAll l (length es + 1) (reservedBy es + blockSize x) k axes) (append-run d es b (omega arith) x (m .0) rest (omega arith))
-    ∙ ap₂ (λ n f. appendedAll (recordsFor next ++ drop 1 rest) n f k axes) (sym (more-length es x)) (sym larger)
-    ∙ append-all d k axes next (based-more es x d b (m .0)) (m .1) (drop 1 rest) (omega (arith, more-length es x)) (omega (arith, length-drop 1 rest))
-    ∙ ap₂ (λ l t. recordsFor l ++ t) (append-assoc es (wanted x ∷ []) (ahead k axes)) (drop-one (length axes) rest)
+append-all settings d k [] es b m rest few room = ap (λ l. recordsFor settings l ++ rest) (sym (append-nil es))
+append-all settings d k (a ∷ axes) es b m rest few room =
+    ap (λ l. appendedAll settings l (length es + 1) (readingsFor settings (reservedBy es) + readingCount settings x) k axes)
+    (append-run settings d es b (omega arith) x (m .0) rest (omega arith))
+    ∙ ap₂ (λ n f. appendedAll settings (recordsFor settings next ++ drop 1 rest) n f k axes) (sym (more-length es x)) (sym further)
+    ∙ append-all settings d k axes next (based-more es x d b (m .0)) (m .1) (drop 1 rest) (omega (arith, more-length es x)) (omega (arith, length-drop 1 rest))
+    ∙ ap₂ (λ l t. recordsFor settings l ++ t) (append-assoc es (wanted x ∷ []) (ahead k axes)) (drop-one (length axes) rest)
   where
     x : List ℕ
     x = forward k a
@@ -118,3 +123,8 @@ append-all d k (a ∷ axes) es b m rest few room =
 
     larger : reservedBy next ≡ reservedBy es + blockSize x
     larger = reserved-ahead k es (a ∷ []) ∙ unfold sizesOf in omega arith
+
+    further : readingsFor settings (reservedBy next) ≡ readingsFor settings (reservedBy es) + readingCount settings x
+    further =
+        ap (readingsFor settings) larger ∙ reading-facts .sum settings (reservedBy es) (blockSize x)
+        ∙ ap (λ n. readingsFor settings (reservedBy es) + n) (sym (reading-facts .count settings x))

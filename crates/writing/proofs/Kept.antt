@@ -8,8 +8,9 @@ use native.Mathlib.Omega.{arith}
 use lib.ListN.{length, getD, take, length-set, length-map}
 use lib.Seq.{length-take-le, getD-set-same, getD-set-other}
 use Rattle.grid.specs.Index.{forward}
-use Rattle.grid.specs.Block.{blockSize}
 use Rattle.area.specs.declared.IndexRecord.{IndexRecord}
+use Rattle.area.specs.declared.Settings.{Settings}
+use Rattle.area.specs.Settings.{readingCount}
 use Rattle.area.specs.Records.{blank, levelsOf}
 use Rattle.area.specs.Encoding.{none}
 use Rattle.quadrature.specs.Readings.{recordAt}
@@ -64,22 +65,22 @@ module _ (rs : List IndexRecord) (n f : ℕ) (x : List ℕ) where
 
 -- ---- several in turn
 
-pub appended-all-length : (rs : List IndexRecord) (n f : ℕ) (k axes : List ℕ) → length (appendedAll rs n f k axes) ≡ length rs
+pub appended-all-length : (g : Settings) (rs : List IndexRecord) (n f : ℕ) (k axes : List ℕ) → length (appendedAll g rs n f k axes) ≡ length rs
 unfolding appendedAll
-appended-all-length rs n f k [] = refl
-appended-all-length rs n f k (a ∷ axes) =
-    appended-all-length (appended rs n f (forward k a)) (n + 1) (f + blockSize (forward k a)) k axes ∙ appended-length rs n f (forward k a)
+appended-all-length g rs n f k [] = refl
+appended-all-length g rs n f k (a ∷ axes) =
+    appended-all-length g (appended rs n f (forward k a)) (n + 1) (f + readingCount g (forward k a)) k axes ∙ appended-length rs n f (forward k a)
 
 -- the places below n
 module _ (p : ℕ) where
-  pub appended-all-levels : (rs : List IndexRecord) (n f : ℕ) (k axes : List ℕ) → p < n → levelsAt (appendedAll rs n f k axes) p ≡ levelsAt rs p
+  pub appended-all-levels : (g : Settings) (rs : List IndexRecord) (n f : ℕ) (k axes : List ℕ) → p < n → levelsAt (appendedAll g rs n f k axes) p ≡ levelsAt rs p
   unfolding appendedAll
-  appended-all-levels rs n f k [] h = refl
-  appended-all-levels rs n f k (a ∷ axes) h =
-      appended-all-levels (appended rs n f (forward k a)) (n + 1) (f + blockSize (forward k a)) k axes (omega arith) ∙ appended-levels rs n f (forward k a) p (λ e. omega arith)
+  appended-all-levels g rs n f k [] h = refl
+  appended-all-levels g rs n f k (a ∷ axes) h =
+      appended-all-levels g (appended rs n f (forward k a)) (n + 1) (f + readingCount g (forward k a)) k axes (omega arith) ∙ appended-levels rs n f (forward k a) p (λ e. omega arith)
 
-  pub appended-all-state : (rs : List IndexRecord) (n f : ℕ) (k axes : List ℕ) → p < n → stateAt (appendedAll rs n f k axes) p ≡ stateAt rs p
+  pub appended-all-state : (g : Settings) (rs : List IndexRecord) (n f : ℕ) (k axes : List ℕ) → p < n → stateAt (appendedAll g rs n f k axes) p ≡ stateAt rs p
   unfolding appendedAll
-  appended-all-state rs n f k [] h = refl
-  appended-all-state rs n f k (a ∷ axes) h =
-      appended-all-state (appended rs n f (forward k a)) (n + 1) (f + blockSize (forward k a)) k axes (omega arith) ∙ appended-state rs n f (forward k a) p (λ e. omega arith)
+  appended-all-state g rs n f k [] h = refl
+  appended-all-state g rs n f k (a ∷ axes) h =
+      appended-all-state g (appended rs n f (forward k a)) (n + 1) (f + readingCount g (forward k a)) k axes (omega arith) ∙ appended-state rs n f (forward k a) p (λ e. omega arith)

@@ -15,7 +15,9 @@ use Rattle.grid.specs.Index.{forward}
 use Rattle.grid.proofs.Levels.{and-left}
 use Rattle.area.specs.declared.IndexRecord.{IndexRecord}
 use Rattle.area.specs.Entry.{Entry, reservedBy, pendingOf}
-use Rattle.area.specs.Encoding.{Area, entriesOf, recordsFor, storeWith}
+use Rattle.area.specs.declared.Settings.{Settings}
+use Rattle.area.specs.Settings.{readingsFor}
+use Rattle.area.specs.Encoding.{Area, entriesOf, machineOf, recordsFor, storeWith}
 use Rattle.quadrature.specs.Readings.{recordAt}
 use Rattle.soundness.specs.Held.{levelsAt, stateAt}
 use Rattle.encoding.specs.Entries.{entryAt}
@@ -28,6 +30,9 @@ use Rattle.writing.proofs.Admitted.{refine-run}
 use Rattle.writing.proofs.Areas.{clauses, held-is, store-is, levels-is, state-is, indicator-is, entry-replaced}
 
 module _ (a : Area) (r : Settled a) where
+  abbrev g : Settings
+  g = a .job .settings
+
   abbrev es : List Entry
   es = entriesOf a
 
@@ -39,7 +44,7 @@ module _ (a : Area) (r : Settled a) where
 
   module _ (p : ℕ) (h : p < a .job .held) (active : stateAt all p ≡ 1) where
     abbrev d : ℕ
-    d = a .job .axes
+    d = g .axes
 
     abbrev k : List ℕ
     k = entryAt es p .levels
@@ -63,7 +68,7 @@ module _ (a : Area) (r : Settled a) where
     same-axes : {A : Type 0} (f : List ℕ → List ℕ → A) → f k (axesOf k) ≡ f (levelsAt all p) (axesOf (levelsAt all p))
     same-axes f = ap (λ y. f y (axesOf y)) (levels-is a r p inside)
 
-    retired-records : recordsFor (retire es p) ++ rest ≡ set all p (restated (recordAt all p) 2 (recordAt all p .indicator))
+    retired-records : recordsFor g (retire es p) ++ rest ≡ set all p (restated (recordAt all p) 2 (recordAt all p .indicator))
     unfolding retire retired
     retired-records =
         entry-replaced a r p inside (retired (entryAt es p)) refl ∙ ap (λ i. set all p (restated (recordAt all p) 2 i)) (indicator-is a r p inside)
@@ -75,14 +80,14 @@ module _ (a : Area) (r : Settled a) where
     unfolding refine retire retired
     refined-reserved =
         reserved-ahead k (set es p (retired (entryAt es p))) (axesOf k)
-        ∙ ap₂ _+_ (reserved-set es p (retired (entryAt es p)) refl ∙ sym (r .sound .reserved)) (same-axes sizesOf)
+        ∙ ap₂ _+_ (reserved-set es p (retired (entryAt es p)) refl ∙ sym (r .sound .numbers .reserved)) (same-axes sizesOf)
 
     -- the place's part in the pending error goes
     left-pending : pendingOf refined + recordAt all p .indicator ≡ a .job .pending
     unfolding refine retire
     left-pending =
         omega
-        (arith, pending-ahead k (set es p (retired (entryAt es p))) (axesOf k), pending-set es p (retired (entryAt es p)) inside, was, now, indicator-is a r p inside, r .sound .pending)
+        (arith, pending-ahead k (set es p (retired (entryAt es p))) (axesOf k), pending-set es p (retired (entryAt es p)) inside, was, now, indicator-is a r p inside, r .sound .numbers .pending)
       where
         was : pendingAt (entryAt es p) ≡ entryAt es p .indicator
         was = rw (state-is a r p inside ∙ active)
@@ -103,21 +108,22 @@ module _ (a : Area) (r : Settled a) where
         (store-ahead k (set es p (retired (entryAt es p))) (axesOf k) ∙ store-set es p (retired (entryAt es p)) refl)
         ∙ sym (store-is a r)
 
-    module _ (fit : fits (a .job .budget) refined ≡ true) where
+    module _ (fit : fits (g .budget) refined ≡ true) where
       few : length refined ≤ 512
       unfolding fits
-      few = leb-true (length refined) 512 (and-left (leb (length refined) 512) (leb (reservedBy refined) (a .job .budget)) fit)
+      few = leb-true (length refined) 512 (and-left (leb (length refined) 512) (leb (reservedBy refined) (g .budget)) fit)
 
-      pub refined-records : recordsFor refined ++ drop (length refined) all
-          ≡ appendedAll (set all p (restated (recordAt all p) 2 (recordAt all p .indicator))) (a .job .held) (a .job .reserved) (levelsAt all p) (axesOf (levelsAt all p))
+      pub refined-records : recordsFor g refined ++ drop (length refined) all
+          ≡ appendedAll g (set all p (restated (recordAt all p) 2 (recordAt all p .indicator))) (a .job .held) (readingsFor g (a .job .reserved)) (levelsAt all p) (axesOf (levelsAt all p))
+      unfolding machineOf
       refined-records =
-          ap (λ t. recordsFor refined ++ t) (ap (λ n. drop n all) refined-count ∙ sym (drop-drop (length (axesOf k)) (length es) all))
+          ap (λ t. recordsFor g refined ++ t) (ap (λ n. drop n all) refined-count ∙ sym (drop-drop (length (axesOf k)) (length es) all))
           ∙ sym
-          (refine-run d (a .job .budget) (a .job .mean) es (clauses a r) p inside (state-is a r p inside ∙ active) rest few
+          (refine-run (machineOf a) (clauses a r) p inside (state-is a r p inside ∙ active) rest few
           (omega (arith, few, refined-count, length-drop (length es) all, r .lent .records)))
-          ∙ ap (λ l. appendedAll l (length es) (reservedBy es) k (axesOf k)) retired-records
-          ∙ ap₂ (λ n f. appendedAll marked n f k (axesOf k)) (sym (held-is a r)) (sym (r .sound .reserved))
-          ∙ same-axes (appendedAll marked (a .job .held) (a .job .reserved))
+          ∙ ap (λ l. appendedAll g l (length es) (readingsFor g (reservedBy es)) k (axesOf k)) retired-records
+          ∙ ap₂ (λ n f. appendedAll g marked n (readingsFor g f) k (axesOf k)) (sym (held-is a r)) (sym (r .sound .numbers .reserved))
+          ∙ same-axes (appendedAll g marked (a .job .held) (readingsFor g (a .job .reserved)))
         where
           marked : List IndexRecord
           marked = set all p (restated (recordAt all p) 2 (recordAt all p .indicator))

@@ -13,11 +13,13 @@ use lib.Dec.{eqb}
 use lib.IntN.{ℤ}
 use lib.ListN.{length, set, take, drop, length-append}
 use lib.Seq.{take-at, sets, sets-eq}
-use Rattle.grid.specs.Block.{blockSize}
+use Rattle.area.specs.declared.Settings.{Settings}
+use Rattle.area.specs.Settings.{readingCount}
 use Rattle.area.specs.Entry.{Entry, indicesOf, pendingOf}
+use Rattle.area.specs.Log.{Machine}
 use Rattle.area.specs.Encoding.{encoded, encodedFrom, recordsFor, storeFor, storeWith}
 use Rattle.quadrature.specs.Readings.{recordAt}
-use Rattle.encoding.specs.Entries.{entryAt, SoundEntries}
+use Rattle.encoding.specs.Entries.{entryAt, SoundMachine}
 use Rattle.machine.specs.Log.{firstWanted}
 use Rattle.machine.specs.Steps.{delivered, deliverAt}
 use Rattle.writing.proofs.Entries.{pendingAt, pending-set}
@@ -57,8 +59,8 @@ abbrev EmptyFrom : List Entry → ℕ → Type 0
 EmptyFrom es w = (q : ℕ) → w ≤ q → q < length es → entryAt es q .readings ≡ []
 
 -- before w whole blocks are
-abbrev WholeBefore : List Entry → ℕ → Type 0
-WholeBefore es w = (q : ℕ) → q < w → length (entryAt es q .readings) ≡ blockSize (entryAt es q .levels)
+abbrev WholeBefore : Settings → List Entry → ℕ → Type 0
+WholeBefore g es w = (q : ℕ) → q < w → length (entryAt es q .readings) ≡ readingCount g (entryAt es q .levels)
 
 store-set-last : (es : List Entry) (w : ℕ) (e : Entry) → w < length es → EmptyFrom es w → storeFor (set es w e) ≡ storeFor es ++ e .readings
 unfolding storeFor
@@ -71,26 +73,32 @@ store-set-last (x ∷ es) (suc w) e h m =
     ap (λ s. x .readings ++ s) (store-set-last es w e (omega arith) (λ q l u. m (suc q) (omega arith) (omega arith)))
     ∙ sym (append-assoc (x .readings) (storeFor es) (e .readings))
 
-first-free-from : (ls : List (List ℕ)) (f : ℕ) (es : List Entry) (w : ℕ) → w < length es → EmptyFrom es w → WholeBefore es w
-    → recordAt (encodedFrom ls f es) w .first ≡ f + length (storeFor es)
+first-free-from : (g : Settings) (ls : List (List ℕ)) (f : ℕ) (es : List Entry) (w : ℕ) → w < length es → EmptyFrom es w → WholeBefore g es w
+    → recordAt (encodedFrom g ls f es) w .first ≡ f + length (storeFor es)
 unfolding encodedFrom encoded storeFor
-first-free-from ls f [] w h m l = absurd (omega arith)
-first-free-from ls f (x ∷ es) zero h m l = sym (ap (λ s. f + length s) (empty-store (x ∷ es) (λ q u. m q (omega arith) u)) ∙ add-zero f)
-first-free-from ls f (x ∷ es) (suc w) h m l =
-    first-free-from ls (f + blockSize (x .levels)) es w (omega arith) (λ q u g. m (suc q) (omega arith) (omega arith)) (λ q u. l (suc q) (omega arith))
+first-free-from g ls f [] w h m l = absurd (omega arith)
+first-free-from g ls f (x ∷ es) zero h m l = sym (ap (λ s. f + length s) (empty-store (x ∷ es) (λ q u. m q (omega arith) u)) ∙ add-zero f)
+first-free-from g ls f (x ∷ es) (suc w) h m l =
+    first-free-from g ls (f + readingCount g (x .levels)) es w (omega arith) (λ q u g. m (suc q) (omega arith) (omega arith)) (λ q u. l (suc q) (omega arith))
     ∙ omega (arith, length-append (x .readings) (storeFor es), l 0 (omega arith))
 
-module _ (d b : ℕ) (mean : ℤ) (es : List Entry) (v : SoundEntries d b mean es) (some : firstWanted es < length es) where
+module _ (m : Machine) (v : SoundMachine m) (some : firstWanted (m .log .entries) < length (m .log .entries)) where
+  abbrev g : Settings
+  g = m .log .settings
+
+  abbrev es : List Entry
+  es = m .log .entries
+
   abbrev w : ℕ
   w = firstWanted es
 
   empty-from : EmptyFrom es w
   empty-from q h l = v .wanted-empty q l (v .wanted-last w q h l (wanted-state es some))
 
-  pub first-free : recordAt (recordsFor es) w .first ≡ length (storeFor es)
+  pub first-free : recordAt (recordsFor g es) w .first ≡ length (storeFor es)
   unfolding recordsFor
   first-free =
-      first-free-from (indicesOf es) 0 es w some empty-from (λ q h. v .whole q (omega arith) (before-wanted es q h)) ∙ zero-add (length (storeFor es))
+      first-free-from g (indicesOf es) 0 es w some empty-from (λ q h. v .whole q (omega arith) (before-wanted es q h)) ∙ zero-add (length (storeFor es))
 
   module _ (rs : List ℤ) (i : ℕ) where
     pub deliver-pending : pendingOf (deliverAt es w rs i) ≡ pendingOf es + i

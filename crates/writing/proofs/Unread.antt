@@ -8,10 +8,11 @@ use Prim.Native.Nat.{ℕ, zero, suc, _+_}
 use lib.Dec.{leb, eqb}
 use lib.IntN.{ℤ}
 use lib.ListN.{set, List·getD-map}
-use Rattle.grid.specs.Index.{level, within, forward, backward}
+use Rattle.grid.specs.Index.{level, within, forward, backward, cappedAxes}
 use Rattle.grid.specs.Coefficient.{sameLevels}
 use Rattle.area.specs.declared.IndexRecord.{IndexRecord}
 use Rattle.area.specs.declared.JobRecord.{JobRecord}
+use Rattle.area.specs.declared.Settings.{Settings}
 use Rattle.area.specs.Records.{heldIn}
 use Rattle.area.specs.Entry.{Entry}
 use Rattle.area.specs.Encoding.{areaOf, entryOf, entriesOf}
@@ -19,8 +20,8 @@ use Rattle.soundness.specs.Test.{allFrom}
 use Rattle.encoding.specs.Entries.{noEntry, entryAt}
 use Rattle.machine.specs.Log.{firstWanted}
 use Rattle.machine.specs.Promote.{largest, firstActive, selected, retired, retire, isOld, backwardOld, admits, passing, admittedAxes}
-use Rattle.machine.specs.Counts.{countOf, cappedAxes, ceilingCount}
-use Rattle.writing.specs.Heads.{headsOf}
+use Rattle.machine.specs.Counts.{countOf, ceilingCount}
+use Rattle.writing.specs.Heads.{headOf, headsOf}
 
 -- an entry without its readings
 abbrev pub unread : Entry → Entry
@@ -31,15 +32,15 @@ abbrev pub Alike : List Entry → List Entry → Type 0
 Alike es fs = map unread es ≡ map unread fs
 
 -- entries read from the same records, whatever the stores
-heads-alike : (s : List ℤ) (rs : List IndexRecord) → Alike (headsOf rs) (map (entryOf s) rs)
-unfolding headsOf entryOf
-heads-alike s [] = refl
-heads-alike s (r ∷ rs) = ap (λ (es : List Entry). unread (entryOf s r) ∷ es) (heads-alike s rs)
+heads-alike : (g : Settings) (s : List ℤ) (rs : List IndexRecord) → Alike (headsOf rs) (map (entryOf g s) rs)
+unfolding headsOf headOf entryOf
+heads-alike g s [] = refl
+heads-alike g s (r ∷ rs) = ap (λ (es : List Entry). unread (entryOf g s r) ∷ es) (heads-alike g s rs)
 
 -- what a scan of cells sees, and what the area holds
 pub heads-are : (j : JobRecord) (c : List ℕ) (s : List ℤ) → Alike (headsOf (heldIn c (j .held))) (entriesOf (areaOf j c s))
 unfolding heldIn entriesOf
-heads-are j c s = heads-alike s (heldIn c (j .held))
+heads-are j c s = heads-alike (j .settings) s (heldIn c (j .held))
 
 -- ---- each search, of entries without their readings
 

@@ -8,6 +8,8 @@ use Rattle.sums.specs.Lists.{tab}
 use Rattle.grid.specs.Index.{level, root, forward, backward}
 use Rattle.grid.specs.Block.{blockSize}
 use Rattle.area.specs.declared.IndexRecord.{IndexRecord}
+use Rattle.area.specs.declared.Settings.{Settings}
+use Rattle.area.specs.Settings.{readingCount}
 use Rattle.area.specs.Records.{levelsOf}
 use Rattle.area.specs.Encoding.{none, placeOf}
 use Rattle.quadrature.specs.Readings.{recordAt}
@@ -41,12 +43,12 @@ namedFrom (suc m) a links n rs =
 unfoldable pub appended : List IndexRecord → (n f : ℕ) → List ℕ → List IndexRecord
 appended rs n f x = set (namedFrom 8 0 (newLinks (levelsOf (take n rs)) x) n rs) n (admittedRecord (newLinks (levelsOf (take n rs)) x) x f)
 
--- k's forward neighbours along the axes are appended in turn.
-unfoldable pub appendedAll : List IndexRecord → (n f : ℕ) → List ℕ → List ℕ → List IndexRecord
-appendedAll rs n f k [] = rs
-appendedAll rs n f k (a ∷ axes) = appendedAll (appended rs n f (forward k a)) (n + 1) (f + blockSize (forward k a)) k axes
+-- k's forward neighbours along the axes are appended in turn, the readings of one after those of the other.
+unfoldable pub appendedAll : Settings → List IndexRecord → (n f : ℕ) → List ℕ → List ℕ → List IndexRecord
+appendedAll g rs n f k [] = rs
+appendedAll g rs n f k (a ∷ axes) = appendedAll g (appended rs n f (forward k a)) (n + 1) (f + readingCount g (forward k a)) k axes
 
--- The sizes of their blocks together.
+-- The sizes of their blocks together, in points.
 unfoldable pub sizesOf : List ℕ → List ℕ → ℕ
 sizesOf k [] = 0
 sizesOf k (a ∷ axes) = blockSize (forward k a) + sizesOf k axes

@@ -6,12 +6,14 @@ use Prim.Native.Nat.{ℕ, _+_, _-_, _<_, _≤_}
 use lib.IntN.{ℤ, pos}
 use lib.ListN.{length, set}
 use lib.Seq.{sets}
-use Rattle.grid.specs.Block.{blockSize}
-use Rattle.area.specs.Encoding.{Area, entriesOf}
+use Rattle.area.specs.declared.Settings.{Settings}
+use Rattle.area.specs.Settings.{readingsFor, readingCount}
+use Rattle.area.specs.Log.{holding}
+use Rattle.area.specs.Encoding.{Area, entriesOf, machineOf, written}
 use Rattle.area.specs.Records.{stored}
 use Rattle.quadrature.specs.Readings.{recordAt}
 use Rattle.soundness.specs.Held.{levelsAt, stateAt}
-use Rattle.machine.specs.Log.{machineOf, written, withEntries, firstWanted, wantedIndex}
+use Rattle.machine.specs.Log.{firstWanted, wantedIndex}
 use Rattle.machine.specs.Promote.{retire, admittedAxes, refine, fits}
 use Rattle.machine.specs.Steps.{started, deliver}
 use Rattle.writing.specs.Settled.{Settled}
@@ -19,19 +21,18 @@ use Rattle.writing.specs.Changes.{restated, rootRecord, appendedAll, siz
 
 pub record WriteFacts : Type 0 where
   -- start writes the job record and record 0
-  pub start : (a : Area) (d t b : ℕ) → 1 ≤ length (a .run .records)
-      → written a (started d t b) ≡ record {
-        job = record { axes = d; threshold = t; budget = b; held = 1; reserved = 1; pending = 0; mean = pos 0 };
+  pub start : (a : Area) (g : Settings) → 1 ≤ length (a .run .records)
+      → written a (started g) ≡ record {
+        job = record { settings = g; held = 1; reserved = 1; pending = 0; mean = pos 0 };
         run = stored (a .run) 0 rootRecord;
         store = a .store;
       }
   -- deliver changes the first wanted record's state and indicator, its block of the store, pending error and mean
-  pub deliver : (a : Area) (rs : List ℤ) (i : ℕ) → Settled a → firstWanted (entriesOf a) < length (entriesOf a) → length rs ≡ blockSize (wantedIndex (entriesOf a))
+  pub deliver : (a : Area) (rs : List ℤ) (i : ℕ) → Settled a → firstWanted (entriesOf a) < length (entriesOf a)
+      → length rs ≡ readingCount (a .job .settings) (wantedIndex (entriesOf a))
       → written a (deliver (machineOf a) rs i) ≡ record {
         job = record {
-          axes = a .job .axes;
-          threshold = a .job .threshold;
-          budget = a .job .budget;
+          settings = a .job .settings;
           held = a .job .held;
           reserved = a .job .reserved;
           pending = a .job .pending + i;
@@ -40,22 +41,22 @@ pub record WriteFacts : Type 0 where
         run = stored (a .run) (firstWanted (entriesOf a)) (restated (recordAt (a .run .records) (firstWanted (entriesOf a))) 1 i);
         store = sets (a .store) (recordAt (a .run .records) (firstWanted (entriesOf a)) .first) rs;
       }
-  -- refining an active place p, where nothing is wanted and it fits, changes its state, appends the admitted, and adds their counts
+  -- refining an active place p, where nothing is wanted and it fits, changes its state, appends the admitted, whose readings begin where
+  -- those of the reserved points end, and adds their counts
   pub refine : (a : Area) (p : ℕ) → Settled a → length (entriesOf a) ≤ firstWanted (entriesOf a) → p < a .job .held → stateAt (a .run .records) p ≡ 1
-      → fits (a .job .budget) (refine (a .job .axes) (entriesOf a) p) ≡ true
-      → written a (record { log = withEntries (machineOf a .log) (refine (a .job .axes) (entriesOf a) p); mean = a .job .mean }) ≡ record {
+      → fits (a .job .settings .budget) (refine (a .job .settings .axes) (entriesOf a) p) ≡ true
+      → written a (holding (machineOf a) (refine (a .job .settings .axes) (entriesOf a) p)) ≡ record {
         job = record {
-          axes = a .job .axes;
-          threshold = a .job .threshold;
-          budget = a .job .budget;
-          held = a .job .held + length (admittedAxes (a .job .axes) (retire (entriesOf a) p) (levelsAt (a .run .records) p));
-          reserved = a .job .reserved + sizesOf (levelsAt (a .run .records) p) (admittedAxes (a .job .axes) (retire (entriesOf a) p) (levelsAt (a .run .records) p));
+          settings = a .job .settings;
+          held = a .job .held + length (admittedAxes (a .job .settings .axes) (retire (entriesOf a) p) (levelsAt (a .run .records) p));
+          reserved = a .job .reserved + sizesOf (levelsAt (a .run .records) p) (admittedAxes (a .job .settings .axes) (retire (entriesOf a) p) (levelsAt (a .run .records) p));
           pending = a .job .pending - recordAt (a .run .records) p .indicator;
           mean = a .job .mean;
         };
         run = record {
-          records = appendedAll (set (a .run .records) p (restated (recordAt (a .run .records) p) 2 (recordAt (a .run .records) p .indicator))) (a .job .held) (a .job .reserved)
-              (levelsAt (a .run .records) p) (admittedAxes (a .job .axes) (retire (entriesOf a) p) (levelsAt (a .run .records) p));
+          records = appendedAll (a .job .settings) (set (a .run .records) p (restated (recordAt (a .run .records) p) 2 (recordAt (a .run .records) p .indicator)))
+              (a .job .held) (readingsFor (a .job .settings) (a .job .reserved))
+              (levelsAt (a .run .records) p) (admittedAxes (a .job .settings .axes) (retire (entriesOf a) p) (levelsAt (a .run .records) p));
           rest = a .run .rest;
         };
         store = a .store;

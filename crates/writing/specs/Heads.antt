@@ -2,7 +2,9 @@
 use mathlib.Core.List.{List, [], map}
 use Rattle.area.specs.declared.IndexRecord.{IndexRecord}
 use Rattle.area.specs.Entry.{Entry}
-use Rattle.area.specs.Encoding.{entryOf}
+
+unfoldable pub headOf : IndexRecord → Entry
+headOf r = record { levels = r .levels; state = r .state; indicator = r .indicator; readings = [] }
 
 unfoldable pub headsOf : List IndexRecord → List Entry
-headsOf rs = map (entryOf []) rs
+headsOf rs = map headOf rs

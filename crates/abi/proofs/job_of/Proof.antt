@@ -24,11 +24,11 @@ wide-requires c κs = search needs
 element-copy-out-t14 : tie.Need-element-copy-out-t14
 element-copy-out-t14 c = search needs
 
-element-copy-out-t17 : tie.Need-element-copy-out-t17
-element-copy-out-t17 c = search needs
+element-copy-out-t18 : tie.Need-element-copy-out-t18
+element-copy-out-t18 c = search needs
 
-element-copy-out-t20 : tie.Need-element-copy-out-t20
-element-copy-out-t20 c = search needs
+element-copy-out-t21 : tie.Need-element-copy-out-t21
+element-copy-out-t21 c = search needs
 
 element-copy-out-wide-3 : tie.Need-element-copy-out-wide-3
 element-copy-out-wide-3 c = search needs
@@ -67,8 +67,8 @@ job-of-spec =
     element-copy-out-wide-2
     wide-requires
     element-copy-out-t14
-    element-copy-out-t17
-    element-copy-out-t20
+    element-copy-out-t18
+    element-copy-out-t21
     element-copy-out-wide-3
     element-copy-out-wide-4
     wide-requires-2

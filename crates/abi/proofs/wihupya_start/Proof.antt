@@ -32,8 +32,8 @@ returns c =
     let s = c .before .before .before .before .before .before .before .before .before .before in
     let cells = now (s .args .cells) in
     let store = now (s .args .store) in
-    let is = c .before .before .before .before .before .start .ensures ∙ ap (λ (j : JobRecord). startCall (areaOf j cells store) (s .args .axes) (s .args .threshold) (s .args .budget)) (c .before .before .before .before .before .before .before .job-of .ensures) in
-    (λ i. record { number = c .number-of .ensures i; job = c .before .words-of .ensures i; run = runOf (c .before .before .before .before .before .start .last .1 .1 .1 .1 .0); store = store }) ∙ ap exported is
+    let is = c .before .before .before .before .before .start .ensures ∙ ap (λ (j : JobRecord). startCall (areaOf j cells store) (record { axes = s .args .axes; threshold = s .args .threshold; budget = s .args .budget })) (c .before .before .before .before .before .before .before .job-of .ensures) in
+    (λ i. record { number = c .number-of .ensures i; job = c .before .words-of .ensures i; run = runOf (c .before .before .before .before .before .start .last .1 .1 .0); store = store }) ∙ ap exported is
 
 pub wihupya-start-spec : {M : Type 1} → statement M
 wihupya-start-spec =

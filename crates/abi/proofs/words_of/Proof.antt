@@ -66,8 +66,8 @@ unfolding wordsOf
 returns c =
     let s = c .before .before .before .before .before .before .before .before in
     let j = s .args .job in
-    let mean = c .before .before .before .before .before .before .bits-of .ensures ∙ ap (ofZ w64) (back (j .mean) (sfits-of (c .before .before .before .before .before .before .before .struct-told .given .1 .1 .1 .1 .1 .1 .0 .1))) in
-    λ i. c .before .before .before .before .before .low-word .ensures i ∷ c .before .before .before .before .high-word .ensures i ∷ c .before .before .before .low-word2 .ensures i ∷ c .before .before .high-word2 .ensures i ∷ (c .before .low-word3 .ensures ∙ ap lowWord mean) i ∷ (c .high-word3 .ensures ∙ ap highWord mean) i ∷ j .axes ∷ j .budget ∷ j .held ∷ j .reserved ∷ []
+    let mean = c .before .before .before .before .before .before .bits-of .ensures ∙ ap (ofZ w64) (back (j .mean) (sfits-of (c .before .before .before .before .before .before .before .struct-told .given .1 .1 .1 .1 .0 .1))) in
+    λ i. c .before .before .before .before .before .low-word .ensures i ∷ c .before .before .before .before .high-word .ensures i ∷ c .before .before .before .low-word2 .ensures i ∷ c .before .before .high-word2 .ensures i ∷ (c .before .low-word3 .ensures ∙ ap lowWord mean) i ∷ (c .high-word3 .ensures ∙ ap highWord mean) i ∷ j .settings .axes ∷ j .settings .budget ∷ j .held ∷ j .reserved ∷ []
 
 pub words-of-spec : {M : Type 1} → statement M
 words-of-spec =

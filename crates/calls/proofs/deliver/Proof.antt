@@ -7,11 +7,11 @@ use Prim.Native.Nat.{ℕ, _-_, _<_}
 use native.Mathlib.Omega.{arith}
 use denote.Ref.{now}
 use lib.ListN.{length}
-use Rattle.grid.specs.Block.{blockSize}
+use Rattle.area.specs.Settings.{readingCount}
 use Rattle.area.specs.declared.JobRecord.{JobRecord}
-use Rattle.area.specs.Encoding.{Area, areaOf, entriesOf}
+use Rattle.area.specs.Encoding.{Area, areaOf, entriesOf, machineOf}
 use Rattle.soundness.specs.Clauses.{isSound}
-use Rattle.machine.specs.Log.{machineOf, firstWanted, wantedIndex}
+use Rattle.machine.specs.Log.{firstWanted, wantedIndex}
 use Rattle.machine.specs.Causes.{firstCause, inRange}
 use Rattle.writing.specs.Settled.{Settled}
 use Rattle.calls.specs.Replies.{lengthsOf}
@@ -38,7 +38,7 @@ module _ (j : JobRecord) (cells : List ℕ) (store rs : List ℤ) (n : ℕ)
   unfolding machineOf
   at-first p e = let f = e ∙ wanted-place j cells store st in (f, omega (arith, f, entries-count j cells store st, open-to .wanted))
 
-  readings-fit : (length rs ≡ blockSize (wantedIndex (entriesOf (areaOf j cells store)))) × (inRange rs ≡ true)
+  readings-fit : (length rs ≡ readingCount (j .settings) (wantedIndex (entriesOf (areaOf j cells store)))) × (inRange rs ≡ true)
   unfolding machineOf
   readings-fit = (open-to .whole, open-to .range)
 

@@ -5,11 +5,10 @@ use Prim.Native.Nat.{_-_}
 use native.Mathlib.Omega.{arith}
 use denote.Ref.{now}
 use borrow.Author.Tests.{not-true, not-false}
-use Rattle.area.specs.Encoding.{areaOf}
+use Rattle.area.specs.Encoding.{areaOf, machineOf}
 use Rattle.soundness.specs.Clauses.{isSound}
-use Rattle.machine.specs.Log.{machineOf}
 use Rattle.calls.specs.Replies.{lengthsOf}
-use Rattle.calls.proofs.Settling.{held-there, st, nothing, something, within, size-is}
+use Rattle.calls.proofs.Settling.{held-there, st, nothing, something, within, count-is}
 use Rattle.calls.proofs.Causes.{deliver-common, deliver-nothing, deliver-count, deliver-range, deliver-fits}
 use Rattle.calls.proofs.deliver_cause.Statement.{statement}
 use Rattle.calls.proofs.deliver_cause.Tie as tie
@@ -36,37 +35,37 @@ returns-2 c =
     sym (deliver-nothing (lengthsOf a) (isSound a) (machineOf a .log) (now (s .args .readings)) (sym (c .before .before .before .before .area-cause .ensures) ∙ c .before .before .before .if1 .left) (nothing (s .args .job) (now (s .args .cells)) (now (s .args .store)) (c .before .before .before .before .area-cause .result) (c .before .before .before .before .area-cause .ensures) (c .before .before .before .if1 .left) (c .before .first-wanted .result) (c .before .first-wanted .ensures) (c .if2 .taken)))
 
 levels-at-requires : tie.Need-levels-at-requires
-levels-at-requires c κs = let s = c .before .before .before .before .before .before in omega (arith, held-there (s .args .job) (now (s .args .cells)) (now (s .args .store)) (st (s .args .job) (now (s .args .cells)) (now (s .args .store)) (c .before .before .before .before .area-cause .result) (c .before .before .before .before .area-cause .ensures) (c .before .before .before .if1 .left)), c .if2 .left)
+levels-at-requires c κs = let s = c .before .before .before .before .before .before .before in omega (arith, held-there (s .args .job) (now (s .args .cells)) (now (s .args .store)) (st (s .args .job) (now (s .args .cells)) (now (s .args .store)) (c .before .before .before .before .before .area-cause .result) (c .before .before .before .before .before .area-cause .ensures) (c .before .before .before .before .if1 .left)), c .before .if2 .left)
 
-block-size-requires : tie.Need-block-size-requires
-block-size-requires c κs = let s = c .before .before .before .before .before .before .before in within (s .args .job) (now (s .args .cells)) (now (s .args .store)) (c .before .before .before .before .before .area-cause .result) (c .before .before .before .before .before .area-cause .ensures) (c .before .before .before .before .if1 .left) (c .before .before .first-wanted .result) (c .before .before .first-wanted .ensures) (c .before .if2 .left) (c .levels-at .result) (c .levels-at .ensures)
+reading-count-requires : tie.Need-reading-count-requires
+reading-count-requires c κs = let s = c .before .before .before .before .before .before .before .before in within (s .args .job) (now (s .args .cells)) (now (s .args .store)) (c .before .before .before .before .before .before .area-cause .result) (c .before .before .before .before .before .before .area-cause .ensures) (c .before .before .before .before .before .if1 .left) (c .before .before .before .first-wanted .result) (c .before .before .before .first-wanted .ensures) (c .before .before .if2 .left) (c .levels-at .result) (c .levels-at .ensures)
 
 returns-3 : tie.Need-returns-3
 returns-3 c =
-    let s = c .before .before .before .before .before .before .before .before .before in
+    let s = c .before .before .before .before .before .before .before .before .before .before in
     let a = areaOf (s .args .job) (now (s .args .cells)) (now (s .args .store)) in
-    let size = size-is (s .args .job) (now (s .args .cells)) (now (s .args .store)) (c .before .before .before .before .before .before .before .area-cause .result) (c .before .before .before .before .before .before .before .area-cause .ensures) (c .before .before .before .before .before .before .if1 .left) (c .before .before .before .before .first-wanted .result) (c .before .before .before .before .first-wanted .ensures) (c .before .before .before .if2 .left) (c .before .before .levels-at .result) (c .before .before .levels-at .ensures) (c .before .block-size .result) (c .before .block-size .ensures) in
-    sym (deliver-count (lengthsOf a) (isSound a) (machineOf a .log) (now (s .args .readings)) (sym (c .before .before .before .before .before .before .before .area-cause .ensures) ∙ c .before .before .before .before .before .before .if1 .left) (something (s .args .job) (now (s .args .cells)) (now (s .args .store)) (c .before .before .before .before .before .before .before .area-cause .result) (c .before .before .before .before .before .before .before .area-cause .ensures) (c .before .before .before .before .before .before .if1 .left) (c .before .before .before .before .first-wanted .result) (c .before .before .before .before .first-wanted .ensures) (c .before .before .before .if2 .left)) (λ e. c .if3 .taken (e ∙ sym size)))
+    let count = count-is (s .args .job) (now (s .args .cells)) (now (s .args .store)) (c .before .before .before .before .before .before .before .before .area-cause .result) (c .before .before .before .before .before .before .before .before .area-cause .ensures) (c .before .before .before .before .before .before .before .if1 .left) (c .before .before .before .before .before .first-wanted .result) (c .before .before .before .before .before .first-wanted .ensures) (c .before .before .before .before .if2 .left) (c .before .before .levels-at .result) (c .before .before .levels-at .ensures) (c .before .reading-count .result) (c .before .reading-count .ensures) in
+    sym (deliver-count (lengthsOf a) (isSound a) (machineOf a .log) (now (s .args .readings)) (sym (c .before .before .before .before .before .before .before .before .area-cause .ensures) ∙ c .before .before .before .before .before .before .before .if1 .left) (something (s .args .job) (now (s .args .cells)) (now (s .args .store)) (c .before .before .before .before .before .before .before .before .area-cause .result) (c .before .before .before .before .before .before .before .before .area-cause .ensures) (c .before .before .before .before .before .before .before .if1 .left) (c .before .before .before .before .before .first-wanted .result) (c .before .before .before .before .before .first-wanted .ensures) (c .before .before .before .before .if2 .left)) (λ e. c .if3 .taken (e ∙ sym count)))
 
 in-range-requires : tie.Need-in-range-requires
 in-range-requires c κs = search needs
 
 returns-4 : tie.Need-returns-4
 returns-4 c =
-    let s = c .before .before .before .before .before .before .before .before .before .before .before in
+    let s = c .before .before .before .before .before .before .before .before .before .before .before .before in
     let a = areaOf (s .args .job) (now (s .args .cells)) (now (s .args .store)) in
-    let size = size-is (s .args .job) (now (s .args .cells)) (now (s .args .store)) (c .before .before .before .before .before .before .before .before .before .area-cause .result) (c .before .before .before .before .before .before .before .before .before .area-cause .ensures) (c .before .before .before .before .before .before .before .before .if1 .left) (c .before .before .before .before .before .before .first-wanted .result) (c .before .before .before .before .before .before .first-wanted .ensures) (c .before .before .before .before .before .if2 .left) (c .before .before .before .before .levels-at .result) (c .before .before .before .before .levels-at .ensures) (c .before .before .before .block-size .result) (c .before .before .before .block-size .ensures) in
+    let count = count-is (s .args .job) (now (s .args .cells)) (now (s .args .store)) (c .before .before .before .before .before .before .before .before .before .before .area-cause .result) (c .before .before .before .before .before .before .before .before .before .before .area-cause .ensures) (c .before .before .before .before .before .before .before .before .before .if1 .left) (c .before .before .before .before .before .before .before .first-wanted .result) (c .before .before .before .before .before .before .before .first-wanted .ensures) (c .before .before .before .before .before .before .if2 .left) (c .before .before .before .before .levels-at .result) (c .before .before .before .before .levels-at .ensures) (c .before .before .before .reading-count .result) (c .before .before .before .reading-count .ensures) in
     sym
-    (deliver-range (lengthsOf a) (isSound a) (machineOf a .log) (now (s .args .readings)) (sym (c .before .before .before .before .before .before .before .before .before .area-cause .ensures) ∙ c .before .before .before .before .before .before .before .before .if1 .left) (something (s .args .job) (now (s .args .cells)) (now (s .args .store)) (c .before .before .before .before .before .before .before .before .before .area-cause .result) (c .before .before .before .before .before .before .before .before .before .area-cause .ensures) (c .before .before .before .before .before .before .before .before .if1 .left) (c .before .before .before .before .before .before .first-wanted .result) (c .before .before .before .before .before .before .first-wanted .ensures) (c .before .before .before .before .before .if2 .left)) (c .before .before .if3 .left ∙ size)
+    (deliver-range (lengthsOf a) (isSound a) (machineOf a .log) (now (s .args .readings)) (sym (c .before .before .before .before .before .before .before .before .before .before .area-cause .ensures) ∙ c .before .before .before .before .before .before .before .before .before .if1 .left) (something (s .args .job) (now (s .args .cells)) (now (s .args .store)) (c .before .before .before .before .before .before .before .before .before .before .area-cause .result) (c .before .before .before .before .before .before .before .before .before .before .area-cause .ensures) (c .before .before .before .before .before .before .before .before .before .if1 .left) (c .before .before .before .before .before .before .before .first-wanted .result) (c .before .before .before .before .before .before .before .first-wanted .ensures) (c .before .before .before .before .before .before .if2 .left)) (c .before .before .if3 .left ∙ count)
     (sym (c .before .in-range .ensures) ∙ not-true (c .before .in-range .result) (c .if4 .taken)))
 
 returns-5 : tie.Need-returns-5
 returns-5 c =
-    let s = c .before .before .before .before .before .before .before .before .before .before .before in
+    let s = c .before .before .before .before .before .before .before .before .before .before .before .before in
     let a = areaOf (s .args .job) (now (s .args .cells)) (now (s .args .store)) in
-    let size = size-is (s .args .job) (now (s .args .cells)) (now (s .args .store)) (c .before .before .before .before .before .before .before .before .before .area-cause .result) (c .before .before .before .before .before .before .before .before .before .area-cause .ensures) (c .before .before .before .before .before .before .before .before .if1 .left) (c .before .before .before .before .before .before .first-wanted .result) (c .before .before .before .before .before .before .first-wanted .ensures) (c .before .before .before .before .before .if2 .left) (c .before .before .before .before .levels-at .result) (c .before .before .before .before .levels-at .ensures) (c .before .before .before .block-size .result) (c .before .before .before .block-size .ensures) in
+    let count = count-is (s .args .job) (now (s .args .cells)) (now (s .args .store)) (c .before .before .before .before .before .before .before .before .before .before .area-cause .result) (c .before .before .before .before .before .before .before .before .before .before .area-cause .ensures) (c .before .before .before .before .before .before .before .before .before .if1 .left) (c .before .before .before .before .before .before .before .first-wanted .result) (c .before .before .before .before .before .before .before .first-wanted .ensures) (c .before .before .before .before .before .before .if2 .left) (c .before .before .before .before .levels-at .result) (c .before .before .before .before .levels-at .ensures) (c .before .before .before .reading-count .result) (c .before .before .before .reading-count .ensures) in
     sym
-    (deliver-fits (lengthsOf a) (isSound a) (machineOf a .log) (now (s .args .readings)) (sym (c .before .before .before .before .before .before .before .before .before .area-cause .ensures) ∙ c .before .before .before .before .before .before .before .before .if1 .left) (something (s .args .job) (now (s .args .cells)) (now (s .args .store)) (c .before .before .before .before .before .before .before .before .before .area-cause .result) (c .before .before .before .before .before .before .before .before .before .area-cause .ensures) (c .before .before .before .before .before .before .before .before .if1 .left) (c .before .before .before .before .before .before .first-wanted .result) (c .before .before .before .before .before .before .first-wanted .ensures) (c .before .before .before .before .before .if2 .left)) (c .before .before .if3 .left ∙ size)
+    (deliver-fits (lengthsOf a) (isSound a) (machineOf a .log) (now (s .args .readings)) (sym (c .before .before .before .before .before .before .before .before .before .before .area-cause .ensures) ∙ c .before .before .before .before .before .before .before .before .before .if1 .left) (something (s .args .job) (now (s .args .cells)) (now (s .args .store)) (c .before .before .before .before .before .before .before .before .before .before .area-cause .result) (c .before .before .before .before .before .before .before .before .before .before .area-cause .ensures) (c .before .before .before .before .before .before .before .before .before .if1 .left) (c .before .before .before .before .before .before .before .first-wanted .result) (c .before .before .before .before .before .before .before .first-wanted .ensures) (c .before .before .before .before .before .before .if2 .left)) (c .before .before .if3 .left ∙ count)
     (sym (c .before .in-range .ensures) ∙ not-false (c .before .in-range .result) (c .if4 .left)))
 
 pub deliver-cause-spec : {M : Type 1} → statement M
@@ -79,7 +78,7 @@ deliver-cause-spec =
     first-wanted-requires
     returns-2
     levels-at-requires
-    block-size-requires
+    reading-count-requires
     returns-3
     in-range-requires
     returns-4

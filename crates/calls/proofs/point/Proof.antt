@@ -10,10 +10,10 @@ use Rattle.grid.specs.Index.{Within}
 use Rattle.grid.specs.Block.{blockSize}
 use Rattle.area.specs.declared.JobRecord.{JobRecord}
 use Rattle.area.specs.Records.{recordsOf}
-use Rattle.area.specs.Encoding.{areaOf, entriesOf}
+use Rattle.area.specs.Encoding.{areaOf, entriesOf, machineOf}
 use Rattle.quadrature.specs.Readings.{recordAt}
 use Rattle.soundness.specs.Clauses.{isSound}
-use Rattle.machine.specs.Log.{machineOf, firstWanted, wantedIndex}
+use Rattle.machine.specs.Log.{firstWanted, wantedIndex}
 use Rattle.machine.specs.Causes.{firstCause}
 use Rattle.writing.specs.Settled.{Settled}
 use Rattle.calls.specs.Replies.{lengthsOf}
@@ -60,10 +60,10 @@ module _ (j : JobRecord) (cells : List ℕ) (store : List ℤ) (m w n : ℕ)
     unfolding machineOf
     in-block = subst (λ k. m < blockSize k) (sym levels-are) (open-to .inside)
 
-    axes-few : j .axes ≤ 8
-    axes-few = st .sound .structure .axes .1
+    axes-few : j .settings .axes ≤ 8
+    axes-few = st .sound .settings .axes .1
 
-    buffer-room : j .axes ≤ w
+    buffer-room : j .settings .axes ≤ w
     unfolding machineOf
     buffer-room = open-to .room
 
@@ -113,7 +113,7 @@ returns-2 c =
     let a = areaOf (s .args .job) (now (s .args .cells)) (now (s .args .store)) in
     let levels = levels-are (s .args .job) (now (s .args .cells)) (now (s .args .store)) (s .args .n) (length (now (s .args .buffer))) (c .before .before .before .before .before .before .before .before .point-cause .result) (c .before .before .before .before .before .before .before .before .point-cause .ensures) (c .before .before .before .before .before .before .before .if1 .left) (c .before .before .before .before .first-wanted .result) (c .before .before .before .before .first-wanted .ensures) in
     ap (λ x. record { reply = accepted; buffer = x }) (c .before .before .point .ensures)
-    ∙ ap (λ k. record { reply = accepted; buffer = take (s .args .job .axes) (pointOf k (s .args .n)) ++ drop (s .args .job .axes) (now (s .args .buffer)) }) levels
+    ∙ ap (λ k. record { reply = accepted; buffer = take (s .args .job .settings .axes) (pointOf k (s .args .n)) ++ drop (s .args .job .settings .axes) (now (s .args .buffer)) }) levels
     ∙ point-accepts a (s .args .n) (now (s .args .buffer)) (c .before .before .before .before .before .before .before .before .point-cause .result) (c .before .before .before .before .before .before .before .before .point-cause .ensures) (c .before .before .before .before .before .before .before .if1 .left)
 
 pub point-spec : {M : Type 1} → statement M

@@ -4,9 +4,8 @@ use mathlib.Core.Path.{sym, _∙_}
 use Prim.Native.Nat.{_-_}
 use native.Mathlib.Omega.{arith}
 use denote.Ref.{now}
-use Rattle.area.specs.Encoding.{areaOf}
+use Rattle.area.specs.Encoding.{areaOf, machineOf}
 use Rattle.soundness.specs.Clauses.{isSound}
-use Rattle.machine.specs.Log.{machineOf}
 use Rattle.calls.specs.Replies.{lengthsOf}
 use Rattle.calls.proofs.Settling.{held-there, st, nothing, something, within, size-is}
 use Rattle.calls.proofs.Causes.{point-buffer, point-common, point-nothing, point-past, point-fits}

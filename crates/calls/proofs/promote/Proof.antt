@@ -6,9 +6,9 @@ use Prim.Native.Nat.{ℕ, _-_, _≤_}
 use denote.Ref.{now}
 use lib.ListN.{length}
 use Rattle.area.specs.declared.JobRecord.{JobRecord}
-use Rattle.area.specs.Encoding.{areaOf, entriesOf}
+use Rattle.area.specs.Encoding.{areaOf, entriesOf, machineOf}
 use Rattle.soundness.specs.Clauses.{isSound}
-use Rattle.machine.specs.Log.{machineOf, firstWanted}
+use Rattle.machine.specs.Log.{firstWanted}
 use Rattle.machine.specs.Causes.{firstCause}
 use Rattle.writing.specs.Settled.{Settled}
 use Rattle.calls.specs.Replies.{lengthsOf}

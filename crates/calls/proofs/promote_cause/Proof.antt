@@ -3,9 +3,8 @@ use borrow.Author.Needs.{needs}
 use mathlib.Core.Path.{sym, _∙_}
 use Prim.Native.Nat.{_-_}
 use denote.Ref.{now}
-use Rattle.area.specs.Encoding.{areaOf}
+use Rattle.area.specs.Encoding.{areaOf, machineOf}
 use Rattle.soundness.specs.Clauses.{isSound}
-use Rattle.machine.specs.Log.{machineOf}
 use Rattle.calls.specs.Replies.{lengthsOf}
 use Rattle.calls.proofs.Settling.{held-there, st, nothing, something}
 use Rattle.calls.proofs.Causes.{promote-common, promote-wanted, promote-free}

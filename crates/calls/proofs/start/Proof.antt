@@ -6,6 +6,7 @@ use Prim.Native.Nat.{ℕ, _-_, _/_, _≤_}
 use native.Mathlib.Omega.{arith}
 use denote.Ref.{now}
 use lib.ListN.{length}
+use Rattle.area.specs.declared.Settings.{Settings}
 use Rattle.area.specs.declared.JobRecord.{JobRecord}
 use Rattle.area.specs.Encoding.{Area, areaOf}
 use Rattle.area.proofs.Records.{length-recordsOf}
@@ -24,20 +25,20 @@ use Rattle.calls.proofs.start.Statement.{statement}
 use Rattle.calls.proofs.start.Tie as tie
 
 -- the lengths that the code asks are the area's
-module _ (j : JobRecord) (cells : List ℕ) (store : List ℤ) (d b n : ℕ) (is : n ≡ firstCause (startCauses (record { records = length cells / 27; readings = length store }) d b)) where
-  cause-is : n ≡ firstCause (startCauses (lengthsOf (areaOf j cells store)) d b)
-  cause-is = is ∙ ap (λ r. firstCause (startCauses (record { records = r; readings = length store }) d b)) (sym (length-recordsOf cells))
+module _ (j : JobRecord) (cells : List ℕ) (store : List ℤ) (g : Settings) (n : ℕ) (is : n ≡ firstCause (startCauses (record { records = length cells / 27; readings = length store }) g)) where
+  cause-is : n ≡ firstCause (startCauses (lengthsOf (areaOf j cells store)) g)
+  cause-is = is ∙ ap (λ r. firstCause (startCauses (record { records = r; readings = length store }) g)) (sym (length-recordsOf cells))
 
   room : n ≡ 0 → 512 ≤ length cells / 27
-  room e = startable (record { records = length cells / 27; readings = length store }) d b (sym is ∙ e) .records
+  room e = startable (record { records = length cells / 27; readings = length store }) g (sym is ∙ e) .records
 
 -- the job record and the cells that are left hold the area that was to be written
-area-is : (j k : JobRecord) (cells after : List ℕ) (store : List ℤ) (d t b : ℕ) → 512 ≤ length cells / 27
-    → k ≡ record { axes = d; threshold = t; budget = b; held = 1; reserved = 1; pending = 0; mean = pos 0 } → runOf after ≡ stored (runOf cells) 0 rootRecord
-    → areaOf k after store ≡ startOn (areaOf j cells store) d t b
+area-is : (j k : JobRecord) (cells after : List ℕ) (store : List ℤ) (g : Settings) → 512 ≤ length cells / 27
+    → k ≡ record { settings = g; held = 1; reserved = 1; pending = 0; mean = pos 0 } → runOf after ≡ stored (runOf cells) 0 rootRecord
+    → areaOf k after store ≡ startOn (areaOf j cells store) g
 unfolding startOn
-area-is j k cells after store d t b h e f =
-    (λ i. record { job = e i; run = f i; store = store }) ∙ sym (write-facts .start (areaOf j cells store) d t b (omega (arith, length-recordsOf cells, h)))
+area-is j k cells after store g h e f =
+    (λ i. record { job = e i; run = f i; store = store }) ∙ sym (write-facts .start (areaOf j cells store) g (omega (arith, length-recordsOf cells, h)))
 
 start-cause-requires : tie.Need-start-cause-requires
 start-cause-requires c κs = search needs
@@ -47,10 +48,10 @@ unfolding replyOf
 returns c =
     let s = c .before .before .before in
     let a = areaOf (s .args .job) (now (s .args .cells)) (now (s .args .store)) in
-    start-refuses a (s .args .axes) (s .args .threshold) (s .args .budget) (c .before .start-cause .result) (cause-is (s .args .job) (now (s .args .cells)) (now (s .args .store)) (s .args .axes) (s .args .budget) (c .before .start-cause .result) (c .before .start-cause .ensures)) (c .if1 .taken)
+    start-refuses a (s .args .settings) (c .before .start-cause .result) (cause-is (s .args .job) (now (s .args .cells)) (now (s .args .store)) (s .args .settings) (c .before .start-cause .result) (c .before .start-cause .ensures)) (c .if1 .taken)
 
 start-requires : tie.Need-start-requires
-start-requires c κs = let s = c .before .before .before .before in omega (arith, room (s .args .job) (now (s .args .cells)) (now (s .args .store)) (s .args .axes) (s .args .budget) (c .before .before .start-cause .result) (c .before .before .start-cause .ensures) (c .before .if1 .left))
+start-requires c κs = let s = c .before .before .before .before in omega (arith, room (s .args .job) (now (s .args .cells)) (now (s .args .store)) (s .args .settings) (c .before .before .start-cause .result) (c .before .before .start-cause .ensures) (c .before .if1 .left))
 
 same-length : tie.Need-same-length
 same-length c = search needs
@@ -61,9 +62,9 @@ returns-2 c =
     let s = c .before .before .before .before .before .before .before in
     let a = areaOf (s .args .job) (now (s .args .cells)) (now (s .args .store)) in
     ap (λ (x : Area). record { reply = accepted; area = x })
-    (area-is (s .args .job) (c .before .before .start .result) (now (s .args .cells)) (c .before .before .start .last .1 .1 .1 .0) (now (s .args .store)) (s .args .axes) (s .args .threshold) (s .args .budget)
-    (room (s .args .job) (now (s .args .cells)) (now (s .args .store)) (s .args .axes) (s .args .budget) (c .before .before .before .before .before .start-cause .result) (c .before .before .before .before .before .start-cause .ensures) (c .before .before .before .before .if1 .left)) (c .before .before .start .ensures .0) (c .before .before .start .ensures .1))
-    ∙ start-accepts a (s .args .axes) (s .args .threshold) (s .args .budget) (c .before .before .before .before .before .start-cause .result) (cause-is (s .args .job) (now (s .args .cells)) (now (s .args .store)) (s .args .axes) (s .args .budget) (c .before .before .before .before .before .start-cause .result) (c .before .before .before .before .before .start-cause .ensures)) (c .before .before .before .before .if1 .left)
+    (area-is (s .args .job) (c .before .before .start .result) (now (s .args .cells)) (c .before .before .start .last .1 .0) (now (s .args .store)) (s .args .settings)
+    (room (s .args .job) (now (s .args .cells)) (now (s .args .store)) (s .args .settings) (c .before .before .before .before .before .start-cause .result) (c .before .before .before .before .before .start-cause .ensures) (c .before .before .before .before .if1 .left)) (c .before .before .start .ensures .0) (c .before .before .start .ensures .1))
+    ∙ start-accepts a (s .args .settings) (c .before .before .before .before .before .start-cause .result) (cause-is (s .args .job) (now (s .args .cells)) (now (s .args .store)) (s .args .settings) (c .before .before .before .before .before .start-cause .result) (c .before .before .before .before .before .start-cause .ensures)) (c .before .before .before .before .if1 .left)
 
 pub start-spec : {M : Type 1} → statement M
 start-spec = tie.close (tie.spec start-cause-requires returns start-requires same-length returns-2)

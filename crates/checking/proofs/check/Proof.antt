@@ -40,7 +40,7 @@ held-fit-requires c κs =
     let f = job-facts (s .args .job) cells (now (s .args .store)) fits in
     let first = take (s .args .job .held * 27) cells in
     let cut = length-take-le (s .args .job .held * 27) cells (cells-there (s .args .job) cells (now (s .args .store)) fits) in
-    ((f .axes .1, f .budget .1, f .held .1), (omega (arith, length-recordsOf first, cut), f .room))
+    ((f .settings, f .held .1), (omega (arith, length-recordsOf first, cut), f .room))
 
 returns-2 : tie.Need-returns-2
 returns-2 c =

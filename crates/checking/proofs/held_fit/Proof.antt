@@ -27,18 +27,18 @@ places-fit-requires c κs = search needs
 
 returns : tie.Need-returns
 returns c =
-    let s = c .before .before .before .before .before in
+    let s = c .before .before .before .before .before .before in
     let j = s .args .job in
     let rs = recordsOf (now (s .args .cells)) in
     let store = now (s .args .store) in
     sym (held-no-place j rs store (sym (c .before .places-fit .ensures) ∙ not-true (c .before .places-fit .result) (c .if1 .taken)))
 
 all-complete-requires : tie.Need-all-complete-requires
-all-complete-requires c κs = ((c .before .before .before .before .before .pre .0 .0, sym (c .before .places-fit .ensures) ∙ not-false (c .before .places-fit .result) (c .if1 .left)), c .before .before .before .before .before .pre .1 .0)
+all-complete-requires c κs = ((c .before .before .before .before .before .before .pre .0 .0 .axes .1, sym (c .before .places-fit .ensures) ∙ not-false (c .before .places-fit .result) (c .if1 .left)), c .before .before .before .before .before .before .pre .1 .0)
 
 returns-2 : tie.Need-returns-2
 returns-2 c =
-    let s = c .before .before .before .before .before .before .before in
+    let s = c .before .before .before .before .before .before .before .before in
     let j = s .args .job in
     let rs = recordsOf (now (s .args .cells)) in
     let store = now (s .args .store) in
@@ -49,7 +49,7 @@ all-wanted-fit-requires c κs = search needs
 
 returns-3 : tie.Need-returns-3
 returns-3 c =
-    let s = c .before .before .before .before .before .before .before .before .before in
+    let s = c .before .before .before .before .before .before .before .before .before .before in
     let j = s .args .job in
     let rs = recordsOf (now (s .args .cells)) in
     let store = now (s .args .store) in
@@ -58,13 +58,10 @@ returns-3 c =
 cast-blocks-fit : tie.Need-cast-blocks-fit
 cast-blocks-fit c = search needs
 
-cast-blocks-fit-2 : tie.Need-cast-blocks-fit-2
-cast-blocks-fit-2 c = search needs
-
 blocks-fit-requires : tie.Need-blocks-fit-requires
 blocks-fit-requires c κs =
     let s = c .before .before .before .before .before .before .before .before .before .before .before in
-    ((s .pre .0 .0, sym (c .before .before .before .before .before .before .before .places-fit .ensures) ∙ not-false (c .before .before .before .before .before .before .before .places-fit .result) (c .before .before .before .before .before .before .if1 .left)), (s .pre .1 .0, s .pre .1 .1, s .pre .0 .1))
+    ((s .pre .0 .0, sym (c .before .before .before .before .before .before .places-fit .ensures) ∙ not-false (c .before .before .before .before .before .before .places-fit .result) (c .before .before .before .before .before .if1 .left)), s .pre .1)
 
 returns-4 : tie.Need-returns-4
 returns-4 c =
@@ -72,7 +69,7 @@ returns-4 c =
     let j = s .args .job in
     let rs = recordsOf (now (s .args .cells)) in
     let store = now (s .args .store) in
-    sym (held-no-blocks j rs store (sym (c .before .before .before .before .before .before .before .before .before .places-fit .ensures) ∙ not-false (c .before .before .before .before .before .before .before .before .before .places-fit .result) (c .before .before .before .before .before .before .before .before .if1 .left)) (sym (c .before .before .before .before .before .before .before .all-complete .ensures) ∙ not-false (c .before .before .before .before .before .before .before .all-complete .result) (c .before .before .before .before .before .before .if2 .left)) (sym (c .before .before .before .before .before .all-wanted-fit .ensures) ∙ not-false (c .before .before .before .before .before .all-wanted-fit .result) (c .before .before .before .before .if3 .left)) (sym (c .before .blocks-fit .ensures) ∙ not-true (c .before .blocks-fit .result) (c .if4 .taken)))
+    sym (held-no-blocks j rs store (sym (c .before .before .before .before .before .before .before .before .places-fit .ensures) ∙ not-false (c .before .before .before .before .before .before .before .before .places-fit .result) (c .before .before .before .before .before .before .before .if1 .left)) (sym (c .before .before .before .before .before .before .all-complete .ensures) ∙ not-false (c .before .before .before .before .before .before .all-complete .result) (c .before .before .before .before .before .if2 .left)) (sym (c .before .before .before .before .all-wanted-fit .ensures) ∙ not-false (c .before .before .before .before .all-wanted-fit .result) (c .before .before .before .if3 .left)) (sym (c .before .blocks-fit .ensures) ∙ not-true (c .before .blocks-fit .result) (c .if4 .taken)))
 
 pending-sum-requires : tie.Need-pending-sum-requires
 pending-sum-requires c κs = search needs
@@ -83,13 +80,13 @@ returns-5 c =
     let j = s .args .job in
     let rs = recordsOf (now (s .args .cells)) in
     let store = now (s .args .store) in
-    sym (held-no-pending j rs store (sym (c .before .before .before .before .before .before .before .before .before .before .before .before .places-fit .ensures) ∙ not-false (c .before .before .before .before .before .before .before .before .before .before .before .before .places-fit .result) (c .before .before .before .before .before .before .before .before .before .before .before .if1 .left)) (sym (c .before .before .before .before .before .before .before .before .before .before .all-complete .ensures) ∙ not-false (c .before .before .before .before .before .before .before .before .before .before .all-complete .result) (c .before .before .before .before .before .before .before .before .before .if2 .left)) (sym (c .before .before .before .before .before .before .before .before .all-wanted-fit .ensures) ∙ not-false (c .before .before .before .before .before .before .before .before .all-wanted-fit .result) (c .before .before .before .before .before .before .before .if3 .left)) (sym (c .before .before .before .before .blocks-fit .ensures) ∙ not-false (c .before .before .before .before .blocks-fit .result) (c .before .before .before .if4 .left)) (λ e. c .if5 .taken (c .before .before .pending-sum .ensures ∙ e)))
+    sym (held-no-pending j rs store (sym (c .before .before .before .before .before .before .before .before .before .before .before .places-fit .ensures) ∙ not-false (c .before .before .before .before .before .before .before .before .before .before .before .places-fit .result) (c .before .before .before .before .before .before .before .before .before .before .if1 .left)) (sym (c .before .before .before .before .before .before .before .before .before .all-complete .ensures) ∙ not-false (c .before .before .before .before .before .before .before .before .before .all-complete .result) (c .before .before .before .before .before .before .before .before .if2 .left)) (sym (c .before .before .before .before .before .before .before .all-wanted-fit .ensures) ∙ not-false (c .before .before .before .before .before .before .before .all-wanted-fit .result) (c .before .before .before .before .before .before .if3 .left)) (sym (c .before .before .before .before .blocks-fit .ensures) ∙ not-false (c .before .before .before .before .blocks-fit .result) (c .before .before .before .if4 .left)) (λ e. c .if5 .taken (c .before .before .pending-sum .ensures ∙ e)))
 
 delivered-count-requires : tie.Need-delivered-count-requires
-delivered-count-requires c κs = (c .before .before .before .before .before .before .before .before .before .before .before .before .before .before .before .before .pre .1 .0, c .before .before .before .before .before .before .before .before .before .before .before .before .before .before .before .before .pre .0 .2)
+delivered-count-requires c κs = (c .before .before .before .before .before .before .before .before .before .before .before .before .before .before .before .before .pre .1 .0, c .before .before .before .before .before .before .before .before .before .before .before .before .before .before .before .before .pre .0 .1)
 
 mean-fits-requires : tie.Need-mean-fits-requires
-mean-fits-requires c κs = omega (arith, c .before .delivered-count .ensures, count-small (recordsOf (now (c .before .before .before .before .before .before .before .before .before .before .before .before .before .before .before .before .before .before .args .cells))), c .before .before .before .before .before .before .before .before .before .before .before .before .before .before .before .before .before .before .pre .1 .0, c .before .before .before .before .before .before .before .before .before .before .before .before .before .before .before .before .before .before .pre .0 .2)
+mean-fits-requires c κs = omega (arith, c .before .delivered-count .ensures, count-small (recordsOf (now (c .before .before .before .before .before .before .before .before .before .before .before .before .before .before .before .before .before .before .args .cells))), c .before .before .before .before .before .before .before .before .before .before .before .before .before .before .before .before .before .before .pre .1 .0, c .before .before .before .before .before .before .before .before .before .before .before .before .before .before .before .before .before .before .pre .0 .1)
 
 returns-6 : tie.Need-returns-6
 returns-6 c =
@@ -97,11 +94,11 @@ returns-6 c =
     let j = s .args .job in
     let rs = recordsOf (now (s .args .cells)) in
     let store = now (s .args .store) in
-    let mean : toZ w64 (ofZ w64 (j .mean)) ≡ j .mean = back (j .mean) (sfits-of (c .before .struct-told .given .1 .1 .1 .1 .1 .1 .0 .1)) in
+    let mean : toZ w64 (ofZ w64 (j .mean)) ≡ j .mean = back (j .mean) (sfits-of (c .before .struct-told .given .1 .1 .1 .1 .0 .1)) in
     c .mean-fits .ensures ∙ ap (λ x. leb (natAbs x) (c .before .before .delivered-count .result * 2 ^ 40)) mean
     ∙ ap (λ n. leb (natAbs (j .mean)) (n * 2 ^ 40)) (c .before .before .delivered-count .ensures)
     ∙ sym
-    (held-mean j rs store (sym (c .before .before .before .before .before .before .before .before .before .before .before .before .before .before .before .places-fit .ensures) ∙ not-false (c .before .before .before .before .before .before .before .before .before .before .before .before .before .before .before .places-fit .result) (c .before .before .before .before .before .before .before .before .before .before .before .before .before .before .if1 .left)) (sym (c .before .before .before .before .before .before .before .before .before .before .before .before .before .all-complete .ensures) ∙ not-false (c .before .before .before .before .before .before .before .before .before .before .before .before .before .all-complete .result) (c .before .before .before .before .before .before .before .before .before .before .before .before .if2 .left)) (sym (c .before .before .before .before .before .before .before .before .before .before .before .all-wanted-fit .ensures) ∙ not-false (c .before .before .before .before .before .before .before .before .before .before .before .all-wanted-fit .result) (c .before .before .before .before .before .before .before .before .before .before .if3 .left)) (sym (c .before .before .before .before .before .before .before .blocks-fit .ensures) ∙ not-false (c .before .before .before .before .before .before .before .blocks-fit .result) (c .before .before .before .before .before .before .if4 .left)) (sym (c .before .before .before .before .before .pending-sum .ensures) ∙ c .before .before .before .if5 .left))
+    (held-mean j rs store (sym (c .before .before .before .before .before .before .before .before .before .before .before .before .before .before .places-fit .ensures) ∙ not-false (c .before .before .before .before .before .before .before .before .before .before .before .before .before .before .places-fit .result) (c .before .before .before .before .before .before .before .before .before .before .before .before .before .if1 .left)) (sym (c .before .before .before .before .before .before .before .before .before .before .before .before .all-complete .ensures) ∙ not-false (c .before .before .before .before .before .before .before .before .before .before .before .before .all-complete .result) (c .before .before .before .before .before .before .before .before .before .before .before .if2 .left)) (sym (c .before .before .before .before .before .before .before .before .before .before .all-wanted-fit .ensures) ∙ not-false (c .before .before .before .before .before .before .before .before .before .before .all-wanted-fit .result) (c .before .before .before .before .before .before .before .before .before .if3 .left)) (sym (c .before .before .before .before .before .before .before .blocks-fit .ensures) ∙ not-false (c .before .before .before .before .before .before .before .blocks-fit .result) (c .before .before .before .before .before .before .if4 .left)) (sym (c .before .before .before .before .before .pending-sum .ensures) ∙ c .before .before .before .if5 .left))
 
 pub held-fit-spec : {M : Type 1} → statement M
 held-fit-spec =
@@ -116,7 +113,6 @@ held-fit-spec =
     all-wanted-fit-requires
     returns-3
     cast-blocks-fit
-    cast-blocks-fit-2
     blocks-fit-requires
     returns-4
     pending-sum-requires

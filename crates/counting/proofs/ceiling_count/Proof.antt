@@ -6,8 +6,9 @@ use native.Mathlib.Omega.{arith}
 use denote.Ref.{now}
 use lib.ListN.{drop}
 use Rattle.area.specs.Records.{heldIn}
+use Rattle.grid.specs.Index.{cappedAxes}
 use Rattle.quadrature.proofs.Held.{held-record}
-use Rattle.machine.specs.Counts.{cappedAxes, ceilingCount}
+use Rattle.machine.specs.Counts.{ceilingCount}
 use Rattle.writing.specs.Heads.{headsOf}
 use Rattle.counting.proofs.Tallies.{ceiling-old, ceiling-other, ceiling-end}
 use Rattle.counting.proofs.ceiling_count.Statement.{statement}

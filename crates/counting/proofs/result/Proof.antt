@@ -3,7 +3,7 @@ use borrow.Author.Needs.{needs, sfits-of}
 use mathlib.Core.Path.{_∙_}
 use denote.Ref.{now}
 use Rattle.sums.proofs.Words.{back}
-use Rattle.machine.specs.Log.{machineOf}
+use Rattle.area.specs.Encoding.{machineOf}
 use Rattle.machine.specs.Counts.{countsOf}
 use Rattle.counting.specs.Answer.{countsIn}
 use Rattle.counting.proofs.Heads.{held-there, held-few, held-within, counted, capped}
@@ -28,7 +28,7 @@ state-count-requires-3 c κs = let s = c .before .before .before .before .before
 ceiling-count-requires : tie.Need-ceiling-count-requires
 ceiling-count-requires c κs =
     let s = c .before .before .before .before .before .before in (
-      (held-there (s .args .job) (now (s .args .cells)) (now (s .args .store)) (s .pre), held-few (s .args .job) (now (s .args .cells)) (now (s .args .store)) (s .pre), s .pre .sound .structure .axes .1),
+      (held-there (s .args .job) (now (s .args .cells)) (now (s .args .store)) (s .pre), held-few (s .args .job) (now (s .args .cells)) (now (s .args .store)) (s .pre), s .pre .sound .settings .axes .1),
       held-within (s .args .job) (now (s .args .cells)) (now (s .args .store)) (s .pre),
     )
 
@@ -42,9 +42,9 @@ returns c =
     let old = c .before .before .before .before .state-count .ensures ∙ counted j cells store (s .pre) 2 in
     let active = c .before .before .before .state-count2 .ensures ∙ counted j cells store (s .pre) 1 in
     let wanted = c .before .before .state-count3 .ensures ∙ counted j cells store (s .pre) 0 in
-    let ceiling = c .before .ceiling-count .ensures ∙ capped j cells store (s .pre) (j .axes) in
-    let mean = back (j .mean) (sfits-of (c .struct-told .given .1 .1 .1 .1 .1 .1 .0 .1)) in
-    λ i. record { old = old i; active = active i; wanted = wanted i; reserved = s .pre .sound .reserved i; pending = s .pre .sound .pending i; mean = mean i; ceiling = ceiling i }
+    let ceiling = c .before .ceiling-count .ensures ∙ capped j cells store (s .pre) (j .settings .axes) in
+    let mean = back (j .mean) (sfits-of (c .struct-told .given .1 .1 .1 .1 .0 .1)) in
+    λ i. record { old = old i; active = active i; wanted = wanted i; reserved = s .pre .sound .numbers .reserved i; pending = s .pre .sound .numbers .pending i; mean = mean i; ceiling = ceiling i }
 
 pub result-spec : {M : Type 1} → statement M
 result-spec =

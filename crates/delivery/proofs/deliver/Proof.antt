@@ -14,9 +14,9 @@ use mir.Syntax.{w64}
 use mir.Val.{toZ, ofZ}
 use Rattle.sums.proofs.Words.{sum-fits, sum-is}
 use Rattle.sums.proofs.Sizes.{abs-add}
-use Rattle.grid.specs.Block.{blockSize}
 use Rattle.grid.specs.Difference.{scaledDifference}
 use Rattle.area.specs.declared.JobRecord.{JobRecord}
+use Rattle.area.specs.Settings.{readingCount}
 use Rattle.area.specs.Records.{recordsOf, runOf, stored}
 use Rattle.area.specs.Entry.{readingIn}
 use Rattle.area.specs.Encoding.{areaOf, entriesOf}
@@ -34,7 +34,7 @@ use Rattle.delivery.proofs.deliver.Tie as tie
 
 -- the laws at a place that is known to be the first wanted
 module _ (j : JobRecord) (c : List ℕ) (s rs : List ℤ) (i place : ℕ) (settled : Settled (areaOf j c s)) (is : place ≡ firstWanted (entriesOf (areaOf j c s))) (wanted : place < j .held)
-    (whole : length rs ≡ blockSize (wantedIndex (entriesOf (areaOf j c s)))) (range : inRange rs ≡ true) where
+    (whole : length rs ≡ readingCount (j .settings) (wantedIndex (entriesOf (areaOf j c s)))) (range : inRange rs ≡ true) where
   wanted-first : firstWanted (entriesOf (areaOf j c s)) < j .held
   wanted-first = omega (arith, is, wanted)
 
@@ -52,9 +52,9 @@ module _ (j : JobRecord) (c : List ℕ) (s rs : List ℤ) (i place : ℕ) (settl
     store-first : s₁ ≡ sets s (recordAt (recordsOf c) (firstWanted (entriesOf (areaOf j c s))) .first) rs
     store-first = store ∙ ap (λ x. sets s x rs) (first ∙ ap (λ p. recordAt (recordsOf c) p .first) is)
 
-    ready-at : (k : List ℕ) → k ≡ recordAt (recordsOf c₁) place .levels → Ready (j .axes) (recordsOf c₁) s₁ k
+    ready-at : (k : List ℕ) → k ≡ recordAt (recordsOf c₁) place .levels → Ready (j .settings .axes) (recordsOf c₁) s₁ k
     ready-at k e =
-        subst (Ready (j .axes) (recordsOf c₁) s₁) (ap (λ p. recordAt (recordsOf c₁) p .levels) (sym is) ∙ sym e)
+        subst (Ready (j .settings .axes) (recordsOf c₁) s₁) (ap (λ p. recordAt (recordsOf c₁) p .levels) (sym is) ∙ sym e)
         (ready j c s rs i settled wanted-first whole range c₁ s₁ run-first store-first)
 
     difference-at : (k : List ℕ) (x : ℤ) → k ≡ recordAt (recordsOf c₁) place .levels → x ≡ scaledDifference k (fetched (recordsOf c₁) s₁)
@@ -64,7 +64,7 @@ module _ (j : JobRecord) (c : List ℕ) (s rs : List ℤ) (i place : ℕ) (settl
         ∙ difference-is j c s rs i settled wanted-first whole range c₁ s₁ run-first store-first
 
     abbrev JobAfter : ℤ → JobRecord
-    JobAfter m = record { axes = j .axes; threshold = j .threshold; budget = j .budget; held = j .held; reserved = j .reserved; pending = j .pending + i; mean = m }
+    JobAfter m = record { settings = j .settings; held = j .held; reserved = j .reserved; pending = j .pending + i; mean = m }
 
     area-and-settled : (m : ℤ) → m ≡ j .mean +ℤ scaledDifference (wantedIndex (entriesOf (areaOf j c s))) (readingIn (deliverAt (entriesOf (areaOf j c s)) (firstWanted (entriesOf (areaOf j c s))) rs i))
         → (areaOf (JobAfter m) c₁ s₁ ≡ deliverOn (areaOf j c s) rs i) × Settled (areaOf (JobAfter m) c₁ s₁)
@@ -105,17 +105,17 @@ scaled-difference-requires c κs =
     (c .before .before .before .before .before .before .restate .last .1 .1 .1 .0) (c .before .before .before .before .before .before .before .before .before .put-readings .last .1 .1 .0) (c .before .before .before .before .before .before .before .before .before .before .before .first-at .result) (c .before .before .before .before .before .before .before .before .before .before .before .first-at .ensures) (c .before .before .before .before .before .before .restate .ensures) (c .before .before .before .before .before .before .before .before .before .put-readings .ensures)
     (c .before .before .levels-at .result) (c .before .before .levels-at .ensures)
 
-add-t26 : tie.Need-add-t26
-add-t26 c =
+add-after : tie.Need-add-after
+add-after c =
     let s = c .before .before .before .before .before .before .before .before .before .before .before .before .before .before .before .before .before in
     omega (arith, pending-fits (s .args .job) (now (s .args .cells)) (now (s .args .store)) (now (s .args .readings)) (s .args .indicator) (s .pre .0 .0) (omega (arith, s .pre .0 .1, s .pre .0 .2)) (s .pre .1 .0) (s .pre .1 .1) (λ n. omega (arith, c .before .before .before .before .before .before .before .before .before .before .before .before .before .before .before .before .slice-known .given n)) (omega (arith, s .fits .indicator)))
 
-add-t27 : tie.Need-add-t27
-add-t27 c =
+add-after-2 : tie.Need-add-after-2
+add-after-2 c =
     let s = c .before .before .before .before .before .before .before .before .before .before .before .before .before .before .before .before .before .before .before in
     let x = c .before .before .before .scaled-difference .result in
     let m = s .args .job .mean in
-    sum-fits m x (m +ℤ x) (sfits-of (c .struct-told .given .1 .1 .1 .1 .1 .1 .0 .1)) (sfits-of (c .before .before .before .scaled-difference .ok)) refl
+    sum-fits m x (m +ℤ x) (sfits-of (c .struct-told .given .1 .1 .1 .1 .0 .1)) (sfits-of (c .before .before .before .scaled-difference .ok)) refl
     (mean-small (s .args .job) (now (s .args .cells)) (now (s .args .store)) (now (s .args .readings)) (s .args .indicator) (s .args .place) (s .pre .0 .0) (s .pre .0 .1) (s .pre .0 .2) (s .pre .1 .0) (s .pre .1 .1) (c .before .before .before .before .before .before .before .before .before .before .restate .last .1 .1 .1 .0) (c .before .before .before .before .before .before .before .before .before .before .before .before .before .put-readings .last .1 .1 .0) (c .before .before .before .before .before .before .before .before .before .before .before .before .before .before .before .first-at .result) (c .before .before .before .before .before .before .before .before .before .before .before .before .before .before .before .first-at .ensures) (c .before .before .before .before .before .before .before .before .before .before .restate .ensures) (c .before .before .before .before .before .before .before .before .before .before .before .before .before .put-readings .ensures) x (c .before .before .before .scaled-difference .ensures .1))
 
 same-length : tie.Need-same-length
@@ -130,7 +130,7 @@ returns c =
     let x = c .before .before .before .scaled-difference .result in
     let m = s .args .job .mean in
     let sum =
-    sum-is m x (m +ℤ x) (sfits-of (c .struct-told .given .1 .1 .1 .1 .1 .1 .0 .1)) (sfits-of (c .before .before .before .scaled-difference .ok)) refl
+    sum-is m x (m +ℤ x) (sfits-of (c .struct-told .given .1 .1 .1 .1 .0 .1)) (sfits-of (c .before .before .before .scaled-difference .ok)) refl
     (mean-small (s .args .job) (now (s .args .cells)) (now (s .args .store)) (now (s .args .readings)) (s .args .indicator) (s .args .place) (s .pre .0 .0) (s .pre .0 .1) (s .pre .0 .2) (s .pre .1 .0) (s .pre .1 .1) (c .before .before .before .before .before .before .before .before .before .before .restate .last .1 .1 .1 .0) (c .before .before .before .before .before .before .before .before .before .before .before .before .before .put-readings .last .1 .1 .0) (c .before .before .before .before .before .before .before .before .before .before .before .before .before .before .before .first-at .result) (c .before .before .before .before .before .before .before .before .before .before .before .before .before .before .before .first-at .ensures) (c .before .before .before .before .before .before .before .before .before .before .restate .ensures) (c .before .before .before .before .before .before .before .before .before .before .before .before .before .put-readings .ensures) x (c .before .before .before .scaled-difference .ensures .1)) in
     let difference = difference-at (s .args .job) (now (s .args .cells)) (now (s .args .store)) (now (s .args .readings)) (s .args .indicator) (s .args .place) (s .pre .0 .0) (s .pre .0 .1) (s .pre .0 .2) (s .pre .1 .0) (s .pre .1 .1) (c .before .before .before .before .before .before .before .before .before .before .restate .last .1 .1 .1 .0) (c .before .before .before .before .before .before .before .before .before .before .before .before .before .put-readings .last .1 .1 .0) (c .before .before .before .before .before .before .before .before .before .before .before .before .before .before .before .first-at .result) (c .before .before .before .before .before .before .before .before .before .before .before .before .before .before .before .first-at .ensures) (c .before .before .before .before .before .before .before .before .before .before .restate .ensures) (c .before .before .before .before .before .before .before .before .before .before .before .before .before .put-readings .ensures) (c .before .before .before .before .before .before .levels-at .result) x (c .before .before .before .before .before .before .levels-at .ensures) (c .before .before .before .scaled-difference .ensures .0) in
     area-and-settled (s .args .job) (now (s .args .cells)) (now (s .args .store)) (now (s .args .readings)) (s .args .indicator) (s .args .place) (s .pre .0 .0) (s .pre .0 .1) (s .pre .0 .2) (s .pre .1 .0) (s .pre .1 .1) (c .before .before .before .before .before .before .before .before .before .before .restate .last .1 .1 .1 .0) (c .before .before .before .before .before .before .before .before .before .before .before .before .before .put-readings .last .1 .1 .0) (c .before .before .before .before .before .before .before .before .before .before .before .before .before .before .before .first-at .result) (c .before .before .before .before .before .before .before .before .before .before .before .before .before .before .before .first-at .ensures) (c .before .before .before .before .before .before .before .before .before .before .restate .ensures) (c .before .before .before .before .before .before .before .before .before .before .before .before .before .put-readings .ensures) (toZ w64 (ofZ w64 (toZ w64 (ofZ w64 m) +ℤ toZ w64 (ofZ w64 x)))) (sum ∙ ap (λ d. m +ℤ d) difference)
@@ -146,8 +146,8 @@ deliver-spec =
     restate-requires
     levels-at-requires
     scaled-difference-requires
-    add-t26
-    add-t27
+    add-after
+    add-after-2
     same-length
     same-length-2
     returns)

@@ -14,45 +14,52 @@ use Rattle.promotion.proofs.Marks.{marked, passing-on, passing-off, pas
 use Rattle.machine.specs.Promote.{passing}
 use Rattle.grid.specs.Index.{Within, forward}
 use Rattle.grid.specs.Block.{blockSize}
-use Rattle.grid.proofs.Turns.{size-small}
 use Rattle.writing.specs.Changes.{sizesOf}
 use Rattle.area.specs.Records.{Run, runOf}
+use Rattle.area.specs.declared.Settings.{Settings}
+use Rattle.area.specs.Settings.{readingsFor, readingCount}
+use Rattle.area.proofs.Readings.{reading-facts}
 use Rattle.writing.specs.Changes.{appended, appendedAll}
 use Rattle.promotion.proofs.append_marked.Statement.{statement}
 use Rattle.promotion.proofs.append_marked.Tie as tie
 
-on : (k : List ℕ) (a : ℕ) (rest : List ℕ) → sizesOf k (a ∷ rest) ≡ blockSize (forward k a) + sizesOf k rest
+-- the readings of the blocks along the axes
+abbrev readingsAlong : Settings → List ℕ → List ℕ → ℕ
+readingsAlong g k axes = readingsFor g (sizesOf k axes)
+
+on : (g : Settings) (k : List ℕ) (a : ℕ) (rest : List ℕ) → readingsAlong g k (a ∷ rest) ≡ readingCount g (forward k a) + readingsAlong g k rest
 unfolding sizesOf
-on k a rest = refl
+on g k a rest = reading-facts .sum g (blockSize (forward k a)) (sizesOf k rest) ∙ ap (λ n. n + readingsAlong g k rest) (sym (reading-facts .count g (forward k a)))
 
-all-on : (rs : List IndexRecord) (n f : ℕ) (k : List ℕ) (a : ℕ) (rest : List ℕ) → appendedAll rs n f k (a ∷ rest) ≡ appendedAll (appended rs n f (forward k a)) (n + 1) (f + blockSize (forward k a)) k rest
+all-on : (g : Settings) (rs : List IndexRecord) (n f : ℕ) (k : List ℕ) (a : ℕ) (rest : List ℕ)
+    → appendedAll g rs n f k (a ∷ rest) ≡ appendedAll g (appended rs n f (forward k a)) (n + 1) (f + readingCount g (forward k a)) k rest
 unfolding appendedAll
-all-on rs n f k a rest = refl
+all-on g rs n f k a rest = refl
 
-all-off : (rs : List IndexRecord) (n f : ℕ) (k : List ℕ) → appendedAll rs n f k [] ≡ rs
+all-off : (g : Settings) (rs : List IndexRecord) (n f : ℕ) (k : List ℕ) → appendedAll g rs n f k [] ≡ rs
 unfolding appendedAll
-all-off rs n f k = refl
+all-off g rs n f k = refl
 
 abbrev Inv-loop : tie.InvT-loop
-Inv-loop axes held first levels cells₀ marks count₀ next₀ axis₀ cells count next axis =
+Inv-loop settings axes held first levels cells₀ marks count₀ next₀ axis₀ cells count next axis =
     (axis ≤ axes) × (length marks ≡ 8) × (length cells ≡ length cells₀) × (count + length (passing (axes - axis) axis (marked marks)) ≡ held + length (markedAxes axes marks))
-    × (next + sizesOf levels (passing (axes - axis) axis (marked marks)) ≡ first + sizesOf levels (markedAxes axes marks)) × (runOf cells .rest ≡ runOf cells₀ .rest)
-    × (appendedAll (recordsOf cells₀) held first levels (markedAxes axes marks) ≡ appendedAll (recordsOf cells) count next levels (passing (axes - axis) axis (marked marks)))
+    × (next + readingsAlong settings levels (passing (axes - axis) axis (marked marks)) ≡ first + readingsAlong settings levels (markedAxes axes marks)) × (runOf cells .rest ≡ runOf cells₀ .rest)
+    × (appendedAll settings (recordsOf cells₀) held first levels (markedAxes axes marks) ≡ appendedAll settings (recordsOf cells) count next levels (passing (axes - axis) axis (marked marks)))
 
 abbrev μ-loop : tie.MeasureT-loop
-μ-loop axes held first levels cells₀ marks count₀ next₀ axis₀ cells count next axis = axes - axis
+μ-loop settings axes held first levels cells₀ marks count₀ next₀ axis₀ cells count next axis = axes - axis
 
 loop-holds : tie.Need-loop-holds Inv-loop μ-loop
 loop-holds c =
     let s = c .before in
-    let e = passing-all (s .args .t5) (s .args .axes) in (
+    let e = passing-all (s .args .t6) (s .args .axes) in (
       omega arith,
       search needs,
       refl,
       omega (arith, ap length e),
-      omega (arith, ap (sizesOf (s .args .levels)) e),
+      omega (arith, ap (readingsAlong (s .args .settings) (s .args .levels)) e),
       refl,
-      ap (appendedAll (recordsOf (now (s .args .cells))) (s .args .held) (s .args .first) (s .args .levels)) (sym e),
+      ap (appendedAll (s .args .settings) (recordsOf (now (s .args .cells))) (s .args .held) (s .args .first) (s .args .levels)) (sym e),
     )
 
 mul-if1 : tie.Need-mul-if1 Inv-loop μ-loop
@@ -64,14 +71,14 @@ array-read-if1 c = omega arith
 forward-neighbour-requires : tie.Need-forward-neighbour-requires Inv-loop μ-loop
 forward-neighbour-requires c κs = (omega arith, c .before .before .before .before .pre .0 .2 (c .before .before .loop .axis) (omega arith))
 
-block-size-requires : tie.Need-block-size-requires Inv-loop μ-loop
-block-size-requires c κs = subst Within (sym (c .forward-neighbour .ensures)) (c .before .before .before .before .before .pre .0 .1 (c .before .before .before .loop .axis) (omega arith) (c .before .if1 .taken))
+reading-count-requires : tie.Need-reading-count-requires Inv-loop μ-loop
+reading-count-requires c κs = subst Within (sym (c .forward-neighbour .ensures)) (c .before .before .before .before .before .pre .0 .1 (c .before .before .before .loop .axis) (omega arith) (c .before .if1 .taken))
 
 append-requires : tie.Need-append-requires Inv-loop μ-loop
 append-requires c κs =
     let s = c .before .before .before .before .before .before .before in
     let l = c .before .before .before .before .before .loop in
-    let e = passing-on (s .args .t5) (s .args .axes) (l .axis) (omega arith) (c .before .before .before .if1 .taken) in
+    let e = passing-on (s .args .t6) (s .args .axes) (l .axis) (omega arith) (c .before .before .before .if1 .taken) in
     (omega (arith, l .inv .2, l .inv .3, ap length e, s .pre .1 .0), omega (arith, l .inv .3, ap length e, s .pre .1 .1), omega (arith, l .inv .4, s .pre .1 .2))
 
 add-count : tie.Need-add-count Inv-loop μ-loop
@@ -81,7 +88,11 @@ add-next : tie.Need-add-next Inv-loop μ-loop
 add-next c =
     let s = c .before .before .before .before .before .before .before .before .before .before in
     let l = c .before .before .before .before .before .before .before .before .loop in
-    omega (arith, l .inv .4, s .pre .1 .2, c .before .before .before .before .block-size .ensures, ap blockSize (c .before .before .before .before .before .forward-neighbour .ensures), size-small (forward (s .args .levels) (l .axis)) (s .pre .0 .1 (l .axis) (omega arith) (c .before .before .before .before .before .before .if1 .taken)))
+    let k = s .args .levels in
+    let e = passing-on (s .args .t6) (s .args .axes) (l .axis) (omega arith) (c .before .before .before .before .before .before .if1 .taken) in
+    let left = passing (s .args .axes - (l .axis + 1)) (l .axis + 1) (marked (s .args .t6)) in
+    let readings = c .before .before .before .before .reading-count .ensures ∙ ap (readingCount (s .args .settings)) (c .before .before .before .before .before .forward-neighbour .ensures) in
+    omega (arith, l .inv .4, s .pre .1 .2, ap (readingsAlong (s .args .settings) k) e ∙ on (s .args .settings) k (l .axis) left, readings)
 
 add-axis : tie.Need-add-axis Inv-loop μ-loop
 add-axis c = omega arith
@@ -94,39 +105,39 @@ loop-again c =
     let s = c .before .before .before .before in
     let l = c .before .before .loop in
     let k = s .args .levels in
-    let left = passing (s .args .axes - (l .axis + 1)) (l .axis + 1) (marked (s .args .t5)) in
+    let left = passing (s .args .axes - (l .axis + 1)) (l .axis + 1) (marked (s .args .t6)) in
     ⊎-elim
     (λ w.
-    let e = passing-on (s .args .t5) (s .args .axes) (l .axis) (omega arith) (w .0 .taken) in
-    let size = w .2 .ensures ∙ ap blockSize (w .1 .ensures) in
+    let e = passing-on (s .args .t6) (s .args .axes) (l .axis) (omega arith) (w .0 .taken) in
+    let size = w .2 .ensures ∙ ap (readingCount (s .args .settings)) (w .1 .ensures) in
     let after = w .4 .last .1 .1 .1 .0 in
     let run = w .4 .ensures ∙ ap (λ x. record { records = appended (recordsOf (l .cells)) (l .count) (l .next) x; rest = runOf (l .cells) .rest }) (w .1 .ensures) in (
       omega arith,
       l .inv .1,
       ap length (w .7) ∙ w .4 .kept .1 .1 .1 .0 ∙ l .inv .2,
       omega (arith, w .8, l .inv .3, ap length e),
-      omega (arith, w .9, l .inv .4, ap (sizesOf k) e ∙ on k (l .axis) left, size),
+      omega (arith, w .9, l .inv .4, ap (readingsAlong (s .args .settings) k) e ∙ on (s .args .settings) k (l .axis) left, size),
       ap (λ x. runOf x .rest) (w .7) ∙ ap (λ (u : Run). u .rest) run ∙ l .inv .5,
-      l .inv .6 ∙ ap (appendedAll (recordsOf (l .cells)) (l .count) (l .next) k) e ∙ all-on (recordsOf (l .cells)) (l .count) (l .next) k (l .axis) left
+      l .inv .6 ∙ ap (appendedAll (s .args .settings) (recordsOf (l .cells)) (l .count) (l .next) k) e ∙ all-on (s .args .settings) (recordsOf (l .cells)) (l .count) (l .next) k (l .axis) left
           ∙ sym
-          (ap (λ x. appendedAll (recordsOf x) (c .if1 .count) (c .if1 .next) k left) (w .7)
-          ∙ ap (λ x. appendedAll x (c .if1 .count) (c .if1 .next) k left) (ap (λ (u : Run). u .records) run)
-          ∙ ap (λ n. appendedAll (appended (recordsOf (l .cells)) (l .count) (l .next) (forward k (l .axis))) n (c .if1 .next) k left) (w .8)
-          ∙ ap (λ f. appendedAll (appended (recordsOf (l .cells)) (l .count) (l .next) (forward k (l .axis))) (l .count + 1) f k left) (w .9 ∙ ap (λ x. l .next + x) size)),
+          (ap (λ x. appendedAll (s .args .settings) (recordsOf x) (c .if1 .count) (c .if1 .next) k left) (w .7)
+          ∙ ap (λ x. appendedAll (s .args .settings) x (c .if1 .count) (c .if1 .next) k left) (ap (λ (u : Run). u .records) run)
+          ∙ ap (λ n. appendedAll (s .args .settings) (appended (recordsOf (l .cells)) (l .count) (l .next) (forward k (l .axis))) n (c .if1 .next) k left) (w .8)
+          ∙ ap (λ f. appendedAll (s .args .settings) (appended (recordsOf (l .cells)) (l .count) (l .next) (forward k (l .axis))) (l .count + 1) f k left) (w .9 ∙ ap (λ x. l .next + x) size)),
     ))
     (λ w.
-    let e = passing-off (s .args .t5) (s .args .axes) (l .axis) (omega arith) (w .0 .left) in (
+    let e = passing-off (s .args .t6) (s .args .axes) (l .axis) (omega arith) (w .0 .left) in (
       omega arith,
       l .inv .1,
       ap length (w .1) ∙ l .inv .2,
       omega (arith, w .2, l .inv .3, ap length e),
-      omega (arith, w .3, l .inv .4, ap (sizesOf k) e),
+      omega (arith, w .3, l .inv .4, ap (readingsAlong (s .args .settings) k) e),
       ap (λ x. runOf x .rest) (w .1) ∙ l .inv .5,
-      l .inv .6 ∙ ap (appendedAll (recordsOf (l .cells)) (l .count) (l .next) k) e
+      l .inv .6 ∙ ap (appendedAll (s .args .settings) (recordsOf (l .cells)) (l .count) (l .next) k) e
           ∙ sym
-          (ap (λ x. appendedAll (recordsOf x) (c .if1 .count) (c .if1 .next) k left) (w .1)
-          ∙ ap (λ n. appendedAll (recordsOf (l .cells)) n (c .if1 .next) k left) (w .2)
-          ∙ ap (λ f. appendedAll (recordsOf (l .cells)) (l .count) f k left) (w .3)),
+          (ap (λ x. appendedAll (s .args .settings) (recordsOf x) (c .if1 .count) (c .if1 .next) k left) (w .1)
+          ∙ ap (λ n. appendedAll (s .args .settings) (recordsOf (l .cells)) n (c .if1 .next) k left) (w .2)
+          ∙ ap (λ f. appendedAll (s .args .settings) (recordsOf (l .cells)) (l .count) f k left) (w .3)),
     ))
     (c .if1 .came)
 
@@ -137,8 +148,8 @@ returns : tie.Need-returns Inv-loop μ-loop
 returns c =
     let s = c .before .before .before in
     let l = c .before .loop in
-    let e = passing-end (s .args .t5) (s .args .axes) (l .axis) (omega arith) in
-    let done = l .inv .6 ∙ ap (appendedAll (recordsOf (l .cells)) (l .count) (l .next) (s .args .levels)) e ∙ all-off (recordsOf (l .cells)) (l .count) (l .next) (s .args .levels) in
+    let e = passing-end (s .args .t6) (s .args .axes) (l .axis) (omega arith) in
+    let done = l .inv .6 ∙ ap (appendedAll (s .args .settings) (recordsOf (l .cells)) (l .count) (l .next) (s .args .levels)) e ∙ all-off (s .args .settings) (recordsOf (l .cells)) (l .count) (l .next) (s .args .levels) in
     λ i. record { records = sym done i; rest = l .inv .5 i }
 
 pub append-marked-spec : {M : Type 1} → statement M
@@ -151,7 +162,7 @@ append-marked-spec =
     mul-if1
     array-read-if1
     forward-neighbour-requires
-    block-size-requires
+    reading-count-requires
     append-requires
     add-count
     add-next

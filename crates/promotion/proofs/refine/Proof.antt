@@ -1,11 +1,8 @@
 -- `promotion::refine` meets its contract: the marked axes are the admitted ones, their counts decide whether it is spent, and the records written are those of the refined entries. Assumes nothing.
-use borrow.Author.Needs.{needs, sfits-of}
-use mathlib.Core.Path.{_≡_}
+use borrow.Author.Needs.{needs}
+use native.Mathlib.Omega.{arith}
 use denote.Ref.{now}
 use lib.ListN.{length}
-use mir.Syntax.{w64}
-use mir.Val.{toZ, ofZ}
-use Rattle.sums.proofs.Words.{back}
 use Rattle.promotion.proofs.Refining.{refinable, place-inside, scan-asks, indicator-pending, Scanned, marks-ask, Counted, too-many, too-large, append-asks, Changed, promoted-is, promoted-settled}
 use Rattle.promotion.proofs.refine.Statement.{statement}
 use Rattle.promotion.proofs.refine.Tie as tie
@@ -24,20 +21,22 @@ cast-budget c = search needs
 
 levels-at-requires : tie.Need-levels-at-requires
 levels-at-requires c κs =
-    let s = c .before .before .before .before .before .before in
+    let s = c .before .before .before .before .before .before .before in
     place-inside (refinable (s .args .job) (now (s .args .cells)) (now (s .args .store)) (s .args .place) (s .pre .0) (s .pre .1))
 
 admitted-requires : tie.Need-admitted-requires
 admitted-requires c κs =
-    let s = c .before .before .before .before .before .before .before .before in
+    let s = c .before .before .before .before .before .before .before .before .before in
     scan-asks (refinable (s .args .job) (now (s .args .cells)) (now (s .args .store)) (s .args .place) (s .pre .0) (s .pre .1))
 
 marked-count-requires : tie.Need-marked-count-requires
-marked-count-requires c κs = search needs
+marked-count-requires c κs =
+    let s = c .before .before .before .before .before .before .before .before .before .before in
+    s .pre .0 .0 .sound .settings .axes .1
 
 marked-sizes-requires : tie.Need-marked-sizes-requires
 marked-sizes-requires c κs =
-    let s = c .before .before .before .before .before .before .before .before .before .before in
+    let s = c .before .before .before .before .before .before .before .before .before .before .before in
     let t = refinable (s .args .job) (now (s .args .cells)) (now (s .args .store)) (s .args .place) (s .pre .0) (s .pre .1) in
     let l = c .before .before .before .levels-at in
     let m = c .before .admitted in
@@ -52,7 +51,7 @@ same-length c = search needs
 
 returns : tie.Need-returns
 returns c =
-    let s = c .before .before .before .before .before .before .before .before .before .before .before .before in
+    let s = c .before .before .before .before .before .before .before .before .before .before .before .before .before in
     let t = refinable (s .args .job) (now (s .args .cells)) (now (s .args .store)) (s .args .place) (s .pre .0) (s .pre .1) in
     let l = c .before .before .before .before .before .levels-at in
     let m = c .before .before .before .admitted in
@@ -70,7 +69,7 @@ same-length-2 c = search needs
 
 returns-2 : tie.Need-returns-2
 returns-2 c =
-    let s = c .before .before .before .before .before .before .before .before .before .before .before .before .before in
+    let s = c .before .before .before .before .before .before .before .before .before .before .before .before .before .before in
     let t = refinable (s .args .job) (now (s .args .cells)) (now (s .args .store)) (s .args .place) (s .pre .0) (s .pre .1) in
     let l = c .before .before .before .before .before .before .levels-at in
     let m = c .before .before .before .before .admitted in
@@ -82,46 +81,49 @@ returns-2 c =
 
 indicator-at-requires : tie.Need-indicator-at-requires
 indicator-at-requires c κs =
-    let s = c .before .before .before .before .before .before .before .before .before .before .before .before .before .before in
+    let s = c .before .before .before .before .before .before .before .before .before .before .before .before .before .before .before in
     place-inside (refinable (s .args .job) (now (s .args .cells)) (now (s .args .store)) (s .args .place) (s .pre .0) (s .pre .1))
 
 restate-requires : tie.Need-restate-requires
 restate-requires c κs =
-    let s = c .before .before .before .before .before .before .before .before .before .before .before .before .before .before .before .before in
+    let s = c .before .before .before .before .before .before .before .before .before .before .before .before .before .before .before .before .before in
     place-inside (refinable (s .args .job) (now (s .args .cells)) (now (s .args .store)) (s .args .place) (s .pre .0) (s .pre .1))
+
+readings-for-requires : tie.Need-readings-for-requires
+readings-for-requires c κs = search needs
 
 append-marked-requires : tie.Need-append-marked-requires
 append-marked-requires c κs =
-    let s = c .before .before .before .before .before .before .before .before .before .before .before .before .before .before .before .before .before .before .before .before in
+    let s = c .before .before .before .before .before .before .before .before .before .before .before .before .before .before .before .before .before .before .before .before .before .before in
     let t = refinable (s .args .job) (now (s .args .cells)) (now (s .args .store)) (s .args .place) (s .pre .0) (s .pre .1) in
-    let l = c .before .before .before .before .before .before .before .before .before .before .before .before .before .levels-at in
-    let m = c .before .before .before .before .before .before .before .before .before .before .before .admitted in
+    let l = c .before .before .before .before .before .before .before .before .before .before .before .before .before .before .levels-at in
+    let m = c .before .before .before .before .before .before .before .before .before .before .before .before .admitted in
     let u : Scanned (s .args .job) (now (s .args .cells)) (s .args .place) (l .result) (m .result) = record { levels-are = l .ensures; marks-are = m .ensures } in
-    let n = c .before .before .before .before .before .before .before .before .before .before .marked-count in
-    let z = c .before .before .before .before .before .before .before .before .before .marked-sizes in
+    let n = c .before .before .before .before .before .before .before .before .before .before .before .marked-count in
+    let z = c .before .before .before .before .before .before .before .before .before .before .marked-sizes in
     let v : Counted (s .args .job) (l .result) (m .result) (n .result) (z .result) = record { count-is = n .ensures .0; sizes-are = z .ensures .0 } in
-    let e = c .before .before .before .restate in
-    (marks-ask t u, append-asks t u v (length (e .last .1 .1 .1 .0)) (e .kept .1 .1 .1 .0) (c .before .before .before .before .before .before .before .before .if1 .left) (c .before .before .before .before .before .before .before .if2 .left))
+    let e = c .before .before .before .before .restate in
+    (marks-ask t u, append-asks t u v (length (e .last .1 .1 .1 .0)) (c .before .readings-for .result) (e .kept .1 .1 .1 .0) (c .before .readings-for .ensures) (c .before .before .before .before .before .before .before .before .before .if1 .left) (c .before .before .before .before .before .before .before .before .if2 .left))
 
-add-t19 : tie.Need-add-t19
-add-t19 c = search needs
+add-after : tie.Need-add-after
+add-after c = search needs
 
-cast-t30 : tie.Need-cast-t30
-cast-t30 c = search needs
+cast-after : tie.Need-cast-after
+cast-after c = search needs
 
-add-t31 : tie.Need-add-t31
-add-t31 c = search needs
+add-after-2 : tie.Need-add-after-2
+add-after-2 c = let s = c .before .before .before .before .before .before .before .before .before .before .before .before .before .before .before .before .before .before .before .before .before .before .before .before .before in omega (arith, c .before .before .before .before .before .before .before .before .before .before .before .if2 .left, s .pre .0 .0 .sound .settings .budget .1)
 
-cast-t32 : tie.Need-cast-t32
-cast-t32 c = search needs
+cast-after-2 : tie.Need-cast-after-2
+cast-after-2 c = let s = c .before .before .before .before .before .before .before .before .before .before .before .before .before .before .before .before .before .before .before .before .before .before .before .before .before in omega (arith, c .before .before .before .before .before .before .before .before .before .before .before .if2 .left, s .pre .0 .0 .sound .settings .budget .1)
 
-cast-t33 : tie.Need-cast-t33
-cast-t33 c = search needs
+cast-after-3 : tie.Need-cast-after-3
+cast-after-3 c = search needs
 
-sub-t34 : tie.Need-sub-t34
-sub-t34 c =
-    let s = c .before .before .before .before .before .before .before .before .before .before .before .before .before .before .before .before .before .before .before .before .before .before .before .before in
-    let i = c .before .before .before .before .before .before .before .before .before .indicator-at in
+sub-after : tie.Need-sub-after
+sub-after c =
+    let s = c .before .before .before .before .before .before .before .before .before .before .before .before .before .before .before .before .before .before .before .before .before .before .before .before .before .before in
+    let i = c .before .before .before .before .before .before .before .before .before .before .indicator-at in
     indicator-pending (refinable (s .args .job) (now (s .args .cells)) (now (s .args .store)) (s .args .place) (s .pre .0) (s .pre .1)) (i .result) (i .ensures)
 
 same-length-3 : tie.Need-same-length-3
@@ -129,7 +131,7 @@ same-length-3 c = search needs
 
 returns-3 : tie.Need-returns-3
 returns-3 c =
-    let s = c .before .before .before .before .before .before .before .before .before .before .before .before .before .before .before .before .before .before .before .before .before .before .before .before .before in
+    let s = c .before .before .before .before .before .before .before .before .before .before .before .before .before .before .before .before .before .before .before .before .before .before .before .before .before .before in
     let t = refinable (s .args .job) (now (s .args .cells)) (now (s .args .store)) (s .args .place) (s .pre .0) (s .pre .1) in
     let l = c .before .before .before .before .before .before .before .before .before .before .before .before .before .before .before .before .before .before .levels-at in
     let m = c .before .before .before .before .before .before .before .before .before .before .before .before .before .before .before .before .admitted in
@@ -141,11 +143,10 @@ returns-3 c =
     let within = c .before .before .before .before .before .before .before .before .before .before .before .before .if2 .left in
     let i = c .before .before .before .before .before .before .before .before .before .before .indicator-at in
     let e = c .before .before .before .before .before .before .before .before .restate in
-    let f = c .before .before .before .before .append-marked in
-    let w : Changed (s .args .job) (now (s .args .cells)) (s .args .place) (l .result) (m .result) (i .result) (e .last .1 .1 .1 .0) (f .last .1 .1 .1 .1 .1 .0) = record { indicator-is = i .ensures; restated-is = e .ensures; appended-is = f .ensures } in
-    let mean = toZ w64 (ofZ w64 (s .args .job .mean)) in
-    let mean-is : mean ≡ s .args .job .mean = back (s .args .job .mean) (sfits-of (c .struct-told .given .1 .1 .1 .1 .1 .1 .0 .1)) in
-    (promoted-is t u v few within w mean mean-is, promoted-settled t u v few within w mean mean-is)
+    let f = c .before .before .before .append-marked in
+    let w : Changed (s .args .job) (now (s .args .cells)) (s .args .place) (l .result) (m .result) (i .result) (c .before .before .before .before .before .readings-for .result) (e .last .1 .1 .1 .0) (f .last .1 .1 .1 .1 .1 .1 .0) =
+    record { first-is = c .before .before .before .before .before .readings-for .ensures; indicator-is = i .ensures; restated-is = e .ensures; appended-is = f .ensures } in
+    (promoted-is t u v few within w, promoted-settled t u v few within w)
 
 pub refine-spec : {M : Type 1} → statement M
 refine-spec =
@@ -167,12 +168,13 @@ refine-spec =
     returns-2
     indicator-at-requires
     restate-requires
+    readings-for-requires
     append-marked-requires
-    add-t19
-    cast-t30
-    add-t31
-    cast-t32
-    cast-t33
-    sub-t34
+    add-after
+    cast-after
+    add-after-2
+    cast-after-2
+    cast-after-3
+    sub-after
     same-length-3
     returns-3)

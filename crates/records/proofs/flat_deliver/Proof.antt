@@ -7,6 +7,7 @@ use Rattle.area.specs.Records.{Run}
 use Rattle.calls.specs.Replies.{replyOf}
 use Rattle.calls.specs.Calls.{deliverCall}
 use Rattle.records.proofs.Cuts.{room-for, cut-count, cut-run, cut-after}
+use Rattle.records.proofs.Words.{words-count}
 use Rattle.records.proofs.flat_deliver.Statement.{statement}
 use Rattle.records.proofs.flat_deliver.Tie as tie
 
@@ -36,7 +37,7 @@ returns c =
     let s = c .before .before .before .before .before .before .before in
     let r = c .before .before .deliver .result in
     let flat = s .args .flat in
-    let count : length (flat .words) ≡ 13824 = search needs in
+    let count : length (flat .words) ≡ 13824 = words-count flat _ (s .good .1 .1 .1 .0) in
     ap (λ (u : Run). record { reply = replyOf (r .answer); area = record { job = r .job; run = u; store = c .before .before .deliver .last .1 .1 .1 .1 .0 } })
     (cut-after (flat .count) (flat .words) (s .pre) count (c .before .before .deliver .last .1 .1 .1 .0) (c .before .before .deliver .kept .1 .1 .1 .0))
     ∙ c .before .before .deliver .ensures

@@ -34,11 +34,11 @@ returns c =
     let s = c .before .before .before .before .before in
     let r = c .before .start .result in
     let flat = s .args .flat in
-    let count : length (flat .words) ≡ 13824 = words-count flat _ (s .good .1 .1 .1 .1 .0) in
+    let count : length (flat .words) ≡ 13824 = words-count flat _ (s .good .1 .1 .0) in
     ap (λ (u : Run). record { reply = replyOf (r .answer); area = record { job = r .job; run = u; store = now (s .args .store) } })
-    (cut-after (flat .count) (flat .words) (s .pre) count (c .before .start .last .1 .1 .1 .1 .0) (c .before .start .kept .1 .1 .1 .1 .0))
+    (cut-after (flat .count) (flat .words) (s .pre) count (c .before .start .last .1 .1 .0) (c .before .start .kept .1 .1 .0))
     ∙ c .before .start .ensures
-    ∙ ap (λ (u : Run). startCall (record { job = s .args .job; run = u; store = now (s .args .store) }) (s .args .axes) (s .args .threshold) (s .args .budget)) (cut-run (flat .count) (flat .words) (s .pre) count)
+    ∙ ap (λ (u : Run). startCall (record { job = s .args .job; run = u; store = now (s .args .store) }) (s .args .settings)) (cut-run (flat .count) (flat .words) (s .pre) count)
 
 pub flat-start-spec : {M : Type 1} → statement M
 flat-start-spec =

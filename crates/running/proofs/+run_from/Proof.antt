@@ -2,8 +2,7 @@
 use mathlib.Core.Path.{ap, sym, subst}
 use native.Mathlib.Omega.{arith}
 use denote.Ref.{now}
-use Rattle.area.specs.Encoding.{areaOf}
-use Rattle.machine.specs.Log.{machineOf}
+use Rattle.area.specs.Encoding.{areaOf, machineOf}
 use Rattle.writing.specs.Settled.{Settled}
 use Rattle.running.specs.Code.{LeftByStep}
 use Rattle.running.proofs.Going.{over, refused, ends, delivers, promotes}
@@ -30,7 +29,6 @@ abbrev run-from-below : ℕ → In 5 run-from-kinds.ps
 run-from-below t =
     and 5 run-from-kinds.ps (falls 5 run-from-kinds.ps _<_ μ-run-from t) run-from.Pre
 
--- src/lib.rt:219:9
 run-from-returns : (t : ℕ) → run-from-lts.Need-returns (
   next-step-reads.Asked,
   next-step-reads.Learnt,
@@ -43,7 +41,6 @@ run-from-returns : (t : ℕ) → run-from-lts.Need-returns (
 ) (run-from-at t) run-from.Post
 run-from-returns t c = let s = c .before .before .before .before in over (now (s .args .bytes)) (s .args .entries) (s .args .left) (s .args .used) (machineOf (areaOf (s .args .job) (now (s .args .cells)) (now (s .args .store)))) (now (s .args .report)) (c .if1 .taken)
 
--- src/lib.rt:221:9
 run-from-next-step-requires : (t : ℕ) → run-from-lts.Need-next-step-requires (
   next-step-reads.Asked,
   next-step-reads.Learnt,
@@ -56,7 +53,6 @@ run-from-next-step-requires : (t : ℕ) → run-from-lts.Need-next-step-requires
 ) (run-from-at t) run-from.Post
 run-from-next-step-requires t c κs = let s = c .before .before .before .before .before .before .before in s .pre .1 .0
 
--- src/lib.rt:223:23
 run-from-enum-known-next : (t : ℕ) → run-from-lts.Need-enum-known-next (
   next-step-reads.Asked,
   next-step-reads.Learnt,
@@ -69,7 +65,6 @@ run-from-enum-known-next : (t : ℕ) → run-from-lts.Need-enum-known-next (
 ) (run-from-at t) run-from.Post
 run-from-enum-known-next t c = search needs
 
--- src/lib.rt:223:40
 run-from-put-refusal-requires : (t : ℕ) → run-from-lts.Need-put-refusal-requires (
   next-step-reads.Asked,
   next-step-reads.Learnt,
@@ -82,7 +77,6 @@ run-from-put-refusal-requires : (t : ℕ) → run-from-lts.Need-put-refusal-requ
 ) (run-from-at t) run-from.Post
 run-from-put-refusal-requires t c κs = let s = c .before .before .before .before .before .before .before .before .before .before .before .before .before .before .before .before in s .pre .1 .1 .1
 
--- src/lib.rt:224:21
 run-from-enum-known-next-2 : (t : ℕ) → run-from-lts.Need-enum-known-next-2 (
   next-step-reads.Asked,
   next-step-reads.Learnt,
@@ -95,7 +89,6 @@ run-from-enum-known-next-2 : (t : ℕ) → run-from-lts.Need-enum-known-next-2 (
 ) (run-from-at t) run-from.Post
 run-from-enum-known-next-2 t c = search needs
 
--- src/lib.rt:224:57
 run-from-sub-put-ended : (t : ℕ) → run-from-lts.Need-sub-put-ended (
   next-step-reads.Asked,
   next-step-reads.Learnt,
@@ -108,7 +101,6 @@ run-from-sub-put-ended : (t : ℕ) → run-from-lts.Need-sub-put-ended (
 ) (run-from-at t) run-from.Post
 run-from-sub-put-ended t c = search needs
 
--- src/lib.rt:224:34
 run-from-put-ended-requires : (t : ℕ) → run-from-lts.Need-put-ended-requires (
   next-step-reads.Asked,
   next-step-reads.Learnt,
@@ -127,7 +119,6 @@ run-from-put-ended-requires t c κs =
       s .pre .1 .1 .1,
     )
 
--- src/lib.rt:225:25
 run-from-enum-known-next-3 : (t : ℕ) → run-from-lts.Need-enum-known-next-3 (
   next-step-reads.Asked,
   next-step-reads.Learnt,
@@ -140,7 +131,6 @@ run-from-enum-known-next-3 : (t : ℕ) → run-from-lts.Need-enum-known-next-3 (
 ) (run-from-at t) run-from.Post
 run-from-enum-known-next-3 t c = search needs
 
--- src/lib.rt:226:13
 run-from-sub-run-from : (t : ℕ) → run-from-lts.Need-sub-run-from (
   next-step-reads.Asked,
   next-step-reads.Learnt,
@@ -153,7 +143,6 @@ run-from-sub-run-from : (t : ℕ) → run-from-lts.Need-sub-run-from (
 ) (run-from-at t) run-from.Post
 run-from-sub-run-from t c = search needs
 
--- src/lib.rt:228:13
 run-from-add-run-from : (t : ℕ) → run-from-lts.Need-add-run-from (
   next-step-reads.Asked,
   next-step-reads.Learnt,
@@ -166,7 +155,6 @@ run-from-add-run-from : (t : ℕ) → run-from-lts.Need-add-run-from (
 ) (run-from-at t) run-from.Post
 run-from-add-run-from t c = search needs
 
--- src/lib.rt:225:35
 run-from-run-from-requires : (t : ℕ) → run-from-lts.Need-run-from-requires (
   next-step-reads.Asked,
   next-step-reads.Learnt,
@@ -184,7 +172,6 @@ run-from-run-from-requires t c κs =
       ((gone .0, s .pre .1 .0 .1, s .pre .1 .0 .2, omega (arith, c .before .before .before .before .before .before .before .before .before .before .before .next-step .kept .1 .1 .1 .1 .0, s .pre .1 .0 .3)), (omega (arith, gone .1), s .pre .1 .1 .1)),
     )
 
--- src/lib.rt:236:24
 run-from-enum-known-next-4 : (t : ℕ) → run-from-lts.Need-enum-known-next-4 (
   next-step-reads.Asked,
   next-step-reads.Learnt,
@@ -197,7 +184,6 @@ run-from-enum-known-next-4 : (t : ℕ) → run-from-lts.Need-enum-known-next-4 (
 ) (run-from-at t) run-from.Post
 run-from-enum-known-next-4 t c = search needs
 
--- src/lib.rt:237:13
 run-from-sub-run-from-2 : (t : ℕ) → run-from-lts.Need-sub-run-from-2 (
   next-step-reads.Asked,
   next-step-reads.Learnt,
@@ -210,7 +196,6 @@ run-from-sub-run-from-2 : (t : ℕ) → run-from-lts.Need-sub-run-from-2 (
 ) (run-from-at t) run-from.Post
 run-from-sub-run-from-2 t c = search needs
 
--- src/lib.rt:236:34
 run-from-run-from-requires-2 : (t : ℕ) → run-from-lts.Need-run-from-requires-2 (
   next-step-reads.Asked,
   next-step-reads.Learnt,
@@ -228,7 +213,6 @@ run-from-run-from-requires-2 t c κs =
       ((gone, s .pre .1 .0 .1, s .pre .1 .0 .2, omega (arith, c .before .before .before .before .before .before .before .before .before .before .before .next-step .kept .1 .1 .1 .1 .0, s .pre .1 .0 .3)), s .pre .1 .1),
     )
 
--- src/lib.rt:203:1
 run-from-same-length : (t : ℕ) → run-from-lts.Need-same-length (
   next-step-reads.Asked,
   next-step-reads.Learnt,
@@ -241,7 +225,6 @@ run-from-same-length : (t : ℕ) → run-from-lts.Need-same-length (
 ) (run-from-at t) run-from.Post
 run-from-same-length t c = search needs
 
--- src/lib.rt:203:1
 run-from-same-length-2 : (t : ℕ) → run-from-lts.Need-same-length-2 (
   next-step-reads.Asked,
   next-step-reads.Learnt,
@@ -254,7 +237,6 @@ run-from-same-length-2 : (t : ℕ) → run-from-lts.Need-same-length-2 (
 ) (run-from-at t) run-from.Post
 run-from-same-length-2 t c = search needs
 
--- src/lib.rt:203:1
 run-from-same-length-3 : (t : ℕ) → run-from-lts.Need-same-length-3 (
   next-step-reads.Asked,
   next-step-reads.Learnt,
@@ -267,7 +249,6 @@ run-from-same-length-3 : (t : ℕ) → run-from-lts.Need-same-length-3 (
 ) (run-from-at t) run-from.Post
 run-from-same-length-3 t c = search needs
 
--- src/lib.rt:203:1
 run-from-same-length-4 : (t : ℕ) → run-from-lts.Need-same-length-4 (
   next-step-reads.Asked,
   next-step-reads.Learnt,
@@ -280,7 +261,6 @@ run-from-same-length-4 : (t : ℕ) → run-from-lts.Need-same-length-4 (
 ) (run-from-at t) run-from.Post
 run-from-same-length-4 t c = search needs
 
--- src/lib.rt:203:1
 run-from-returns-2 : (t : ℕ) → run-from-lts.Need-returns-2 (
   next-step-reads.Asked,
   next-step-reads.Learnt,
@@ -295,7 +275,6 @@ run-from-returns-2 t c =
     let s = c .before .before .before .before .before .before .before .before .before .before .before .before .before .before .before .before .before .before .before in
     refused (now (s .args .bytes)) (s .args .entries) (s .args .left) (s .args .used) (machineOf (areaOf (s .args .job) (now (s .args .cells)) (now (s .args .store)))) (c .before .before .before .before .before .before .before .before .before .before .before .next-step .result) (c .before .before .before .before .before .before .before .before .before .before .before .next-step .last .1 .1 .1 .1 .1 .0) (c .before .before .before .before .before .before .before .before .before .before .before .next-step .last .1 .1 .1 .1 .1 .1 .0) (c .before .before .before .before .before .before .before .before .before .before .before .before .before .before .before .if1 .left) (c .before .before .before .before .before .before .before .before .before .before .before .next-step .ensures .0) (now (s .args .report)) _ _ _ _ (c .before .before .before .before .before .next .given .1) (record { bytes = c .before .before .put-refusal .ensures .0; count = c .before .before .put-refusal .ensures .1 })
 
--- src/lib.rt:203:1
 run-from-same-length-5 : (t : ℕ) → run-from-lts.Need-same-length-5 (
   next-step-reads.Asked,
   next-step-reads.Learnt,
@@ -308,7 +287,6 @@ run-from-same-length-5 : (t : ℕ) → run-from-lts.Need-same-length-5 (
 ) (run-from-at t) run-from.Post
 run-from-same-length-5 t c = search needs
 
--- src/lib.rt:203:1
 run-from-same-length-6 : (t : ℕ) → run-from-lts.Need-same-length-6 (
   next-step-reads.Asked,
   next-step-reads.Learnt,
@@ -321,7 +299,6 @@ run-from-same-length-6 : (t : ℕ) → run-from-lts.Need-same-length-6 (
 ) (run-from-at t) run-from.Post
 run-from-same-length-6 t c = search needs
 
--- src/lib.rt:203:1
 run-from-same-length-7 : (t : ℕ) → run-from-lts.Need-same-length-7 (
   next-step-reads.Asked,
   next-step-reads.Learnt,
@@ -334,7 +311,6 @@ run-from-same-length-7 : (t : ℕ) → run-from-lts.Need-same-length-7 (
 ) (run-from-at t) run-from.Post
 run-from-same-length-7 t c = search needs
 
--- src/lib.rt:203:1
 run-from-same-length-8 : (t : ℕ) → run-from-lts.Need-same-length-8 (
   next-step-reads.Asked,
   next-step-reads.Learnt,
@@ -347,7 +323,6 @@ run-from-same-length-8 : (t : ℕ) → run-from-lts.Need-same-length-8 (
 ) (run-from-at t) run-from.Post
 run-from-same-length-8 t c = search needs
 
--- src/lib.rt:203:1
 run-from-returns-3 : (t : ℕ) → run-from-lts.Need-returns-3 (
   next-step-reads.Asked,
   next-step-reads.Learnt,
@@ -363,7 +338,6 @@ run-from-returns-3 t c =
     let same = subst (λ x. LeftByStep (s .args .entries) (s .args .used) (s .args .job) (now (s .args .cells)) (now (s .args .store)) x (c .before .before .before .before .before .before .before .before .before .before .before .before .before .next-step .last .1 .1 .1 .1 .1 .0) (c .before .before .before .before .before .before .before .before .before .before .before .before .before .next-step .last .1 .1 .1 .1 .1 .1 .0)) (c .before .before .before .before .before .before .before .next2 .given .1) (c .before .before .before .before .before .before .before .before .before .before .before .before .before .next-step .ensures .1) in
     ends (now (s .args .bytes)) (s .args .entries) (s .args .left) (s .args .used) (machineOf (areaOf (s .args .job) (now (s .args .cells)) (now (s .args .store)))) (c .before .before .before .before .before .before .before .before .before .before .before .before .before .next-step .result) (c .before .before .before .before .before .before .before .before .before .before .before .before .before .next-step .last .1 .1 .1 .1 .1 .0) (c .before .before .before .before .before .before .before .before .before .before .before .before .before .next-step .last .1 .1 .1 .1 .1 .1 .0) (c .before .before .before .before .before .before .before .before .before .before .before .before .before .before .before .before .before .if1 .left) (c .before .before .before .before .before .before .before .before .before .before .before .before .before .next-step .ensures .0) (now (s .args .report)) _ _ _ (c .before .before .before .before .before .before .before .next2 .given .1) _ (ap machineOf same) (c .before .before .put-ended .ensures)
 
--- src/lib.rt:203:1
 run-from-same-length-9 : (t : ℕ) → run-from-lts.Need-same-length-9 (
   next-step-reads.Asked,
   next-step-reads.Learnt,
@@ -376,7 +350,6 @@ run-from-same-length-9 : (t : ℕ) → run-from-lts.Need-same-length-9 (
 ) (run-from-at t) run-from.Post
 run-from-same-length-9 t c = search needs
 
--- src/lib.rt:203:1
 run-from-same-length-10 : (t : ℕ) → run-from-lts.Need-same-length-10 (
   next-step-reads.Asked,
   next-step-reads.Learnt,
@@ -389,7 +362,6 @@ run-from-same-length-10 : (t : ℕ) → run-from-lts.Need-same-length-10 (
 ) (run-from-at t) run-from.Post
 run-from-same-length-10 t c = search needs
 
--- src/lib.rt:203:1
 run-from-same-length-11 : (t : ℕ) → run-from-lts.Need-same-length-11 (
   next-step-reads.Asked,
   next-step-reads.Learnt,
@@ -402,7 +374,6 @@ run-from-same-length-11 : (t : ℕ) → run-from-lts.Need-same-length-11 (
 ) (run-from-at t) run-from.Post
 run-from-same-length-11 t c = search needs
 
--- src/lib.rt:203:1
 run-from-same-length-12 : (t : ℕ) → run-from-lts.Need-same-length-12 (
   next-step-reads.Asked,
   next-step-reads.Learnt,
@@ -415,7 +386,6 @@ run-from-same-length-12 : (t : ℕ) → run-from-lts.Need-same-length-12 (
 ) (run-from-at t) run-from.Post
 run-from-same-length-12 t c = search needs
 
--- src/lib.rt:203:1
 run-from-returns-4 : (t : ℕ) → run-from-lts.Need-returns-4 (
   next-step-reads.Asked,
   next-step-reads.Learnt,
@@ -430,7 +400,6 @@ run-from-returns-4 t c =
     let s = c .before .before .before .before .before .before .before .before .before .before .before .before .before .before .before .before .before .before .before .before .before .before .before .before .before .before in
     delivers (now (s .args .bytes)) (s .args .entries) (s .args .left) (s .args .used) (machineOf (areaOf (s .args .job) (now (s .args .cells)) (now (s .args .store)))) (c .before .before .before .before .before .before .before .before .before .before .before .before .before .before .before .before .before .before .next-step .result) (c .before .before .before .before .before .before .before .before .before .before .before .before .before .before .before .before .before .before .next-step .last .1 .1 .1 .1 .1 .0) (c .before .before .before .before .before .before .before .before .before .before .before .before .before .before .before .before .before .before .next-step .last .1 .1 .1 .1 .1 .1 .0) (c .before .before .before .before .before .before .before .before .before .before .before .before .before .before .before .before .before .before .before .before .before .before .if1 .left) (c .before .before .before .before .before .before .before .before .before .before .before .before .before .before .before .before .before .before .next-step .ensures .0) (now (s .args .report)) _ _ _ (c .before .before .before .before .before .before .before .before .before .before .before .before .next3 .given .1) (c .before .before .before .before .before .before .run-from .ensures)
 
--- src/lib.rt:203:1
 run-from-same-length-13 : (t : ℕ) → run-from-lts.Need-same-length-13 (
   next-step-reads.Asked,
   next-step-reads.Learnt,
@@ -443,7 +412,6 @@ run-from-same-length-13 : (t : ℕ) → run-from-lts.Need-same-length-13 (
 ) (run-from-at t) run-from.Post
 run-from-same-length-13 t c = search needs
 
--- src/lib.rt:203:1
 run-from-same-length-14 : (t : ℕ) → run-from-lts.Need-same-length-14 (
   next-step-reads.Asked,
   next-step-reads.Learnt,
@@ -456,7 +424,6 @@ run-from-same-length-14 : (t : ℕ) → run-from-lts.Need-same-length-14 (
 ) (run-from-at t) run-from.Post
 run-from-same-length-14 t c = search needs
 
--- src/lib.rt:203:1
 run-from-same-length-15 : (t : ℕ) → run-from-lts.Need-same-length-15 (
   next-step-reads.Asked,
   next-step-reads.Learnt,
@@ -469,7 +436,6 @@ run-from-same-length-15 : (t : ℕ) → run-from-lts.Need-same-length-15 (
 ) (run-from-at t) run-from.Post
 run-from-same-length-15 t c = search needs
 
--- src/lib.rt:203:1
 run-from-same-length-16 : (t : ℕ) → run-from-lts.Need-same-length-16 (
   next-step-reads.Asked,
   next-step-reads.Learnt,
@@ -482,7 +448,6 @@ run-from-same-length-16 : (t : ℕ) → run-from-lts.Need-same-length-16 (
 ) (run-from-at t) run-from.Post
 run-from-same-length-16 t c = search needs
 
--- src/lib.rt:203:1
 run-from-returns-5 : (t : ℕ) → run-from-lts.Need-returns-5 (
   next-step-reads.Asked,
   next-step-reads.Learnt,

@@ -40,41 +40,33 @@ module _ (rs : List ℤ) (i : ℕ) (fits : SFits w32 (getD rs i (pos 0))) where
   fine : ltZ read (negsuc 1048575) ≡ false → ltZ (pos 1048576) read ≡ false → leb (natAbs (getD rs i (pos 0))) 1048576 ≡ true
   fine d e = in-range (getD rs i (pos 0)) 1048576 (rw (toZ-ofZ fits) at d) (rw (toZ-ofZ fits) at e)
 
--- src/lib.rt:27:5
 loop-holds : tie.Need-loop-holds Inv-loop μ-loop
 loop-holds c = (omega arith, sym (zero-add (firstBad (now (c .args .readings)))))
 
--- src/lib.rt:28:23
 mul-reading : tie.Need-mul-reading Inv-loop μ-loop
 mul-reading c = omega arith
 
--- src/lib.rt:28:23
 shared-slice-copy-out-reading : tie.Need-shared-slice-copy-out-reading Inv-loop μ-loop
 shared-slice-copy-out-reading c = omega arith
 
--- src/lib.rt:30:13
 returns : tie.Need-returns Inv-loop μ-loop
 returns c =
     let s = c .before .before .before .before in
     let l = c .before .before .before .loop in
     omega (arith, l .inv .1, bad-here (now (s .args .readings)) (l .n) (omega arith) (low (now (s .args .readings)) (l .n) (sfits-of (c .before .reading .given)) (c .if1 .taken)))
 
--- src/lib.rt:33:13
 returns-2 : tie.Need-returns-2 Inv-loop μ-loop
 returns-2 c =
     let s = c .before .before .before .before .before in
     let l = c .before .before .before .before .loop in
     omega (arith, l .inv .1, bad-here (now (s .args .readings)) (l .n) (omega arith) (high (now (s .args .readings)) (l .n) (sfits-of (c .before .before .reading .given)) (c .if2 .taken)))
 
--- src/lib.rt:35:9
 add-n : tie.Need-add-n Inv-loop μ-loop
 add-n c = omega arith
 
--- src/lib.rt:27:5
 loop-less : tie.Need-loop-less Inv-loop μ-loop
 loop-less c = omega arith
 
--- src/lib.rt:27:5
 loop-again : tie.Need-loop-again Inv-loop μ-loop
 loop-again c =
     let s = c .before .before .before .before .before in
@@ -84,7 +76,6 @@ loop-again c =
           (fine (now (s .args .readings)) (l .n) (sfits-of (c .before .before .reading .given)) (c .before .if1 .left) (c .if2 .left)),
     )
 
--- src/lib.rt:22:1
 returns-3 : tie.Need-returns-3 Inv-loop μ-loop
 returns-3 c =
     let s = c .before .before in

@@ -3,8 +3,7 @@ use mathlib.Core.Path.{refl, sym, ap, _∙_, subst}
 use Prim.Native.Nat.{_<_}
 use native.Mathlib.Omega.{arith}
 use denote.Ref.{now}
-use Rattle.area.specs.Encoding.{areaOf}
-use Rattle.machine.specs.Log.{machineOf}
+use Rattle.area.specs.Encoding.{areaOf, machineOf}
 use Rattle.calls.proofs.Settling.{held-there}
 use Rattle.reporting.specs.Code.{endingIn}
 use Rattle.running.specs.Code.{afterStep, LeftByStep}
@@ -13,19 +12,15 @@ use borrow.Author.Needs.{needs}
 use Rattle.running.proofs.next_step.Statement.{statement}
 use Rattle.running.proofs.next_step.Tie as tie
 
--- src/lib.rt:136:16
 cast-held : tie.Need-cast-held
 cast-held c = search needs
 
--- src/lib.rt:137:9
 first-wanted-requires : tie.Need-first-wanted-requires
 first-wanted-requires c κs = let s = c .before .before .before .before in held-there (s .args .job) (now (s .args .cells)) (now (s .args .store)) (s .pre .0)
 
--- src/lib.rt:140:13
 same-length : tie.Need-same-length
 same-length c = search needs
 
--- src/lib.rt:140:13
 returns : tie.Need-returns
 unfolding afterStep endingIn
 returns c =
@@ -34,7 +29,6 @@ returns c =
       refl,
     )
 
--- src/lib.rt:142:13
 deliver-entry-requires : tie.Need-deliver-entry-requires
 deliver-entry-requires c κs =
     let s = c .before .before .before .before .before .before .before .before .before .before in (
@@ -42,23 +36,18 @@ deliver-entry-requires c κs =
       (s .pre .1, omega (arith, s .pre .2, c .before .before .before .if2 .left), s .pre .3),
     )
 
--- src/lib.rt:143:9
 step-of-given-requires : tie.Need-step-of-given-requires
 step-of-given-requires c κs = search needs
 
--- src/lib.rt:143:9
 same-length-2 : tie.Need-same-length-2
 same-length-2 c = search needs
 
--- src/lib.rt:143:9
 same-length-3 : tie.Need-same-length-3
 same-length-3 c = search needs
 
--- src/lib.rt:143:9
 same-length-4 : tie.Need-same-length-4
 same-length-4 c = search needs
 
--- src/lib.rt:143:9
 returns-2 : tie.Need-returns-2
 returns-2 c =
     let s = c .before .before .before .before .before .before .before .before .before .before .before .before .before .before .before .before in
@@ -71,23 +60,18 @@ returns-2 c =
           (given-left (s .args .job) (now (s .args .cells)) (now (s .args .store)) (s .pre .0) (now (s .args .bytes)) (s .args .used) (s .args .entries) inside _ _ (c .before .before .before .before .before .deliver-entry .result) (c .before .before .before .before .before .deliver-entry .ensures .1)),
     )
 
--- src/lib.rt:145:9
 promote-requires : tie.Need-promote-requires
 promote-requires c κs = let s = c .before .before .before .before .before .before .before .before in (s .pre .0, none-there (s .args .job) (now (s .args .cells)) (now (s .args .store)) (s .pre .0) (c .before .before .before .first-wanted .result) (c .before .before .before .first-wanted .ensures) (c .before .before .if1 .left))
 
--- src/lib.rt:148:5
 step-of-promotion-requires : tie.Need-step-of-promotion-requires
 step-of-promotion-requires c κs = search needs
 
--- src/lib.rt:123:1
 same-length-5 : tie.Need-same-length-5
 same-length-5 c = search needs
 
--- src/lib.rt:123:1
 same-length-6 : tie.Need-same-length-6
 same-length-6 c = search needs
 
--- src/lib.rt:123:1
 returns-3 : tie.Need-returns-3
 returns-3 c =
     let s = c .before .before .before .before .before .before .before .before .before .before .before .before .before in

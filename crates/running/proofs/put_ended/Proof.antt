@@ -3,8 +3,7 @@ use mathlib.Core.Path.{subst}
 use borrow.Author.Needs.{sfits-of}
 use denote.Ref.{now}
 use Rattle.sums.proofs.Words.{back}
-use Rattle.area.specs.Encoding.{areaOf}
-use Rattle.machine.specs.Log.{machineOf}
+use Rattle.area.specs.Encoding.{areaOf, machineOf}
 use Rattle.reporting.specs.Text.{reportText}
 use Rattle.running.specs.Code.{Printed}
 use Rattle.running.proofs.Reports.{figures-are}
@@ -12,23 +11,18 @@ use borrow.Author.Needs.{needs}
 use Rattle.running.proofs.put_ended.Statement.{statement}
 use Rattle.running.proofs.put_ended.Tie as tie
 
--- src/lib.rt:167:9
 result-requires : tie.Need-result-requires
 result-requires c κs = search needs
 
--- src/lib.rt:177:17
 cast-t9 : tie.Need-cast-t9
 cast-t9 c = search needs
 
--- src/lib.rt:180:5
 put-report-requires : tie.Need-put-report-requires
 put-report-requires c κs = search needs
 
--- src/lib.rt:156:1
 same-length : tie.Need-same-length
 same-length c = search needs
 
--- src/lib.rt:156:1
 returns : tie.Need-returns
 unfolding machineOf
 returns c =

@@ -21,39 +21,30 @@ Inv-loop bytes from count block₀ n₀ block n = (n ≤ count) × (length block
 abbrev μ-loop : tie.MeasureT-loop
 μ-loop bytes from count block₀ n₀ block n = count - n
 
--- src/lib.rt:15:5
 loop-holds : tie.Need-loop-holds Inv-loop μ-loop
 loop-holds c = (omega arith, refl, unfold readingsAt in refl)
 
--- src/lib.rt:16:53
 mul-signed-at : tie.Need-mul-signed-at Inv-loop μ-loop
 mul-signed-at c = omega arith
 
--- src/lib.rt:16:46
 add-signed-at : tie.Need-add-signed-at Inv-loop μ-loop
 add-signed-at c = omega arith
 
--- src/lib.rt:16:20
 signed-at-requires : tie.Need-signed-at-requires Inv-loop μ-loop
 signed-at-requires c κs = omega arith
 
--- src/lib.rt:16:9
 mul-t10 : tie.Need-mul-t10 Inv-loop μ-loop
 mul-t10 c = omega arith
 
--- src/lib.rt:16:9
 slice-set-from-block : tie.Need-slice-set-from-block Inv-loop μ-loop
 slice-set-from-block c = omega arith
 
--- src/lib.rt:17:9
 add-n : tie.Need-add-n Inv-loop μ-loop
 add-n c = omega arith
 
--- src/lib.rt:15:5
 loop-less : tie.Need-loop-less Inv-loop μ-loop
 loop-less c = omega arith
 
--- src/lib.rt:15:5
 loop-again : tie.Need-loop-again Inv-loop μ-loop
 loop-again c =
     let a = c .before .before .before .before .args in
@@ -64,11 +55,9 @@ loop-again c =
       ap₂ (λ b x. set b (l .n) x) (l .inv .2) v ∙ block-next (now (a .bytes)) (a .from) (l .n) (now (a .block)) (omega arith),
     )
 
--- src/lib.rt:10:1
 same-length : tie.Need-same-length Inv-loop μ-loop
 same-length c = c .before .loop .inv .1
 
--- src/lib.rt:10:1
 returns : tie.Need-returns Inv-loop μ-loop
 returns c =
     let a = c .before .before .before .args in

@@ -7,60 +7,46 @@ use borrow.Author.Needs.{needs}
 use Rattle.running.proofs.run.Statement.{statement}
 use Rattle.running.proofs.run.Tie as tie
 
--- src/lib.rt:303:9
 returns : tie.Need-returns
 returns c = let s = c .before .before .before in too-short (now (s .args .bytes)) (now (s .args .report)) (c .if1 .taken)
 
--- src/lib.rt:305:9
 parse-requires : tie.Need-parse-requires
 parse-requires c κs = search needs
 
--- src/lib.rt:307:65
 enum-told : tie.Need-enum-told
 enum-told c = search needs
 
--- src/lib.rt:307:47
 run-formed-requires : tie.Need-run-formed-requires
 unfolding formIn
 run-formed-requires c κs = let s = c .before .before .before .before .before .before .before in (sym (c .before .before .before .parse .ensures) ∙ ap formIn (c .before .enum-told .given .1), c .before .before .before .before .if1 .left)
 
--- src/lib.rt:308:31
 enum-known-form : tie.Need-enum-known-form
 enum-known-form c = search needs
 
--- src/lib.rt:308:53
 put-refusal-requires : tie.Need-put-refusal-requires
 put-refusal-requires c κs = search needs
 
--- src/lib.rt:309:30
 enum-known-form-2 : tie.Need-enum-known-form-2
 enum-known-form-2 c = search needs
 
--- src/lib.rt:309:52
 put-refusal-requires-2 : tie.Need-put-refusal-requires-2
 put-refusal-requires-2 c κs = search needs
 
--- src/lib.rt:310:33
 enum-known-form-3 : tie.Need-enum-known-form-3
 enum-known-form-3 c = search needs
 
--- src/lib.rt:310:55
 put-refusal-requires-3 : tie.Need-put-refusal-requires-3
 put-refusal-requires-3 c κs = search needs
 
--- src/lib.rt:299:1
 same-length : tie.Need-same-length
 same-length c = search needs
 
--- src/lib.rt:299:1
 returns-2 : tie.Need-returns-2
 returns-2 c = let s = c .before .before .before .before .before .before .before .before .before .before in printed (now (s .args .bytes)) (now (s .args .report)) _ _ (c .before .before .before .before .before .before .before .if1 .left) (c .before .before .run-formed .ensures)
 
--- src/lib.rt:299:1
 same-length-2 : tie.Need-same-length-2
 same-length-2 c = search needs
 
--- src/lib.rt:299:1
 returns-3 : tie.Need-returns-3
 unfolding formIn number byteOf
 returns-3 c =
@@ -69,11 +55,9 @@ returns-3 c =
     (form-refused (now (s .args .bytes)) 0 (now (s .args .report)) _ _ (header _) (sym (c .before .before .before .before .before .before .before .parse .ensures) ∙ ap formIn (c .before .before .before .before .before .form .given .1))
     (record { bytes = c .before .before .put-refusal .ensures .0; count = c .before .before .put-refusal .ensures .1 }))
 
--- src/lib.rt:299:1
 same-length-3 : tie.Need-same-length-3
 same-length-3 c = search needs
 
--- src/lib.rt:299:1
 returns-4 : tie.Need-returns-4
 unfolding formIn number byteOf
 returns-4 c =
@@ -82,11 +66,9 @@ returns-4 c =
     (form-refused (now (s .args .bytes)) 0 (now (s .args .report)) _ _ (entry _) (sym (c .before .before .before .before .before .before .before .parse .ensures) ∙ ap formIn (c .before .before .before .before .before .form2 .given .1))
     (record { bytes = c .before .before .put-refusal2 .ensures .0; count = c .before .before .put-refusal2 .ensures .1 }))
 
--- src/lib.rt:299:1
 same-length-4 : tie.Need-same-length-4
 same-length-4 c = search needs
 
--- src/lib.rt:299:1
 returns-5 : tie.Need-returns-5
 unfolding formIn number byteOf
 returns-5 c =

@@ -10,44 +10,36 @@ use borrow.Author.Needs.{needs}
 use Rattle.running.proofs.run_started.Statement.{statement}
 use Rattle.running.proofs.run_started.Tie as tie
 
--- src/lib.rt:265:56
 slice-aggregate-start : tie.Need-slice-aggregate-start
 slice-aggregate-start c = search needs
 
--- src/lib.rt:265:9
 start-requires : tie.Need-start-requires
 start-requires c κs = search needs
 
--- src/lib.rt:272:9
 slice-aggregate-run-from : tie.Need-slice-aggregate-run-from
 slice-aggregate-run-from c = search needs
 
--- src/lib.rt:273:9
 slice-aggregate-run-from-2 : tie.Need-slice-aggregate-run-from-2
 slice-aggregate-run-from-2 c = search needs
 
--- src/lib.rt:274:9
 slice-aggregate-run-from-3 : tie.Need-slice-aggregate-run-from-3
 slice-aggregate-run-from-3 c = search needs
 
--- src/lib.rt:266:5
 run-from-requires : tie.Need-run-from-requires
 run-from-requires c κs =
     let s = c .before .before .before .before .before .before .before .before .before in (
-      (start-settled (s .args .axes) (s .args .threshold) (s .args .budget) (s .pre .0) (c .before .before .before .before .before .start .result) _ (c .before .before .before .before .before .start .last .1 .1 .1 .0) _ (c .before .before .before .before .before .start .ensures .0) (c .before .before .before .before .before .start .ensures .1) refl refl, s .pre .1, s .pre .2, omega arith),
+      (start-settled (s .args .settings) (s .pre .0) (c .before .before .before .before .before .start .result) _ (c .before .before .before .before .before .start .last .1 .0) _ (c .before .before .before .before .before .start .ensures .0) (c .before .before .before .before .before .start .ensures .1) refl refl, s .pre .1, s .pre .2, omega arith),
       (omega arith, s .pre .3),
     )
 
--- src/lib.rt:251:1
 same-length : tie.Need-same-length
 same-length c = search needs
 
--- src/lib.rt:251:1
 returns : tie.Need-returns
 returns c =
     let s = c .before .before .before .before .before .before .before .before .before .before .before .before .before .before .before in
     subst (λ m. Printed (textIn (s .args .entries) (course (now (s .args .bytes)) 1025 m 0)) (now (s .args .report)) (c .before .before .before .before .before .run-from .last .1 .1 .1 .1 .1 .1 .1 .1 .0) (c .before .before .before .before .before .run-from .result))
-    (start-state (s .args .axes) (s .args .threshold) (s .args .budget) (s .pre .0) (c .before .before .before .before .before .before .before .before .before .before .before .start .result) _ (c .before .before .before .before .before .before .before .before .before .before .before .start .last .1 .1 .1 .0) _ (c .before .before .before .before .before .before .before .before .before .before .before .start .ensures .0) (c .before .before .before .before .before .before .before .before .before .before .before .start .ensures .1) refl refl) (c .before .before .before .before .before .run-from .ensures)
+    (start-state (s .args .settings) (s .pre .0) (c .before .before .before .before .before .before .before .before .before .before .before .start .result) _ (c .before .before .before .before .before .before .before .before .before .before .before .start .last .1 .0) _ (c .before .before .before .before .before .before .before .before .before .before .before .start .ensures .0) (c .before .before .before .before .before .before .before .before .before .before .before .start .ensures .1) refl refl) (c .before .before .before .before .before .run-from .ensures)
 
 pub run-started-spec : {M : Type 1} → statement M
 run-started-spec =

@@ -5,20 +5,16 @@ use borrow.Author.Needs.{needs}
 use Rattle.running.proofs.step_of_given.Statement.{statement}
 use Rattle.running.proofs.step_of_given.Tie as tie
 
--- src/lib.rt:106:24
 enum-known-given : tie.Need-enum-known-given
 enum-known-given c = search needs
 
--- src/lib.rt:107:21
 enum-known-given-2 : tie.Need-enum-known-given-2
 enum-known-given-2 c = search needs
 
--- src/lib.rt:102:1
 returns : tie.Need-returns
 unfolding stepGiven
 returns c = ap stepGiven (sym (c .before .given .given .1))
 
--- src/lib.rt:102:1
 returns-2 : tie.Need-returns-2
 unfolding stepGiven
 returns-2 c = ap stepGiven (sym (c .before .given2 .given .1))

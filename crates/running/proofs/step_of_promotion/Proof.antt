@@ -5,29 +5,23 @@ use borrow.Author.Needs.{needs}
 use Rattle.running.proofs.step_of_promotion.Statement.{statement}
 use Rattle.running.proofs.step_of_promotion.Tie as tie
 
--- src/lib.rt:116:48
 enum-told : tie.Need-enum-told
 enum-told c = search needs
 
--- src/lib.rt:117:50
 enum-told-2 : tie.Need-enum-told-2
 enum-told-2 c = search needs
 
--- src/lib.rt:118:41
 enum-told-3 : tie.Need-enum-told-3
 enum-told-3 c = search needs
 
--- src/lib.rt:112:1
 returns : tie.Need-returns
 unfolding stepPromoted
 returns c = ap (λ o. stepPromoted o (c .before .before .args .job)) (sym (c .enum-told .given .1))
 
--- src/lib.rt:112:1
 returns-2 : tie.Need-returns-2
 unfolding stepPromoted
 returns-2 c = ap (λ o. stepPromoted o (c .before .before .args .job)) (sym (c .enum-told2 .given .1))
 
--- src/lib.rt:112:1
 returns-3 : tie.Need-returns-3
 unfolding stepPromoted
 returns-3 c = ap (λ o. stepPromoted o (c .before .before .args .job)) (sym (c .enum-told3 .given .1))

@@ -1,4 +1,4 @@
--- `counting::capped_axes` meets its contract: with an excess of 12 every axis counts, else the axes passed at level 8 have been counted.
+-- `grid::capped_axes` meets its contract: with an excess of 12 every axis counts, else the axes passed at level 8 have been counted.
 -- Assumes nothing.
 use borrow.Author.Needs.{needs}
 use mathlib.Core.Path.{_≡_, refl, sym, ap, _∙_}
@@ -6,12 +6,10 @@ use mathlib.Core.Logic.{⊎-elim}
 use Prim.Native.Nat.{_-_, _<_, _≤_}
 use native.Mathlib.Omega.{arith}
 use lib.ListN.{length}
-use Rattle.grid.specs.Index.{excess}
-use Rattle.machine.specs.Counts.{cappedAxes}
-use Rattle.counting.proofs.Tallies.{capped-more, capped-same}
-use Rattle.counting.proofs.Ceilings.{full-level, not-full, capped-all}
-use Rattle.counting.proofs.capped_axes.Statement.{statement}
-use Rattle.counting.proofs.capped_axes.Tie as tie
+use Rattle.grid.specs.Index.{excess, cappedAxes}
+use Rattle.grid.proofs.Ceilings.{capped-more, capped-same, full-level, not-full, capped-all}
+use Rattle.grid.proofs.capped_axes.Statement.{statement}
+use Rattle.grid.proofs.capped_axes.Tie as tie
 
 abbrev Inv-loop : tie.InvT-loop
 Inv-loop axes levels count₀ axis₀ count axis =
@@ -20,46 +18,36 @@ Inv-loop axes levels count₀ axis₀ count axis =
 abbrev μ-loop : tie.MeasureT-loop
 μ-loop axes levels count₀ axis₀ count axis = axes - axis
 
--- src/lib.rt:47:14
 excess-of-requires : tie.Need-excess-of-requires Inv-loop μ-loop
 excess-of-requires c κs = c .pre .1
 
--- src/lib.rt:48:16
 cast-result : tie.Need-cast-result Inv-loop μ-loop
 cast-result c = omega arith
 
--- src/lib.rt:48:9
 returns : tie.Need-returns Inv-loop μ-loop
 returns c =
     let s = c .before .before in
     let eight : length (s .args .t2) ≡ 8 = search needs in
     (sym (capped-all (s .args .t2) eight (s .pre .1) (omega (arith, c .if1 .taken, c .before .excess-of .ensures)) (s .args .axes) (s .pre .0)), s .pre .0)
 
--- src/lib.rt:52:5
 loop-holds : tie.Need-loop-holds Inv-loop μ-loop
 loop-holds c = (omega arith, omega arith, search needs, omega (arith, c .if1 .left, c .before .excess-of .ensures), unfold cappedAxes in refl)
 
--- src/lib.rt:53:17
 mul-if2 : tie.Need-mul-if2 Inv-loop μ-loop
 mul-if2 c = omega arith
 
--- src/lib.rt:53:17
 array-read-if2 : tie.Need-array-read-if2 Inv-loop μ-loop
 array-read-if2 c = omega arith
 
--- src/lib.rt:54:13
 add-count : tie.Need-add-count Inv-loop μ-loop
 add-count c = omega arith
 
--- src/lib.rt:56:9
 add-axis : tie.Need-add-axis Inv-loop μ-loop
 add-axis c = omega arith
 
--- src/lib.rt:52:5
 loop-less : tie.Need-loop-less Inv-loop μ-loop
 loop-less c = omega arith
 
--- src/lib.rt:52:5
 loop-again : tie.Need-loop-again Inv-loop μ-loop
 loop-again c =
     let s = c .before .before .before .before .before in
@@ -70,7 +58,6 @@ loop-again c =
     (λ w. (omega arith, omega (arith, w .1), l .inv .2, l .inv .3, omega (arith, w .1, l .inv .4, capped-same k (l .axis) (not-full k (l .inv .2) (s .pre .1) (l .axis) (omega (arith, s .pre .0)) (l .inv .3) (w .0 .left)))))
     (c .if2 .came)
 
--- src/lib.rt:43:1
 returns-2 : tie.Need-returns-2 Inv-loop μ-loop
 returns-2 c =
     let s = c .before .before .before .before in

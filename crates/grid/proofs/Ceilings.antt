@@ -6,13 +6,22 @@ use mathlib.Core.Bool.{Bool, true, false}
 use mathlib.Core.List.{List}
 use Prim.Native.Nat.{ℕ, zero, suc, _+_, _<_, _≤_}
 use native.Mathlib.Decide.{ℕ-discrete}
+use native.Mathlib.Nat.{add-zero}
 use native.Mathlib.Numerals.{add-one}
 use native.Mathlib.Omega.{arith}
 use lib.ListN.{length}
-use Rattle.grid.specs.Index.{level, excess, Within, within, forward}
+use Rattle.grid.specs.Index.{level, excess, Within, within, forward, cappedAxes}
 use Rattle.grid.proofs.Facts.{index-facts}
-use Rattle.machine.specs.Counts.{cappedAxes}
-use Rattle.counting.proofs.Tallies.{capped-more}
+
+-- one more axis
+module _ (k : List ℕ) (a : ℕ) where
+  pub capped-more : within (forward k a) ≡ false → cappedAxes (a + 1) k ≡ cappedAxes a k + 1
+  unfolding cappedAxes
+  capped-more e = rw (add-one a, e)
+
+  pub capped-same : within (forward k a) ≡ true → cappedAxes (a + 1) k ≡ cappedAxes a k
+  unfolding cappedAxes
+  capped-same e = rw (add-one a, e) (add-zero _)
 
 module _ (k : List ℕ) (eight : length k ≡ 8) (w : Within k) where
   module _ (a : ℕ) (h : a < 8) where
