@@ -30,6 +30,11 @@
  * Everything else is the library's. Every call has a defined answer to every number, reading and length, and to every content of
  * the arrays: old, altered, garbage or never set.
  *
+ * LATER RELEASES. Words and outcomes are only ever appended, never moved. When they are, compile anew with the new header: the arrays that
+ * you lend become longer. There is no version word: an area that an earlier release saved has to be started anew. Kept for later, and
+ * none of them in use: job words 10 and 11 (carried error), 12 to 17 (means of outputs 2 to 4), 18 (outputs), 19 (edition) and 20 (weight);
+ * words 9 and 10 (carried error) and 11 to 16 (further means) of result; outcomes 3 (capped) and 4 (a place was chosen).
+ *
  * WHAT A CALL RETURNS. 0 if it did what you asked, else the number of the cause for which it refused; a refused call leaves
  * everything that you lent as it was. Only wihupya_check cannot be refused: it returns its answer.
  */
