@@ -8,7 +8,8 @@ use mir.Syntax.{w64}
 use mir.Val.{ofZ}
 use Rattle.area.specs.Records.{Run}
 use Rattle.machine.specs.Promote.{Outcome, met, spent, promoted}
-use Rattle.calls.specs.Replies.{Reply, refused, accepted, promotion, counts, total, verdict, Called}
+use Rattle.calls.specs.Replies.{Reply, refused, accepted, promotion, counts, total, verdict}
+use Rattle.calls.specs.Calls.{Called}
 use Rattle.abi.specs.Words.{lowWord, highWord, wordsOf}
 
 unfoldable pub numberOf : Reply → ℕ
@@ -26,7 +27,7 @@ pub record Exported : Type 0 where
   pub store : List ℤ
 
 unfoldable pub exported : Called → Exported
-exported x = record { number = numberOf (x .reply); job = wordsOf (x .area .job); run = x .area .run; store = x .area .store }
+exported x = record { number = numberOf (x .answer .reply); job = wordsOf (x .area .job); run = x .area .run; store = x .area .store }
 
 -- 0 met, 1 spent, 2 promoted.
 unfoldable pub outcomeWord : Outcome → ℕ

@@ -12,7 +12,8 @@ ghost use Rattle.soundness.specs.Clauses.{checked};
 ghost use Rattle.area.specs.Records.{runOf};
 ghost use Rattle.counting.specs.Answer.{countsIn};
 ghost use Rattle.calls.specs.Replies.{counts as countsReply, total as totalReply, replyOf};
-ghost use Rattle.calls.specs.Calls.{startCall, pointCall, deliverCall, promoteCall, resultCall, crossCall};
+ghost use Rattle.calls.specs.Table.{start, point, deliver, promote, result, crossTotal};
+ghost use Rattle.calls.specs.Calls.{callOn};
 ghost use Rattle.abi.specs.Words.{jobOf, lowWord, highWord, wordsOf};
 ghost use Rattle.abi.specs.Exports.{numberOf, exported, outcomeAfter, countsAfter, totalAfter};
 
@@ -169,7 +170,7 @@ pub extern "C" fn wihupya_start(
     cells: &mut [u32],
     store: &[i32],
 ) -> u32
-    ensures { λ r. ⌜ record { number = r; job = now (job .exit); run = runOf (now (cells .exit)); store = now (store .entry) } ≡ exported (startCall (areaOf (jobOf (now (job .entry))) (now (cells .entry)) (now (store .entry))) (settingsOf axes threshold budget)) ⌝ }
+    ensures { λ r. ⌜ record { number = r; job = now (job .exit); run = runOf (now (cells .exit)); store = now (store .entry) } ≡ exported (callOn (areaOf (jobOf (now (job .entry))) (now (cells .entry)) (now (store .entry))) (start (settingsOf axes threshold budget))) ⌝ }
 {
     let settings = area::Settings {
         axes,
@@ -192,7 +193,7 @@ pub extern "C" fn wihupya_point(
     store: &[i32],
     buffer: &mut [u8],
 ) -> u32
-    ensures { λ r. ⌜ (r ≡ numberOf (pointCall (areaOf (jobOf (now (job .entry))) (now (cells .entry)) (now (store .entry))) n (now (buffer .entry)) .reply)) × (now (buffer .exit) ≡ pointCall (areaOf (jobOf (now (job .entry))) (now (cells .entry)) (now (store .entry))) n (now (buffer .entry)) .buffer) ⌝ }
+    ensures { λ r. ⌜ (r ≡ numberOf (callOn (areaOf (jobOf (now (job .entry))) (now (cells .entry)) (now (store .entry))) (point n (now (buffer .entry))) .answer .reply)) × (now (buffer .exit) ≡ callOn (areaOf (jobOf (now (job .entry))) (now (cells .entry)) (now (store .entry))) (point n (now (buffer .entry))) .answer .buffer) ⌝ }
 {
     number_of(calls::point(job_of(job), n, cells, store, buffer))
 }
@@ -206,7 +207,7 @@ pub extern "C" fn wihupya_deliver(
     cells: &mut [u32],
     store: &mut [i32],
 ) -> u32
-    ensures { λ r. ⌜ record { number = r; job = now (job .exit); run = runOf (now (cells .exit)); store = now (store .exit) } ≡ exported (deliverCall (areaOf (jobOf (now (job .entry))) (now (cells .entry)) (now (store .entry))) (now (readings .entry)) indicator) ⌝ }
+    ensures { λ r. ⌜ record { number = r; job = now (job .exit); run = runOf (now (cells .exit)); store = now (store .exit) } ≡ exported (callOn (areaOf (jobOf (now (job .entry))) (now (cells .entry)) (now (store .entry))) (deliver (now (readings .entry)) indicator)) ⌝ }
 {
     let answered = calls::deliver(job_of(job), readings, indicator, cells, store);
     let after = answered.job;
@@ -223,8 +224,8 @@ pub extern "C" fn wihupya_promote(
     cells: &mut [u32],
     store: &[i32],
 ) -> u32
-    ensures is { λ r. ⌜ record { number = r; job = now (job .exit); run = runOf (now (cells .exit)); store = now (store .entry) } ≡ exported (promoteCall (areaOf (jobOf (now (job .entry))) (now (cells .entry)) (now (store .entry)))) ⌝ }
-    ensures outcome { λ r. ⌜ now (outcome .exit) ≡ outcomeAfter (promoteCall (areaOf (jobOf (now (job .entry))) (now (cells .entry)) (now (store .entry))) .reply) (now (outcome .entry)) ⌝ }
+    ensures is { λ r. ⌜ record { number = r; job = now (job .exit); run = runOf (now (cells .exit)); store = now (store .entry) } ≡ exported (callOn (areaOf (jobOf (now (job .entry))) (now (cells .entry)) (now (store .entry))) promote) ⌝ }
+    ensures outcome { λ r. ⌜ now (outcome .exit) ≡ outcomeAfter (callOn (areaOf (jobOf (now (job .entry))) (now (cells .entry)) (now (store .entry))) promote .answer .reply) (now (outcome .entry)) ⌝ }
 {
     let answered = calls::promote(job_of(job), cells, store);
     let after = answered.job;
@@ -243,7 +244,7 @@ pub extern "C" fn wihupya_result(
     cells: &[u32],
     store: &[i32],
 ) -> u32
-    ensures { λ r. ⌜ (r ≡ numberOf (resultCall (areaOf (jobOf (now (job .entry))) (now (cells .entry)) (now (store .entry))))) × (now (counts .exit) ≡ countsAfter (resultCall (areaOf (jobOf (now (job .entry))) (now (cells .entry)) (now (store .entry)))) (now (counts .entry))) ⌝ }
+    ensures { λ r. ⌜ (r ≡ numberOf (callOn (areaOf (jobOf (now (job .entry))) (now (cells .entry)) (now (store .entry))) result .answer .reply)) × (now (counts .exit) ≡ countsAfter (callOn (areaOf (jobOf (now (job .entry))) (now (cells .entry)) (now (store .entry))) result .answer .reply) (now (counts .entry))) ⌝ }
 {
     let resulted = calls::result(job_of(job), cells, store);
     match resulted {
@@ -263,7 +264,7 @@ pub extern "C" fn wihupya_cross_total(
     cells: &[u32],
     store: &[i32],
 ) -> u32
-    ensures { λ r. ⌜ (r ≡ numberOf (crossCall (areaOf (jobOf (now (job .entry))) (now (cells .entry)) (now (store .entry))))) × (now (total .exit) ≡ totalAfter (crossCall (areaOf (jobOf (now (job .entry))) (now (cells .entry)) (now (store .entry)))) (now (total .entry))) ⌝ }
+    ensures { λ r. ⌜ (r ≡ numberOf (callOn (areaOf (jobOf (now (job .entry))) (now (cells .entry)) (now (store .entry))) crossTotal .answer .reply)) × (now (total .exit) ≡ totalAfter (callOn (areaOf (jobOf (now (job .entry))) (now (cells .entry)) (now (store .entry))) crossTotal .answer .reply) (now (total .entry))) ⌝ }
 {
     let totalled = calls::cross_total(job_of(job), cells, store);
     match totalled {

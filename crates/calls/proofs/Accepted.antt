@@ -2,7 +2,7 @@
 -- The idea: each test of the list failed.
 -- Assumes nothing.
 use mathlib.Core.Path.{_≡_, refl}
-use mathlib.Core.Bool.{Bool, true, false, not, _&&_}
+use mathlib.Core.Bool.{Bool, true, false, not, cond, _&&_}
 use mathlib.Core.List.{List, [], _∷_}
 use Prim.Native.Nat.{ℕ, suc, _<_, _≤_}
 use native.Mathlib.Omega.{arith}
@@ -17,7 +17,7 @@ use Rattle.grid.specs.Block.{blockSize}
 use Rattle.soundness.proofs.Exactly.{reads-and, reads-le}
 use Rattle.area.specs.Log.{Log}
 use Rattle.machine.specs.Log.{firstWanted, anyWanted, wantedIndex}
-use Rattle.machine.specs.Causes.{Cause, Lengths, cause, firstCause, short, inRange, startCauses, pointCauses, deliverCauses, promoteCauses, resultCauses}
+use Rattle.machine.specs.Causes.{Cause, Lengths, cause, firstCause, short, inRange, narrowFor, startCauses, pointCauses, deliverCauses, promoteCauses, resultCauses}
 
 -- no test of the list refuses
 pub record Missed (t : Bool) (cs : List Cause) : Type 0 where
@@ -28,6 +28,11 @@ pub missed : (t : Bool) (n : ℕ) (cs : List Cause) → firstCause (cause t (suc
 unfolding firstCause
 missed true n cs e = absurd (omega (arith, e))
 missed false n cs e = record { here = refl; later = e }
+
+-- neither the buffer nor the storage is too short
+pub neither : (t u : Bool) → cond t true u ≡ false → (t ≡ false) × (u ≡ false)
+neither true u e = let y : _≡_ {A = ℕ} 0 1 = cc in absurd (omega arith)
+neither false u e = (refl, e)
 
 pub record Startable (z : Lengths) (g : Settings) : Type 0 where
   pub settings : SettingsFit g
@@ -50,9 +55,16 @@ module _ (z : Lengths) (sound : Bool) (l : Log) where
   common = firstCause (resultCauses z sound l)
 
   -- the first two tests alone
-  first-two : (cs : List Cause) → short z (l .settings) ≡ false → not sound ≡ false → common ≡ 0
+  pub first-two : (cs : List Cause) → short z (l .settings) ≡ false → not sound ≡ false → common ≡ 0
   unfolding resultCauses firstCause
   first-two cs e f = rw (e, f)
+
+  -- so storage is long enough
+  pub long-enough : common ≡ 0 → (512 ≤ z .records) × (leastStore (l .settings) ≤ z .readings)
+  unfolding resultCauses short
+  long-enough e =
+      reads-and _ _ (reads-le 512 (z .records)) (reads-le (leastStore (l .settings)) (z .readings)) .sure
+      (not-false (leb 512 (z .records) && leb (leastStore (l .settings)) (z .readings)) (missed _ 2 _ e .here))
 
   wanted-is : not (anyWanted (l .entries)) ≡ false → firstWanted (l .entries) < length (l .entries)
   unfolding anyWanted
@@ -103,13 +115,13 @@ module _ (z : Lengths) (sound : Bool) (l : Log) where
   unfolding pointCauses
   pointable n w e =
       let one = missed _ 2 _ e in
-      let buffer = missed _ 2 _ (one .later) in
-      let two = missed _ 3 _ (buffer .later) in
+      let long = neither (narrowFor (l .settings) w) (short z (l .settings)) (one .here) in
+      let two = missed _ 3 _ (one .later) in
       let three = missed _ 4 _ (two .later) in
       let four = missed _ 8 _ (three .later) in
       record {
-        clear = first-two [] (one .here) (two .here);
-        room = leb-true (l .settings .axes) w (not-false (leb (l .settings .axes) w) (buffer .here));
+        clear = first-two [] (long .1) (two .here);
+        room = leb-true (l .settings .axes) w (not-false (leb (l .settings .axes) w) (long .0));
         wanted = wanted-is (three .here);
         inside = leb-false (blockSize (wantedIndex (l .entries))) n (four .here);
       }

@@ -1,11 +1,10 @@
 -- The causes of each call, test by test, as the code asks them.
 -- Assumes nothing.
-use mathlib.Core.Path.{_≡_, refl, sym, ap, _∙_}
-use mathlib.Core.Bool.{Bool, true, false, not}
+use mathlib.Core.Path.{_≡_, ap, _∙_}
+use mathlib.Core.Bool.{Bool, true, false, not, cond}
 use mathlib.Core.List.{List, [], _∷_}
 use Prim.Native.Nat.{ℕ, _<_, _≤_}
 use borrow.Author.Tests.{eq-eqb, ne-eqb, le-leb, lt-leb, lt-ltb, le-ltb}
-use lib.Dec.{leb}
 use lib.IntN.{ℤ}
 use lib.ListN.{length}
 use Rattle.area.specs.declared.Settings.{Settings}
@@ -14,7 +13,7 @@ use Rattle.grid.specs.Block.{blockSize}
 use Rattle.area.specs.Log.{Log}
 use Rattle.soundness.proofs.Settings.{reads-axes, reads-budget}
 use Rattle.machine.specs.Log.{firstWanted, anyWanted, wantedIndex}
-use Rattle.machine.specs.Causes.{Lengths, cause, firstCause, short, inRange, startCauses, pointCauses, deliverCauses, promoteCauses, resultCauses}
+use Rattle.machine.specs.Causes.{Lengths, cause, firstCause, short, inRange, jobCauses, pointOwn, startCauses, pointCauses, deliverCauses, promoteCauses, resultCauses}
 use Rattle.calls.proofs.Tests.{hit, miss, end, Clear, clear, refusing, passing}
 
 -- ---- start
@@ -104,25 +103,13 @@ module _ (z : Lengths) (sound : Bool) (l : Log) where
   module _ (n w : ℕ) where
     pub point-buffer : w < l .settings .axes → firstCause (pointCauses z sound l n w) ≡ 3
     unfolding pointCauses
-    point-buffer h = step (short z (l .settings)) (ap not (lt-leb (l .settings .axes) w h))
-      where
-        step : (t : Bool) → not (leb (l .settings .axes) w) ≡ true
-            → firstCause (cause t 3 ∷ cause (not (leb (l .settings .axes) w)) 3 ∷ cause (not sound) 4 ∷ cause (not (anyWanted (l .entries))) 5 ∷ cause (leb (blockSize (wantedIndex (l .entries))) n) 9 ∷ []) ≡ 3
-        step true e = hit true 3 _ refl
-        step false e = miss false 3 _ refl ∙ hit _ 3 _ e
+    point-buffer h = hit _ 3 _ (ap (λ t. cond (not t) true (short z (l .settings))) (lt-leb (l .settings .axes) w h))
 
     module _ (room : l .settings .axes ≤ w) where
-      -- the buffer's row falls out
-      buffered : firstCause (pointCauses z sound l n w)
-          ≡ firstCause (cause (short z (l .settings)) 3 ∷ cause (not sound) 4 ∷ cause (not (anyWanted (l .entries))) 5 ∷ cause (leb (blockSize (wantedIndex (l .entries))) n) 9 ∷ [])
+      -- storage alone can be too short
+      buffered : firstCause (pointCauses z sound l n w) ≡ firstCause (jobCauses z sound (l .settings) false (pointOwn l n))
       unfolding pointCauses
-      buffered = step (short z (l .settings)) (ap not (le-leb (l .settings .axes) w room))
-        where
-          step : (t : Bool) → not (leb (l .settings .axes) w) ≡ false
-              → firstCause (cause t 3 ∷ cause (not (leb (l .settings .axes) w)) 3 ∷ cause (not sound) 4 ∷ cause (not (anyWanted (l .entries))) 5 ∷ cause (leb (blockSize (wantedIndex (l .entries))) n) 9 ∷ [])
-              ≡ firstCause (cause t 3 ∷ cause (not sound) 4 ∷ cause (not (anyWanted (l .entries))) 5 ∷ cause (leb (blockSize (wantedIndex (l .entries))) n) 9 ∷ [])
-          step true e = hit true 3 _ refl ∙ sym (hit true 3 _ refl)
-          step false e = miss false 3 _ refl ∙ (miss _ 3 _ e ∙ sym (miss false 3 _ refl))
+      buffered = ap (λ t. firstCause (jobCauses z sound (l .settings) (not t) (pointOwn l n))) (le-leb (l .settings .axes) w room)
 
       pub point-common : (common ≡ 0 → ⊥) → firstCause (pointCauses z sound l n w) ≡ common
       unfolding resultCauses

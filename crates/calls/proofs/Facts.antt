@@ -1,9 +1,9 @@
--- What holds of every call, proved.
--- The idea: each call goes by no cause, and then its step is known to do so, or by a cause, and then nothing changes.
+-- What holds of every call.
+-- The idea: a call goes one of two ways; by a cause nothing changes, and by none it is its row's step, which keeps the clauses.
 -- Assumes nothing.
-use mathlib.Core.Path.{_≡_, refl, sym, ap}
+use mathlib.Core.Path.{_≡_, refl, ap, sym, _∙_, subst}
 use mathlib.Core.Logic.{_⊎_, inl, inr}
-use mathlib.Core.List.{List, [], _∷_, List·Memᴰ, Memᴰ·cast}
+use mathlib.Core.List.{List, List·Memᴰ}
 use Prim.Native.Nat.{ℕ, _+_, _<_, _≤_}
 use native.Mathlib.Omega.{arith}
 use lib.IntN.{ℤ, pos}
@@ -14,215 +14,208 @@ use Rattle.quadrature.specs.Readings.{recordAt}
 use Rattle.soundness.specs.Clauses.{isSound}
 use Rattle.encoding.specs.Encodes.{Formed}
 use Rattle.machine.specs.Log.{firstWanted}
-use Rattle.machine.specs.Promote.{Outcome, met, spent}
-use Rattle.machine.specs.Causes.{firstCause, startCauses}
-use Rattle.machine.specs.Counts.{Counts}
+use Rattle.machine.specs.Promote.{met, spent}
+use Rattle.machine.specs.Steps.{started}
+use Rattle.machine.specs.Causes.{firstCause, startCauses, pointCauses, deliverCauses, promoteCauses}
 use Rattle.machine.specs.Areas.{startOn, deliverOn, promoteOn}
-use Rattle.machine.specs.Steps.{started, deliver, promoteStep}
 use Rattle.writing.specs.Settled.{Settled}
-use Rattle.calls.specs.Replies.{refused, accepted, promotion, counts, total, lengthsOf, Called}
-use Rattle.calls.specs.Calls.{startCall, pointCall, deliverCall, promoteCall, resultCall, crossCall}
-use Rattle.calls.specs.Facts.{PastUnchanged, CallFacts}
-use Rattle.calls.proofs.Refusing.{start-accepts, start-refuses}
-use Rattle.calls.proofs.Numbers.{start-number, point-number, deliver-number, promote-number, result-number}
+use Rattle.calls.specs.Replies.{refused, accepted, promotion, lengthsOf}
+use Rattle.calls.specs.Table.{Call, start, point, deliver, promote, result, crossTotal, check, answer, row, causesOf, effectOf, fitting, acceptedAnswer, refusedAnswer, refusal, stateAfter}
+use Rattle.calls.specs.Calls.{Called, areaAfter, refusalOn, callOn}
+use Rattle.calls.specs.Facts.{PastUnchanged, numbersOf, Accepted, CallFacts}
 use Rattle.calls.proofs.Buffers.{laid-length, laid-later}
-use Rattle.calls.proofs.Ways.{start-ways, point-ways, deliver-ways, promote-ways, result-ways, cross-ways}
+use Rattle.calls.proofs.Numbers.{cause-number, accepted-reply}
+use Rattle.calls.proofs.Ways.{refused-reply, call-accepts, call-ways}
+use Rattle.calls.proofs.Rows.{start-accepts, start-refuses, promote-accepts}
 use Rattle.calls.proofs.Outcomes.{idle-area}
-use Rattle.calls.proofs.Written.{written-past}
-use Rattle.calls.proofs.Told.{cross-mean, result-recorded}
-use Rattle.calls.proofs.Left.{started-settled, started-state, started-lengths, started-store, started-same, delivered-settled, delivered-state, delivered-lengths, delivered-outside, delivered-stored, promoted-settled, promoted-state, promoted-lengths, promoted-store, promoted-past}
+use Rattle.calls.proofs.Next.{IsJob, Next, next-start, next-settled, allowed-there, settled-before, after-settled, after-state, after-lengths, after-past}
+use Rattle.calls.proofs.Told.{cross-mean, result-recorded, check-answer}
+use Rattle.calls.proofs.Left.{started-store, started-same, delivered-outside, delivered-stored, promoted-store}
+use Rattle.calls.proofs.Written.{written-state}
 
--- ---- a refusal has its cause's number
+-- ---- refused or not
 
-refused-number : (m n : ℕ) (ns : List ℕ) → List·Memᴰ m ns → refused m ≡ refused n → List·Memᴰ n ns
-refused-number m n ns h e = let same : n ≡ m = cc in Memᴰ·cast same h
+module _ (a : Area) (c : Call) where
+  refused-keeps : (n : ℕ) → callOn a c .answer .reply ≡ refused n → (callOn a c .area ≡ a) × (callOn a c .answer ≡ refusedAnswer n (row c)) × List·Memᴰ n (numbersOf c)
+  refused-keeps n =
+      call-ways a c (λ (x : Called). x .answer .reply ≡ refused n → (x .area ≡ a) × (x .answer ≡ refusedAnswer n (row c)) × List·Memᴰ n (numbersOf c))
+      (λ none e. absurd (accepted-reply (fitting (lengthsOf a) (isSound a) (machineOf a .log)) (machineOf a) c n e))
+      (λ some e. let same : refusalOn a c ≡ n = same-number e in
+        (refl, ap (λ k. refusedAnswer k (row c)) same, subst (λ k. List·Memᴰ k (numbersOf c)) same (cause-number (lengthsOf a) (isSound a) (machineOf a .log) c some)))
+    where
+      same-number : refusedAnswer (refusalOn a c) (row c) .reply ≡ refused n → refusalOn a c ≡ n
+      same-number e = let k : refused (refusalOn a c) ≡ refused n = sym (refused-reply (refusalOn a c) (row c)) ∙ e in cc
+
+  -- a call that answers no refusal has no cause
+  pub no-cause : Accepted a c → refusalOn a c ≡ 0
+  no-cause f = call-ways a c (λ (x : Called). ((n : ℕ) → x .answer .reply ≡ refused n → ⊥) → refusalOn a c ≡ 0) (λ none g. none)
+      (λ some g. absurd (g (refusalOn a c) (refused-reply (refusalOn a c) (row c)))) f
+
+  past : PastUnchanged a (callOn a c .area)
+  past = call-ways a c (λ (x : Called). PastUnchanged a (x .area)) (λ none. after-past a (effectOf (machineOf a) (row c))) (λ some. record { records = refl; rest = refl })
+
+  module _ (formed : Formed (heldOf a)) where
+    lengths : lengthsOf (callOn a c .area) ≡ lengthsOf a
+    lengths = call-ways a c (λ (x : Called). lengthsOf (x .area) ≡ lengthsOf a) (λ none. after-lengths a (effectOf (machineOf a) (row c)) (allowed-there a formed c none)) (λ some. refl)
+
+    state : Accepted a c → machineOf (callOn a c .area) ≡ stateAfter (lengthsOf a) (isSound a) (machineOf a) c
+    unfolding stateAfter callOn
+    state f =
+        let none = no-cause f in
+        rw none (after-state a (effectOf (machineOf a) (row c)) (allowed-there a formed c none))
+
+-- ---- an accepted start
 
 accepted-not : (n : ℕ) → accepted ≡ refused n → ⊥
 accepted-not n e = let z : _≡_ {A = ℕ} 0 1 = cc in omega arith
 
-promotion-not : (o : Outcome) (n : ℕ) → promotion o ≡ refused n → ⊥
-promotion-not o n e = let z : _≡_ {A = ℕ} 0 1 = cc in omega arith
+module _ (a : Area) (g : Settings) where
+  start-none : callOn a (start g) .answer .reply ≡ accepted → refusalOn a (start g) ≡ 0
+  start-none e = no-cause a (start g) (λ n f. accepted-not n (sym e ∙ f))
 
-counts-not : (c : Counts) (n : ℕ) → counts c ≡ refused n → ⊥
-counts-not c n e = let z : _≡_ {A = ℕ} 0 1 = cc in omega arith
+  is-start : refusalOn a (start g) ≡ 0 → callOn a (start g) ≡ record { answer = answer accepted; area = startOn a g }
+  unfolding refusal causesOf row
+  is-start none = sym (start-accepts a g (firstCause (startCauses (lengthsOf a) g)) refl none)
 
-total-not : (x : ℤ) (n : ℕ) → total x ≡ refused n → ⊥
-total-not x n e = let z : _≡_ {A = ℕ} 0 1 = cc in omega arith
+  next-there : refusalOn a (start g) ≡ 0 → Next (lengthsOf a) (started g)
+  unfolding refusal causesOf row
+  next-there none = next-start (lengthsOf a) g none
 
-itself : (a : Area) → PastUnchanged a a
-itself a = record { records = refl; rest = refl }
+  start-settles : callOn a (start g) .answer .reply ≡ accepted → Settled (callOn a (start g) .area)
+  unfolding startOn
+  start-settles e = rw (is-start (start-none e)) (next-settled a (started g) (next-there (start-none e)))
 
--- ---- start
+  start-state : callOn a (start g) .answer .reply ≡ accepted → machineOf (callOn a (start g) .area) ≡ started g
+  unfolding startOn
+  start-state e = rw (is-start (start-none e)) (written-state a (started g) (next-there (start-none e) .sound))
 
-start-settles : (a : Area) (g : Settings) → startCall a g .reply ≡ accepted → Settled (startCall a g .area)
-start-settles a g =
-    start-ways (λ x. x .reply ≡ accepted → Settled (x .area)) a g (λ none e. started-settled a g none) (λ some e. absurd (accepted-not _ (sym e)))
+  start-lengths : lengthsOf (callOn a (start g) .area) ≡ lengthsOf a
+  unfolding effectOf row
+  start-lengths = call-ways a (start g) (λ (x : Called). lengthsOf (x .area) ≡ lengthsOf a) (λ none. after-lengths a (effectOf (machineOf a) (row (start g))) (next-there none)) (λ some. refl)
 
-start-state : (a : Area) (g : Settings) → startCall a g .reply ≡ accepted → machineOf (startCall a g .area) ≡ started g
-start-state a g =
-    start-ways (λ x. x .reply ≡ accepted → machineOf (x .area) ≡ started g) a g (λ none e. started-state a g none)
-    (λ some e. absurd (accepted-not _ (sym e)))
-
-start-refused : (a : Area) (g : Settings) (n : ℕ) → startCall a g .reply ≡ refused n → (startCall a g .area ≡ a) × List·Memᴰ n (1 ∷ 2 ∷ 3 ∷ [])
-start-refused a g n =
-    start-ways (λ x. x .reply ≡ refused n → (x .area ≡ a) × List·Memᴰ n (1 ∷ 2 ∷ 3 ∷ [])) a g (λ none e. absurd (accepted-not n e))
-    (λ some e. (refl, refused-number _ n _ (start-number (lengthsOf a) g some) e))
-
-start-lengths : (a : Area) (g : Settings) → lengthsOf (startCall a g .area) ≡ lengthsOf a
-start-lengths a g = start-ways (λ x. lengthsOf (x .area) ≡ lengthsOf a) a g (λ none. started-lengths a g none) (λ some. refl)
-
-start-past : (a : Area) (g : Settings) → PastUnchanged a (startCall a g .area)
-unfolding startOn
-start-past a g = start-ways (λ x. PastUnchanged a (x .area)) a g (λ none. written-past a (started g)) (λ some. itself a)
-
-start-store : (a : Area) (g : Settings) → startCall a g .area .store ≡ a .store
-start-store a g = start-ways (λ x. x .area .store ≡ a .store) a g (λ none. started-store a g) (λ some. refl)
+  start-store : callOn a (start g) .area .store ≡ a .store
+  unfolding effectOf row areaAfter startOn
+  start-store = call-ways a (start g) (λ (x : Called). x .area .store ≡ a .store) (λ none. started-store a g) (λ some. refl)
 
 module _ (a b : Area) (g : Settings) (same : lengthsOf a ≡ lengthsOf b) where
-  abbrev startCause : ℕ
-  startCause = firstCause (startCauses (lengthsOf a) g)
+  abbrev cause : ℕ
+  cause = firstCause (startCauses (lengthsOf a) g)
 
-  one-cause : startCause ≡ firstCause (startCauses (lengthsOf b) g)
+  one-cause : cause ≡ firstCause (startCauses (lengthsOf b) g)
   one-cause = ap (λ z. firstCause (startCauses z g)) same
 
-  start-answer : startCall a g .reply ≡ startCall b g .reply
+  start-answer : callOn a (start g) .answer ≡ callOn b (start g) .answer
+  unfolding refusal causesOf row acceptedAnswer refusedAnswer
   start-answer =
-      start-ways (λ x. x .reply ≡ startCall b g .reply) a g (λ none. ap (λ (x : Called). x .reply) (start-accepts b g startCause one-cause none))
-      (λ some. ap (λ (x : Called). x .reply) (start-refuses b g startCause one-cause some))
+      call-ways a (start g) (λ (x : Called). x .answer ≡ callOn b (start g) .answer) (λ none. ap (λ (x : Called). x .answer) (start-accepts b g cause one-cause none))
+      (λ some. ap (λ (x : Called). x .answer) (start-refuses b g cause one-cause some))
 
-  start-none : startCall a g .reply ≡ accepted → startCause ≡ 0
-  start-none = start-ways (λ x. x .reply ≡ accepted → startCause ≡ 0) a g (λ none e. none) (λ some e. absurd (accepted-not _ (sym e)))
+  start-job : callOn a (start g) .answer .reply ≡ accepted
+      → (callOn a (start g) .area .job ≡ callOn b (start g) .area .job)
+      × (recordAt (callOn a (start g) .area .run .records) 0 ≡ recordAt (callOn b (start g) .area .run .records) 0)
+  unfolding refusal causesOf row
+  start-job e = rw (← start-accepts a g cause refl (start-none a g e), ← start-accepts b g cause one-cause (start-none a g e)) (started-same a b g)
 
-  start-job : startCall a g .reply ≡ accepted
-      → (startCall a g .area .job ≡ startCall b g .area .job)
-      × (recordAt (startCall a g .area .run .records) 0 ≡ recordAt (startCall b g .area .run .records) 0)
-  start-job e =
-      rw
-      (← start-accepts a g startCause refl (start-none e), ← start-accepts b g startCause one-cause (start-none e))
-      (started-same a b g)
+-- ---- every accepted call but check
+
+module _ (a : Area) (formed : Formed (heldOf a)) where
+  job-settles : (c : Call) → IsJob (row c) → refusalOn a c ≡ 0 → Settled (areaAfter a (effectOf (machineOf a) (row c)))
+  job-settles c j none = after-settled a (effectOf (machineOf a) (row c)) (settled-before a formed c j none) (allowed-there a formed c none)
+
+  by-call : (c : Call) → refusalOn a c ≡ 0 → (c ≡ check → ⊥) → Settled (areaAfter a (effectOf (machineOf a) (row c)))
+  by-call (start g) none h = unfold effectOf row areaAfter in next-settled a (started g) (next-there a g none)
+  by-call (point n buffer) none h = job-settles (point n buffer) (unfold row in tt) none
+  by-call (deliver rs i) none h = job-settles (deliver rs i) (unfold row in tt) none
+  by-call promote none h = job-settles promote (unfold row in tt) none
+  by-call result none h = job-settles result (unfold row in tt) none
+  by-call crossTotal none h = job-settles crossTotal (unfold row in tt) none
+  by-call check none h = absurd (h refl)
+
+settles : (a : Area) (c : Call) → Formed (heldOf a) → Accepted a c → (c ≡ check → ⊥) → Settled (callOn a c .area)
+unfolding callOn
+settles a c formed f other = rw (no-cause a c f) (by-call a formed c (no-cause a c f) other)
 
 -- ---- point
 
 module _ (a : Area) (m : ℕ) where
-  point-refused : (n : ℕ) (buffer : List ℕ) → pointCall a m buffer .reply ≡ refused n
-      → (pointCall a m buffer .buffer ≡ buffer) × List·Memᴰ n (3 ∷ 4 ∷ 5 ∷ 9 ∷ [])
-  point-refused n buffer =
-      point-ways (λ x. x .reply ≡ refused n → (x .buffer ≡ buffer) × List·Memᴰ n (3 ∷ 4 ∷ 5 ∷ 9 ∷ [])) a m buffer (λ none e. absurd (accepted-not n e))
-      (λ some e. (refl, refused-number _ n _ (point-number (lengthsOf a) (isSound a) (machineOf a .log) m (length buffer) some) e))
+  point-length : (buffer : List ℕ) → length (callOn a (point m buffer) .answer .buffer) ≡ length buffer
+  unfolding refusal causesOf row acceptedAnswer refusedAnswer pointCauses machineOf
+  point-length buffer = call-ways a (point m buffer) (λ (x : Called). length (x .answer .buffer) ≡ length buffer) (laid-length a m buffer) (λ some. refl)
 
-  point-length : (buffer : List ℕ) → length (pointCall a m buffer .buffer) ≡ length buffer
-  point-length buffer = point-ways (λ x. length (x .buffer) ≡ length buffer) a m buffer (laid-length a m buffer) (λ some. refl)
-
-  point-later : (i : ℕ) (buffer : List ℕ) → a .job .settings .axes ≤ i → getD (pointCall a m buffer .buffer) i 0 ≡ getD buffer i 0
+  point-later : (i : ℕ) (buffer : List ℕ) → a .job .settings .axes ≤ i → getD (callOn a (point m buffer) .answer .buffer) i 0 ≡ getD buffer i 0
+  unfolding refusal causesOf row acceptedAnswer refusedAnswer pointCauses machineOf
   point-later i buffer h =
-      point-ways (λ x. getD (x .buffer) i 0 ≡ getD buffer i 0) a m buffer (λ none. laid-later a m buffer none i h) (λ some. refl)
+      call-ways a (point m buffer) (λ (x : Called). getD (x .answer .buffer) i 0 ≡ getD buffer i 0) (λ none. laid-later a m buffer none i h) (λ some. refl)
 
 -- ---- deliver
 
-module _ (a : Area) (rs : List ℤ) (i : ℕ) where
-  deliver-refused : (n : ℕ) → deliverCall a rs i .reply ≡ refused n → (deliverCall a rs i .area ≡ a) × List·Memᴰ n (3 ∷ 4 ∷ 5 ∷ 7 ∷ 8 ∷ [])
-  deliver-refused n =
-      deliver-ways (λ x. x .reply ≡ refused n → (x .area ≡ a) × List·Memᴰ n (3 ∷ 4 ∷ 5 ∷ 7 ∷ 8 ∷ [])) a rs i (λ none e. absurd (accepted-not n e))
-      (λ some e. (refl, refused-number _ n _ (deliver-number (lengthsOf a) (isSound a) (machineOf a .log) rs some) e))
+module _ (a : Area) (rs : List ℤ) (i : ℕ) (formed : Formed (heldOf a)) where
+  abbrev first : ℕ
+  first = recordAt (heldOf a) (firstWanted (entriesOf a)) .first
 
-  deliver-past : PastUnchanged a (deliverCall a rs i .area)
-  unfolding deliverOn
-  deliver-past = deliver-ways (λ x. PastUnchanged a (x .area)) a rs i (λ none. written-past a (deliver (machineOf a) rs i)) (λ some. itself a)
+  deliver-store : (n : ℕ) → (n < first) ⊎ (first + length rs ≤ n) → getD (callOn a (deliver rs i) .area .store) n (pos 0) ≡ getD (a .store) n (pos 0)
+  unfolding refusal causesOf effectOf row areaAfter deliverCauses deliverOn
+  deliver-store n out =
+      call-ways a (deliver rs i) (λ (x : Called). getD (x .area .store) n (pos 0) ≡ getD (a .store) n (pos 0)) (λ none. delivered-outside a formed rs i none n out) (λ some. refl)
 
-  module _ (formed : Formed (heldOf a)) where
-    deliver-settles : deliverCall a rs i .reply ≡ accepted → Settled (deliverCall a rs i .area)
-    deliver-settles =
-        deliver-ways (λ x. x .reply ≡ accepted → Settled (x .area)) a rs i (λ none e. delivered-settled a formed rs i none)
-        (λ some e. absurd (accepted-not _ (sym e)))
+  deliver-stored : (n : ℕ) → callOn a (deliver rs i) .answer .reply ≡ accepted → n < length rs
+      → getD (callOn a (deliver rs i) .area .store) (first + n) (pos 0) ≡ getD rs n (pos 0)
+  unfolding refusal causesOf effectOf row areaAfter refusedAnswer deliverCauses deliverOn
+  deliver-stored n e h =
+      call-ways a (deliver rs i) (λ (x : Called). x .answer .reply ≡ accepted → getD (x .area .store) (first + n) (pos 0) ≡ getD rs n (pos 0))
+      (λ none f. delivered-stored a formed rs i none n h) (λ some f. absurd (accepted-not _ (sym f))) e
 
-    deliver-state : deliverCall a rs i .reply ≡ accepted → machineOf (deliverCall a rs i .area) ≡ deliver (machineOf a) rs i
-    deliver-state =
-        deliver-ways (λ x. x .reply ≡ accepted → machineOf (x .area) ≡ deliver (machineOf a) rs i) a rs i (λ none e. delivered-state a formed rs i none)
-        (λ some e. absurd (accepted-not _ (sym e)))
-
-    deliver-lengths : lengthsOf (deliverCall a rs i .area) ≡ lengthsOf a
-    deliver-lengths = deliver-ways (λ x. lengthsOf (x .area) ≡ lengthsOf a) a rs i (λ none. delivered-lengths a formed rs i none) (λ some. refl)
-
-    abbrev first : ℕ
-    first = recordAt (heldOf a) (firstWanted (entriesOf a)) .first
-
-    deliver-store : (n : ℕ) → (n < first) ⊎ (first + length rs ≤ n) → getD (deliverCall a rs i .area .store) n (pos 0) ≡ getD (a .store) n (pos 0)
-    deliver-store n out =
-        deliver-ways (λ x. getD (x .area .store) n (pos 0) ≡ getD (a .store) n (pos 0)) a rs i (λ none. delivered-outside a formed rs i none n out)
-        (λ some. refl)
-
-    deliver-stored : (n : ℕ) → deliverCall a rs i .reply ≡ accepted → n < length rs
-        → getD (deliverCall a rs i .area .store) (first + n) (pos 0) ≡ getD rs n (pos 0)
-    deliver-stored n e h =
-        deliver-ways (λ x. x .reply ≡ accepted → getD (x .area .store) (first + n) (pos 0) ≡ getD rs n (pos 0)) a rs i
-        (λ none f. delivered-stored a formed rs i none n h) (λ some f. absurd (accepted-not _ (sym f))) e
-
--- ---- promote, result and cross total
+-- ---- promote
 
 module _ (a : Area) where
-  promote-refused : (n : ℕ) → promoteCall a .reply ≡ refused n → (promoteCall a .area ≡ a) × List·Memᴰ n (3 ∷ 4 ∷ 6 ∷ [])
-  promote-refused n =
-      promote-ways (λ x. x .reply ≡ refused n → (x .area ≡ a) × List·Memᴰ n (3 ∷ 4 ∷ 6 ∷ [])) a (λ none e. absurd (promotion-not _ n e))
-      (λ some e. (refl, refused-number _ n _ (promote-number (lengthsOf a) (isSound a) (machineOf a .log) some) e))
+  is-promote : refusalOn a promote ≡ 0 → callOn a promote ≡ record { answer = answer (promotion (promoteOn a .outcome)); area = promoteOn a .area }
+  unfolding refusal causesOf row promoteCauses
+  is-promote none = sym (promote-accepts a (firstCause (promoteCauses (lengthsOf a) (isSound a) (machineOf a .log))) refl none)
 
-  promote-idle : (promoteCall a .reply ≡ promotion met) ⊎ (promoteCall a .reply ≡ promotion spent) → promoteCall a .area ≡ a
+  promote-ways : (P : Called → Type 0) → (refusalOn a promote ≡ 0 → P (record { answer = answer (promotion (promoteOn a .outcome)); area = promoteOn a .area }))
+      → ((refusalOn a promote ≡ 0 → ⊥) → P (record { answer = answer (refused (refusalOn a promote)); area = a })) → P (callOn a promote)
+  unfolding refusedAnswer row
+  promote-ways P f g = call-ways a promote P (λ none. subst P (sym (call-accepts-promote none)) (f none)) g
+    where
+      call-accepts-promote : refusalOn a promote ≡ 0
+          → _≡_ {A = Called} (record { answer = acceptedAnswer (fitting (lengthsOf a) (isSound a) (machineOf a .log)) (machineOf a) (row promote); area = areaAfter a (effectOf (machineOf a) (row promote)) })
+          (record { answer = answer (promotion (promoteOn a .outcome)); area = promoteOn a .area })
+      call-accepts-promote none = call-accepts a promote (refusalOn a promote) refl none ∙ is-promote none
+
+  promote-store : Formed (heldOf a) → callOn a promote .area .store ≡ a .store
+  unfolding refusal causesOf row promoteCauses
+  promote-store formed = promote-ways (λ (x : Called). x .area .store ≡ a .store) (λ none. promoted-store a formed none) (λ some. refl)
+
+  promote-idle : (callOn a promote .answer .reply ≡ promotion met) ⊎ (callOn a promote .answer .reply ≡ promotion spent) → callOn a promote .area ≡ a
   promote-idle =
-      promote-ways (λ x. (x .reply ≡ promotion met) ⊎ (x .reply ≡ promotion spent) → x .area ≡ a) a (λ none h. idle-area a (outcomes h)) (λ some h. refl)
+      promote-ways (λ (x : Called). (x .answer .reply ≡ promotion met) ⊎ (x .answer .reply ≡ promotion spent) → x .area ≡ a) (λ none h. idle-area a (outcomes h)) (λ some h. refl)
     where
       outcomes : (promotion (promoteOn a .outcome) ≡ promotion met) ⊎ (promotion (promoteOn a .outcome) ≡ promotion spent)
           → (promoteOn a .outcome ≡ met) ⊎ (promoteOn a .outcome ≡ spent)
       outcomes (inl e) = inl cc
       outcomes (inr e) = inr cc
 
-  promote-settles : (o : Outcome) → Formed (heldOf a) → promoteCall a .reply ≡ promotion o → Settled (promoteCall a .area)
-  promote-settles o formed =
-      promote-ways (λ x. x .reply ≡ promotion o → Settled (x .area)) a (λ none e. promoted-settled a formed none) (λ some e. absurd (promotion-not o _ (sym e)))
-
-  promote-state : (o : Outcome) → Formed (heldOf a) → promoteCall a .reply ≡ promotion o → machineOf (promoteCall a .area) ≡ promoteStep (machineOf a)
-  promote-state o formed =
-      promote-ways (λ x. x .reply ≡ promotion o → machineOf (x .area) ≡ promoteStep (machineOf a)) a (λ none e. promoted-state a formed none)
-      (λ some e. absurd (promotion-not o _ (sym e)))
-
-  result-refused : (n : ℕ) → resultCall a ≡ refused n → List·Memᴰ n (3 ∷ 4 ∷ [])
-  result-refused n =
-      result-ways (λ x. x ≡ refused n → List·Memᴰ n (3 ∷ 4 ∷ [])) a (λ none e. absurd (counts-not _ n e))
-      (λ some e. refused-number _ n _ (result-number (lengthsOf a) (isSound a) (machineOf a .log) some) e)
-
-  cross-refused : (n : ℕ) → crossCall a ≡ refused n → List·Memᴰ n (3 ∷ 4 ∷ [])
-  cross-refused n =
-      cross-ways (λ x. x ≡ refused n → List·Memᴰ n (3 ∷ 4 ∷ [])) a (λ none e. absurd (total-not _ n e))
-      (λ some e. refused-number _ n _ (result-number (lengthsOf a) (isSound a) (machineOf a .log) some) e)
-
 pub call-facts : CallFacts
 call-facts =
     record {
+      refused-keeps = refused-keeps;
       start-settles = start-settles;
       start-state = start-state;
-      deliver-settles = deliver-settles;
-      deliver-state = deliver-state;
-      promote-settles = promote-settles;
-      promote-state = promote-state;
-      promote-idle = promote-idle;
-      start-refused = start-refused;
-      point-refused = point-refused;
-      deliver-refused = deliver-refused;
-      promote-refused = promote-refused;
-      result-refused = result-refused;
-      cross-refused = cross-refused;
-      cross-mean = cross-mean;
-      result-recorded = result-recorded;
+      settles = settles;
+      state = state;
       start-lengths = start-lengths;
-      deliver-lengths = deliver-lengths;
-      promote-lengths = λ a formed. promote-ways (λ x. lengthsOf (x .area) ≡ lengthsOf a) a (promoted-lengths a formed) (λ some. refl);
-      point-length = point-length;
-      point-later = point-later;
-      start-past = start-past;
-      deliver-past = deliver-past;
-      promote-past = λ a. promote-ways (λ x. PastUnchanged a (x .area)) a (λ none. promoted-past a) (λ some. itself a);
+      lengths = lengths;
+      past = past;
       start-store = start-store;
-      promote-store = λ a formed. promote-ways (λ x. x .area .store ≡ a .store) a (λ none. promoted-store a formed none) (λ some. refl);
+      promote-store = promote-store;
       deliver-store = λ a rs i n formed. deliver-store a rs i formed n;
       deliver-stored = λ a rs i n formed. deliver-stored a rs i formed n;
+      promote-idle = promote-idle;
+      point-length = point-length;
+      point-later = λ a n i buffer. point-later a n i buffer;
+      result-recorded = result-recorded;
+      cross-mean = cross-mean;
+      check-answer = check-answer;
       start-answer = start-answer;
       start-job = start-job;
     }

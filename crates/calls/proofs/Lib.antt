@@ -4,12 +4,13 @@ pub mod Causes
 pub mod Settling
 pub mod Accepted
 pub mod Ranges
-pub mod Refusing
+pub mod Ways
+pub mod Rows
 pub mod Numbers
 pub mod Buffers
-pub mod Ways
 pub mod Told
 pub mod Outcomes
 pub mod Written
+pub mod Next
 pub mod Left
 pub mod Facts

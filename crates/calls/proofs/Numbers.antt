@@ -1,22 +1,21 @@
--- The cause of a refused call is one of the call's own numbers.
+-- The cause of a refused call is one of the call's own numbers, and an accepted call answers no refusal.
 -- Assumes nothing.
 use mathlib.Core.Path.{_≡_, refl}
 use mathlib.Core.Bool.{Bool, true, false, cond}
 use mathlib.Core.List.{List, [], _∷_, map, List·Memᴰ, List·Memᴰ·head, List·Memᴰ·tail}
 use Prim.Native.Nat.{ℕ}
-use lib.IntN.{ℤ}
-use Rattle.area.specs.declared.Settings.{Settings}
-use Rattle.area.specs.Log.{Log}
-use Rattle.machine.specs.Causes.{Cause, Lengths, firstCause, startCauses, pointCauses, deliverCauses, promoteCauses, resultCauses}
+use native.Mathlib.Omega.{arith}
+use Rattle.area.specs.Log.{Log, Machine}
+use Rattle.machine.specs.Causes.{Cause, Lengths, firstCause, startCauses}
+use Rattle.calls.specs.Replies.{refused}
+use Rattle.calls.specs.Table.{Call, start, point, deliver, promote, result, crossTotal, check, row, causesOf, acceptedAnswer, refusal}
+use Rattle.calls.specs.Facts.{numbersOf}
 
 abbrev numbers : List Cause → List ℕ
 numbers cs = map (λ (c : Cause). c .number) cs
 
 -- the cause is one of the list's numbers, unless it is 0
-abbrev Among : List Cause → List ℕ → Type 0
-Among cs ns = (firstCause cs ≡ 0 → ⊥) → List·Memᴰ (firstCause cs) ns
-
-numbered : (cs : List Cause) → Among cs (numbers cs)
+numbered : (cs : List Cause) → (firstCause cs ≡ 0 → ⊥) → List·Memᴰ (firstCause cs) (numbers cs)
 unfolding firstCause
 numbered [] n = absurd (n refl)
 numbered (c ∷ cs) n = step (c .test) (numbered cs) n
@@ -26,28 +25,28 @@ numbered (c ∷ cs) n = step (c .test) (numbered cs) n
     step true f n = List·Memᴰ·head refl
     step false f n = List·Memᴰ·tail (f n)
 
-once : (n m : ℕ) (ns : List ℕ) → List·Memᴰ n (m ∷ m ∷ ns) → List·Memᴰ n (m ∷ ns)
-once n m ns (List·Memᴰ·head e) = List·Memᴰ·head e
-once n m ns (List·Memᴰ·tail h) = h
+-- the numbers of a row's causes are the call's, whatever the tests say
+row-numbers : (z : Lengths) (sound : Bool) (l : Log) (c : Call) → numbers (causesOf z sound l (row c)) ≡ numbersOf c
+unfolding causesOf row numbersOf startCauses
+row-numbers z sound l (start g) = refl
+row-numbers z sound l (point n buffer) = refl
+row-numbers z sound l (deliver rs i) = refl
+row-numbers z sound l promote = refl
+row-numbers z sound l result = refl
+row-numbers z sound l crossTotal = refl
+row-numbers z sound l check = refl
 
-pub start-number : (z : Lengths) (g : Settings) → Among (startCauses z g) (1 ∷ 2 ∷ 3 ∷ [])
-unfolding startCauses
-start-number z g = numbered (startCauses z g)
+pub cause-number : (z : Lengths) (sound : Bool) (l : Log) (c : Call) → (refusal z sound l c ≡ 0 → ⊥) → List·Memᴰ (refusal z sound l c) (numbersOf c)
+unfolding refusal
+cause-number z sound l c n = rw (← row-numbers z sound l c) (numbered (causesOf z sound l (row c)) n)
 
-module _ (z : Lengths) (sound : Bool) (l : Log) where
-  -- the row of lent storage stands for the buffer too
-  pub point-number : (n w : ℕ) → Among (pointCauses z sound l n w) (3 ∷ 4 ∷ 5 ∷ 9 ∷ [])
-  unfolding pointCauses
-  point-number n w f = once _ 3 _ (numbered (pointCauses z sound l n w) f)
-
-  pub deliver-number : (rs : List ℤ) → Among (deliverCauses z sound l rs) (3 ∷ 4 ∷ 5 ∷ 7 ∷ 8 ∷ [])
-  unfolding deliverCauses
-  deliver-number rs = numbered (deliverCauses z sound l rs)
-
-  pub promote-number : Among (promoteCauses z sound l) (3 ∷ 4 ∷ 6 ∷ [])
-  unfolding promoteCauses
-  promote-number = numbered (promoteCauses z sound l)
-
-  pub result-number : Among (resultCauses z sound l) (3 ∷ 4 ∷ [])
-  unfolding resultCauses
-  result-number = numbered (resultCauses z sound l)
+-- what an accepted call answers is no refusal
+pub accepted-reply : (fit : Bool) (m : Machine) (c : Call) (n : ℕ) → acceptedAnswer fit m (row c) .reply ≡ refused n → ⊥
+unfolding acceptedAnswer row
+accepted-reply fit m (start g) n e = let y : _≡_ {A = ℕ} 0 1 = cc in omega arith
+accepted-reply fit m (point k buffer) n e = let y : _≡_ {A = ℕ} 0 1 = cc in omega arith
+accepted-reply fit m (deliver rs i) n e = let y : _≡_ {A = ℕ} 0 1 = cc in omega arith
+accepted-reply fit m promote n e = let y : _≡_ {A = ℕ} 0 1 = cc in omega arith
+accepted-reply fit m result n e = let y : _≡_ {A = ℕ} 0 1 = cc in omega arith
+accepted-reply fit m crossTotal n e = let y : _≡_ {A = ℕ} 0 1 = cc in omega arith
+accepted-reply fit m check n e = let y : _≡_ {A = ℕ} 0 1 = cc in omega arith

@@ -1,13 +1,13 @@
 -- Promote on an area leaves the area itself, or the selected place refined; and either holds the machine's next state.
 -- The idea: split the tests that the definition asks, with the answers kept.
 -- Assumes nothing.
-use mathlib.Core.Path.{_≡_, refl, sym, ap, subst}
+use mathlib.Core.Path.{_≡_, refl, sym, subst}
 use mathlib.Core.Logic.{_⊎_, inl, inr}
 use mathlib.Core.Bool.{Bool, true, false, cond}
 use Prim.Native.Nat.{ℕ}
 use native.Mathlib.Omega.{arith}
 use Rattle.area.specs.Encoding.{Area, entriesOf, machineOf, written}
-use Rattle.area.specs.Log.{Log, Machine, withEntries}
+use Rattle.area.specs.Log.{Log, withEntries}
 use Rattle.machine.specs.Promote.{Outcome, met, spent, promoted, selected, isMet, fits, refine, Promotion, promoteAt, promote}
 use Rattle.machine.specs.Steps.{promoteStep}
 use Rattle.machine.specs.Areas.{AreaPromotion, changedBy, refineOn, promoteOn}
@@ -43,6 +43,26 @@ module _ (a : Area) where
         step true e = same
         step false e = refine-ways (selected (entriesOf a)) (more (λ f. let z : _≡_ {A = ℕ} 0 1 = cc in omega arith))
 
+-- ---- a promotion leaves the settings
+
+refined-settings : (l : Log) (p : ℕ) → promoteAt l p .log .settings ≡ l .settings
+unfolding promoteAt
+refined-settings l p = step (fits (l .settings .budget) (refine (l .settings .axes) (l .entries) p))
+  where
+    step : (t : Bool)
+        → cond {A = Promotion} t (record { outcome = promoted; log = withEntries l (refine (l .settings .axes) (l .entries) p) }) (record { outcome = spent; log = l }) .log .settings
+        ≡ l .settings
+    step true = refl
+    step false = refl
+
+pub promoted-settings : (l : Log) → promote l .log .settings ≡ l .settings
+unfolding promote
+promoted-settings l = step (isMet l)
+  where
+    step : (t : Bool) → cond t (record { outcome = met; log = l }) (promoteAt l (selected (l .entries))) .log .settings ≡ l .settings
+    step true = refl
+    step false = refined-settings l (selected (l .entries))
+
 -- ---- what isn't a promotion changes nothing
 
 abbrev given : Log → Bool → Bool → Promotion
@@ -60,21 +80,6 @@ same-log l = step (isMet l) (fits (l .settings .budget) (refine (l .settings .ax
     step false false n = refl
 
 module _ (a : Area) where
-  idle : (promote (machineOf a .log) .outcome ≡ promoted → ⊥) → machineOf a ≡ promoteStep (machineOf a)
-  unfolding promoteStep
-  idle n = sym (ap {B = Machine} (λ l. record { log = l; mean = machineOf a .mean }) (same-log (machineOf a .log) n))
-
-  -- so the area left holds the next state, if what is written into it does
-  pub promoted-holds : machineOf (written a (promoteStep (machineOf a))) ≡ promoteStep (machineOf a) → machineOf (promoteOn a .area) ≡ promoteStep (machineOf a)
-  unfolding promoteOn changedBy
-  promoted-holds e = step (promote (machineOf a .log) .outcome) idle
-    where
-      step : (o : Outcome) → ((o ≡ promoted → ⊥) → machineOf a ≡ promoteStep (machineOf a))
-          → machineOf (changedBy o a (written a (promoteStep (machineOf a)))) ≡ promoteStep (machineOf a)
-      step met f = f (λ x. let z : _≡_ {A = ℕ} 0 1 = cc in omega arith)
-      step spent f = f (λ x. let z : _≡_ {A = ℕ} 0 1 = cc in omega arith)
-      step promoted f = e
-
   pub idle-area : (promoteOn a .outcome ≡ met) ⊎ (promoteOn a .outcome ≡ spent) → promoteOn a .area ≡ a
   unfolding promoteOn changedBy
   idle-area = step (promote (machineOf a .log) .outcome)

@@ -1,6 +1,7 @@
 -- Readings in range, as a list and by number.
 -- Assumes nothing.
 use mathlib.Core.Path.{_≡_, refl}
+use mathlib.Core.Bool.{true}
 use mathlib.Core.List.{List, [], _∷_}
 use Prim.Native.Nat.{ℕ, zero, suc, _<_}
 use native.Mathlib.Omega.{arith}
@@ -22,6 +23,9 @@ reads-range (x ∷ xs) =
     there : IsReading x × ((n : ℕ) → n < length xs → IsReading (getD xs n (pos 0))) → (n : ℕ) → n < suc (length xs) → IsReading (getD (x ∷ xs) n (pos 0))
     there y zero h = y .0
     there y (suc n) h = y .1 n (omega arith)
+
+pub readings-range : (xs : List ℤ) → inRange xs ≡ true → (n : ℕ) → n < length xs → IsReading (getD xs n (pos 0))
+readings-range xs e = reads-range xs .sure e
 
 pub all-readings : (xs : List ℤ) → allFrom (length xs) 0 (readingTest xs) ≡ inRange xs
 unfolding readingTest

@@ -1,23 +1,28 @@
--- What result and cross total tell of an area that no cause refuses.
+-- What result and cross total tell of an area that no cause refuses, and what check does.
 -- The idea: it is sound, so its recorded figures are those of its entries, and the combination identity holds of them.
 -- Assumes nothing.
-use mathlib.Core.Path.{_≡_, refl, sym, _∙_, subst}
+use mathlib.Core.Path.{_≡_, refl, ap, sym, _∙_, subst}
+use mathlib.Core.Bool.{Bool, true, false, not, _&&_}
 use Prim.Native.Nat.{ℕ}
 use native.Mathlib.Omega.{arith}
+use lib.Dec.{leb}
 use lib.IntN.{ℤ}
+use lib.ListN.{length}
+use Rattle.area.specs.Settings.{leastStore}
 use Rattle.area.specs.Encoding.{Area, entriesOf, machineOf}
 use Rattle.soundness.specs.Sound.{Sound}
-use Rattle.soundness.specs.Clauses.{isSound}
+use Rattle.soundness.specs.Clauses.{isSound, checked}
 use Rattle.encoding.proofs.Facts.{encoding-facts}
-use Rattle.machine.specs.Causes.{firstCause, resultCauses}
+use Rattle.machine.specs.Causes.{firstCause, short, resultCauses}
 use Rattle.machine.specs.Counts.{Counts, countsOf}
 use Rattle.encoding.specs.Entries.{SoundMachine}
 use Rattle.machine.specs.Means.{meanOf, crossOf}
 use Rattle.machine.proofs.Means.{mean-facts}
-use Rattle.calls.specs.Replies.{counts, total, lengthsOf}
-use Rattle.calls.specs.Calls.{resultCall, crossCall}
+use Rattle.calls.specs.Replies.{counts, total, verdict, lengthsOf}
+use Rattle.calls.specs.Table.{result, crossTotal, check, answer, row, causesOf, effectOf, fitting, acceptedAnswer, refusedAnswer, refusal}
+use Rattle.calls.specs.Calls.{Called, areaAfter, callOn}
 use Rattle.calls.proofs.Settling.{sound-there, long-there}
-use Rattle.calls.proofs.Ways.{result-ways, cross-ways}
+use Rattle.calls.proofs.Ways.{call-accepts, call-ways}
 
 module _ (a : Area) where
   module _ (none : firstCause (resultCauses (lengthsOf a) (isSound a) (machineOf a .log)) ≡ 0) where
@@ -28,9 +33,11 @@ module _ (a : Area) where
     unfolding machineOf
     crossed = sym (mean-facts .cross (machineOf a) clauses-there)
 
-  pub cross-mean : (x : ℤ) → crossCall a ≡ total x → x ≡ meanOf (entriesOf a)
+  pub cross-mean : (x : ℤ) → callOn a crossTotal .answer .reply ≡ total x → x ≡ meanOf (entriesOf a)
+  unfolding row causesOf refusal acceptedAnswer refusedAnswer resultCauses machineOf
   cross-mean x =
-      cross-ways (λ r. r ≡ total x → x ≡ meanOf (entriesOf a)) a (λ none e. let same : x ≡ crossOf (entriesOf a) = cc in same ∙ crossed none)
+      call-ways a crossTotal (λ (r : Called). r .answer .reply ≡ total x → x ≡ meanOf (entriesOf a))
+      (λ none e. let same : x ≡ crossOf (entriesOf a) = cc in same ∙ crossed none)
       (λ some e. let z : _≡_ {A = ℕ} 0 1 = cc in absurd (omega arith))
 
   abbrev Recorded : Counts → Type 0
@@ -40,7 +47,23 @@ module _ (a : Area) where
   unfolding countsOf machineOf
   recorded s = (sym (s .numbers .reserved), sym (s .numbers .pending), refl)
 
-  pub result-recorded : (c : Counts) → resultCall a ≡ counts c → Recorded c
+  pub result-recorded : (c : Counts) → callOn a result .answer .reply ≡ counts c → Recorded c
+  unfolding row causesOf refusal acceptedAnswer refusedAnswer resultCauses
   result-recorded c =
-      result-ways (λ r. r ≡ counts c → Recorded c) a (λ none e. let same : countsOf (machineOf a) ≡ c = cc in subst Recorded same (recorded (sound-there a none)))
+      call-ways a result (λ (r : Called). r .answer .reply ≡ counts c → Recorded c)
+      (λ none e. let same : countsOf (machineOf a) ≡ c = cc in subst Recorded same (recorded (sound-there a none)))
       (λ some e. let z : _≡_ {A = ℕ} 0 1 = cc in absurd (omega arith))
+
+  -- check is never refused, and its verdict is the storage test and the clauses
+  fitting-checked : fitting (lengthsOf a) (isSound a) (machineOf a .log) ≡ checked a
+  unfolding fitting short checked machineOf
+  fitting-checked = split (leb 512 (length (a .run .records))) (leb (leastStore (a .job .settings)) (length (a .store))) (isSound a)
+    where
+      split : (t u s : Bool) → (not (not (t && u)) && s) ≡ (t && u && s)
+      split true true s = refl
+      split true false s = refl
+      split false u s = refl
+
+  pub check-answer : callOn a check ≡ record { answer = answer (verdict (checked a)); area = a }
+  unfolding row causesOf effectOf refusal firstCause acceptedAnswer areaAfter
+  check-answer = sym (call-accepts a check 0 refl refl) ∙ ap {B = Called} (λ (t : Bool). record { answer = answer (verdict t); area = a }) fitting-checked

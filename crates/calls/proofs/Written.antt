@@ -2,21 +2,26 @@
 -- The idea: a record made of an entry has the entry's eight levels, and sixteen links as two lists of eight.
 -- Assumes nothing.
 use mathlib.Core.Path.{_≡_, refl, sym, ap, ap₂, _∙_, subst}
-use mathlib.Core.List.{List}
+use mathlib.Core.Logic.{inl, inr}
+use mathlib.Core.List.{List, [], _∷_}
 use Prim.Native.Nat.{ℕ, _+_, _<_, _≤_}
 use native.Mathlib.Omega.{arith}
-use lib.ListN.{length, drop, length-append}
+use lib.ListN.{length, drop, length-append, length-drop}
 use lib.Seq.{take-at, drop-at}
-use Rattle.area.specs.Settings.{leastStore}
+use Rattle.area.specs.declared.Settings.{Settings}
+use Rattle.area.specs.Settings.{readingsFor, leastStore}
+use Rattle.area.proofs.Readings.{reading-facts}
 use Rattle.sums.specs.Lists.{tab}
 use Rattle.sums.proofs.Lists.{length-tab}
 use Rattle.grid.specs.Index.{forward, backward}
+use Rattle.grid.specs.Block.{blockSize}
 use Rattle.area.specs.declared.IndexRecord.{IndexRecord}
-use Rattle.area.specs.Entry.{Entry, indicesOf}
-use Rattle.area.specs.Encoding.{Area, heldOf, placeOf, linksOf, encoded, recordsFor, runWith, jobWith, machineOf, written}
+use Rattle.area.specs.Entry.{Entry, indicesOf, reservedBy}
+use Rattle.area.specs.Encoding.{Area, heldOf, placeOf, linksOf, encoded, recordsFor, storeFor, runWith, storeWith, jobWith, machineOf, written}
 use Rattle.encoding.specs.Entries.{entryAt}
 use Rattle.encoding.specs.Encodes.{Formed}
 use Rattle.encoding.proofs.Places.{record-at, records-length}
+use Rattle.encoding.proofs.Store.{Blocks, AllWanted, blocks-of}
 use Rattle.area.specs.Log.{Machine}
 use Rattle.encoding.specs.Entries.{SoundMachine}
 use Rattle.writing.specs.Settled.{Settled}
@@ -62,6 +67,46 @@ module _ (a : Area) (m : Machine) where
     pub written-state : machineOf (written a m) ≡ m
     written-state = written-machine a m v
 
+-- ---- how much storage a state takes
+
+pub stored-length : (g : Settings) (es : List Entry) → Blocks g es → length (storeFor es) ≤ readingsFor g (reservedBy es)
+unfolding storeFor reservedBy
+stored-length g [] b = omega arith
+stored-length g (e ∷ es) (inl x) =
+    omega (
+      arith,
+      length-append (e .readings) (storeFor es),
+      x .1,
+      stored-length g es (x .2),
+      reading-facts .count g (e .levels),
+      reading-facts .sum g (blockSize (e .levels)) (reservedBy es),
+    )
+stored-length g (e ∷ es) (inr x) = omega (arith, empty (e ∷ es) x)
+  where
+    empty : (fs : List Entry) → AllWanted fs → length (storeFor fs) ≤ 0
+    empty [] y = omega arith
+    empty (f ∷ fs) y = omega (arith, length-append (f .readings) (storeFor fs), ap length (y .1), empty fs (y .2))
+
+pub store-small : (m : Machine) → SoundMachine m → length (storeFor (m .log .entries)) ≤ leastStore (m .log .settings)
+store-small m v =
+    omega (
+      arith,
+      stored-length (m .log .settings) (m .log .entries) (blocks-of v),
+      reading-facts .more (m .log .settings) (reservedBy (m .log .entries)) (m .log .settings .budget) (v .within-budget),
+      reading-facts .least (m .log .settings),
+    )
+
+-- ---- the lengths stay
+
 -- the lengths of two areas
-pub same-lengths : (a b : Area) → length (b .run .records) ≡ length (a .run .records) → length (b .store) ≡ length (a .store) → lengthsOf b ≡ lengthsOf a
+same-lengths : (a b : Area) → length (b .run .records) ≡ length (a .run .records) → length (b .store) ≡ length (a .store) → lengthsOf b ≡ lengthsOf a
 same-lengths a b e f i = record { records = e i; readings = f i }
+
+pub written-lengths : (a : Area) (m : Machine) → SoundMachine m → 512 ≤ length (a .run .records) → leastStore (m .log .settings) ≤ length (a .store) → lengthsOf (written a m) ≡ lengthsOf a
+unfolding written runWith storeWith
+written-lengths a m v long room =
+    same-lengths a (written a m)
+    (length-append (recordsFor (m .log .settings) (m .log .entries)) (drop (length (m .log .entries)) (a .run .records))
+    ∙ omega (arith, records-length (m .log .settings) (m .log .entries), length-drop (length (m .log .entries)) (a .run .records), v .count .1, long))
+    (length-append (storeFor (m .log .entries)) (drop (length (storeFor (m .log .entries))) (a .store))
+    ∙ omega (arith, length-drop (length (storeFor (m .log .entries))) (a .store), store-small m v, room))

@@ -1,26 +1,44 @@
--- The calls on an area: a refusal with its number, which changes nothing, or the machine's step. The causes are tested in the table's
--- order (crate `machine`, specs/Causes.antt); that an area is not sound is said by the clauses (crate `soundness`, specs/Clauses.antt).
+-- A call on an area: its row of the table (Table.antt) at the lengths of the storage, whether the area is sound by the clauses (crate
+-- `soundness`, specs/Clauses.antt), and the state that the area holds. A refused call changes nothing; an accepted one leaves the area
+-- itself or the next state written into it.
 use mathlib.Core.Bool.{cond}
-use mathlib.Core.List.{List, _++_}
+use mathlib.Core.List.{List}
 use Prim.Native.Nat.{ℕ}
 use lib.Dec.{eqb}
 use lib.IntN.{ℤ}
-use lib.ListN.{length, take, drop}
-use Rattle.grid.specs.Block.{pointOf}
-use Rattle.area.specs.declared.Settings.{Settings}
-use Rattle.area.specs.Encoding.{Area, entriesOf, machineOf}
+use Rattle.area.specs.Encoding.{Area, areaOf, machineOf, written}
 use Rattle.soundness.specs.Clauses.{isSound}
-use Rattle.machine.specs.Log.{wantedIndex}
-use Rattle.machine.specs.Causes.{firstCause, startCauses, pointCauses, deliverCauses, promoteCauses, resultCauses}
-use Rattle.machine.specs.Areas.{startOn, deliverOn, promoteOn}
-use Rattle.machine.specs.Counts.{countsOf}
-use Rattle.machine.specs.Means.{crossOf}
-use Rattle.calls.specs.Replies.{Reply, refused, accepted, promotion, counts, total, lengthsOf, Called, Pointed}
+use Rattle.machine.specs.Causes.{firstCause, pointCauses, deliverCauses, promoteCauses, resultCauses}
+use Rattle.calls.specs.declared.Answered.{Answered}
+use Rattle.calls.specs.Replies.{replyOf, lengthsOf}
+use Rattle.calls.specs.Table.{Call, Effect, leaves, becomes, Answer, answer, row, effectOf, refusal, answerOf}
 
--- Why a call is refused: the number of the first cause that applies, 0 if none does. Result and cross total ask for storage and area
--- alone.
-abbrev pub startCause : Area → Settings → ℕ
-startCause a g = firstCause (startCauses (lengthsOf a) g)
+-- What a call leaves: its answer, with the buffer, and the area.
+pub record Called : Type 0 where
+  pub answer : Answer
+  pub area : Area
+
+-- The area after an accepted call.
+unfoldable pub areaAfter : Area → Effect → Area
+areaAfter a leaves = a
+areaAfter a (becomes m) = written a m
+
+-- Why a call is refused: the number of the first cause that applies, 0 if none does.
+abbrev pub refusalOn : Area → Call → ℕ
+refusalOn a c = refusal (lengthsOf a) (isSound a) (machineOf a .log) c
+
+unfoldable pub callOn : Area → Call → Called
+callOn a c =
+    record {
+      answer = answerOf (lengthsOf a) (isSound a) (machineOf a) c;
+      area = cond (eqb (refusalOn a c) 0) (areaAfter a (effectOf (machineOf a) (row c))) a;
+    }
+
+-- What start, deliver and promote leave, as the code hands it back: the answer with the job record, the cells and the store.
+abbrev pub calledOf : Answered → List ℕ → List ℤ → Called
+calledOf r c s = record { answer = answer (replyOf (r .answer)); area = areaOf (r .job) c s }
+
+-- ---- for the functions that look for a cause: the same numbers, from what each function is handed
 
 abbrev pub pointCause : Area → (n room : ℕ) → ℕ
 pointCause a n w = firstCause (pointCauses (lengthsOf a) (isSound a) (machineOf a .log) n w)
@@ -31,40 +49,6 @@ deliverCause a rs = firstCause (deliverCauses (lengthsOf a) (isSound a) (machine
 abbrev pub promoteCause : Area → ℕ
 promoteCause a = firstCause (promoteCauses (lengthsOf a) (isSound a) (machineOf a .log))
 
+-- Result and cross total ask for storage and area alone.
 abbrev pub resultCause : Area → ℕ
 resultCause a = firstCause (resultCauses (lengthsOf a) (isSound a) (machineOf a .log))
-
--- Refused by cause n, unless that is 0.
-unfoldable pub unless : ℕ → Area → Called → Called
-unless n a accept = cond (eqb n 0) accept (record { reply = refused n; area = a })
-
--- **Start** doesn't read the old area.
-unfoldable pub startCall : Area → Settings → Called
-startCall a g = unless (startCause a g) a (record { reply = accepted; area = startOn a g })
-
--- **Point** writes the d positions of the n-th point of the first wanted block into the buffer, later bytes untouched.
-unfoldable pub pointCall : Area → ℕ → List ℕ → Pointed
-pointCall a n buffer =
-    cond (eqb (pointCause a n (length buffer)) 0)
-    (record { reply = accepted; buffer = take (a .job .settings .axes) (pointOf (wantedIndex (entriesOf a)) n) ++ drop (a .job .settings .axes) buffer })
-    (record { reply = refused (pointCause a n (length buffer)); buffer = buffer })
-
--- **Deliver** takes the first wanted block's readings and an indicator.
-unfoldable pub deliverCall : Area → List ℤ → ℕ → Called
-deliverCall a rs i = unless (deliverCause a rs) a (record { reply = accepted; area = deliverOn a rs i })
-
--- **Promote** answers met, spent or promoted; met and spent change nothing.
-unfoldable pub promoteCall : Area → Called
-promoteCall a =
-    unless (promoteCause a) a
-    (record { reply = promotion (promoteOn a .outcome); area = promoteOn a .area })
-
--- **Result** changes nothing.
-unfoldable pub resultCall : Area → Reply
-resultCall a =
-    cond (eqb (resultCause a) 0) (counts (countsOf (machineOf a)))
-    (refused (resultCause a))
-
--- **Cross total**: the scaled mean worked out from the readings, as the combination sum. It changes nothing.
-unfoldable pub crossCall : Area → Reply
-crossCall a = cond (eqb (resultCause a) 0) (total (crossOf (entriesOf a))) (refused (resultCause a))

@@ -1,17 +1,15 @@
 -- What a call answers, and the scope document's number and values for each case of the code's enums.
 use mathlib.Core.Bool.{Bool}
-use mathlib.Core.List.{List}
 use Prim.Native.Nat.{ℕ}
 use lib.IntN.{ℤ}
 use lib.ListN.{length}
-use Rattle.area.specs.Encoding.{Area, areaOf}
+use Rattle.area.specs.Encoding.{Area}
 use Rattle.machine.specs.Promote.{Outcome, met, spent, promoted}
 use Rattle.machine.specs.Causes.{Lengths}
 use Rattle.machine.specs.Counts.{Counts}
 use Rattle.counting.specs.Answer.{countsIn}
 use Rattle.calls.specs.declared.Answer as code
 use Rattle.calls.specs.declared.Answer.the-variants as answers
-use Rattle.calls.specs.declared.Answered.{Answered}
 use Rattle.calls.specs.declared.Resulted as coded
 use Rattle.calls.specs.declared.Resulted.the-variants as results
 use Rattle.calls.specs.declared.Totalled as summed
@@ -45,16 +43,3 @@ totalledOf (totals.Total z) = total z
 -- The lengths of the storage that an area lies in.
 abbrev pub lengthsOf : Area → Lengths
 lengthsOf a = record { records = length (a .run .records); readings = length (a .store) }
-
--- What a call leaves: its answer and the area.
-pub record Called : Type 0 where
-  pub reply : Reply
-  pub area : Area
-
-abbrev pub calledOf : Answered → List ℕ → List ℤ → Called
-calledOf r c s = record { reply = replyOf (r .answer); area = areaOf (r .job) c s }
-
--- Point leaves its answer and the buffer.
-pub record Pointed : Type 0 where
-  pub reply : Reply
-  pub buffer : List ℕ

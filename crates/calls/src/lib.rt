@@ -4,8 +4,9 @@ ghost use mathlib.Core.Path.{_≡_};
 ghost use Rattle.area.specs.Encoding.{areaOf};
 ghost use Rattle.machine.specs.Causes.{firstCause, inRange, startCauses};
 ghost use Rattle.promotion.specs.Outcomes.{outcomeOf};
-ghost use Rattle.calls.specs.Replies.{promotion as outcomeReply, replyOf, resultedOf, totalledOf, calledOf};
-ghost use Rattle.calls.specs.Calls.{pointCause, deliverCause, promoteCause, resultCause, startCall, pointCall, deliverCall, promoteCall, resultCall, crossCall};
+ghost use Rattle.calls.specs.Replies.{promotion as outcomeReply, replyOf, resultedOf, totalledOf};
+ghost use Rattle.calls.specs.Table.{start, point, deliver, promote, result, crossTotal, answer};
+ghost use Rattle.calls.specs.Calls.{callOn, calledOf, pointCause, deliverCause, promoteCause, resultCause};
 
 // What a call answers; `Refused` carries the number of the cause.
 pub enum Answer {
@@ -153,7 +154,7 @@ pub fn start(
     cells: &mut [u32],
     store: &[i32],
 ) -> Answered
-    ensures { λ r. ⌜ calledOf r (now (cells .exit)) (now (store .entry)) ≡ startCall (areaOf job (now (cells .entry)) (now (store .entry))) settings ⌝ }
+    ensures { λ r. ⌜ calledOf r (now (cells .exit)) (now (store .entry)) ≡ callOn (areaOf job (now (cells .entry)) (now (store .entry))) (start settings) ⌝ }
 {
     let cause = start_cause(settings, cells.len() / 27, store.len());
     if cause != 0 {
@@ -177,7 +178,7 @@ pub fn point(
     store: &[i32],
     buffer: &mut [u8],
 ) -> Answer
-    ensures { λ r. ⌜ record { reply = replyOf r; buffer = now (buffer .exit) } ≡ pointCall (areaOf job (now (cells .entry)) (now (store .entry))) n (now (buffer .entry)) ⌝ }
+    ensures { λ r. ⌜ record { reply = replyOf r; buffer = now (buffer .exit) } ≡ callOn (areaOf job (now (cells .entry)) (now (store .entry))) (point n (now (buffer .entry))) .answer ⌝ }
 {
     let cause = point_cause(job, n, buffer.len(), cells, store);
     if cause != 0 {
@@ -197,7 +198,7 @@ pub fn deliver(
     cells: &mut [u32],
     store: &mut [i32],
 ) -> Answered
-    ensures { λ r. ⌜ calledOf r (now (cells .exit)) (now (store .exit)) ≡ deliverCall (areaOf job (now (cells .entry)) (now (store .entry))) (now (readings .entry)) indicator ⌝ }
+    ensures { λ r. ⌜ calledOf r (now (cells .exit)) (now (store .exit)) ≡ callOn (areaOf job (now (cells .entry)) (now (store .entry))) (deliver (now (readings .entry)) indicator) ⌝ }
 {
     let cause = deliver_cause(job, readings, cells, store);
     if cause != 0 {
@@ -216,7 +217,7 @@ pub fn deliver(
 
 // Promotes: met, or the selected index refined, unless that is spent.
 pub fn promote(job: area::JobRecord, cells: &mut [u32], store: &[i32]) -> Answered
-    ensures { λ r. ⌜ calledOf r (now (cells .exit)) (now (store .entry)) ≡ promoteCall (areaOf job (now (cells .entry)) (now (store .entry))) ⌝ }
+    ensures { λ r. ⌜ calledOf r (now (cells .exit)) (now (store .entry)) ≡ callOn (areaOf job (now (cells .entry)) (now (store .entry))) promote ⌝ }
 {
     let cause = promote_cause(job, cells, store);
     if cause != 0 {
@@ -253,7 +254,7 @@ fn as_answer(promotion: promotion::Promotion) -> Answered
 
 // The counts of the area.
 pub fn result(job: area::JobRecord, cells: &[u32], store: &[i32]) -> Resulted
-    ensures { λ r. ⌜ resultedOf r ≡ resultCall (areaOf job (now (cells .entry)) (now (store .entry))) ⌝ }
+    ensures { λ r. ⌜ answer (resultedOf r) ≡ callOn (areaOf job (now (cells .entry)) (now (store .entry))) result .answer ⌝ }
 {
     let cause = area_cause(job, cells, store);
     if cause != 0 {
@@ -264,7 +265,7 @@ pub fn result(job: area::JobRecord, cells: &[u32], store: &[i32]) -> Resulted
 
 // The scaled mean worked out from the readings, whatever mean is recorded.
 pub fn cross_total(job: area::JobRecord, cells: &[u32], store: &[i32]) -> Totalled
-    ensures { λ r. ⌜ totalledOf r ≡ crossCall (areaOf job (now (cells .entry)) (now (store .entry))) ⌝ }
+    ensures { λ r. ⌜ answer (totalledOf r) ≡ callOn (areaOf job (now (cells .entry)) (now (store .entry))) crossTotal .answer ⌝ }
 {
     let cause = area_cause(job, cells, store);
     if cause != 0 {

@@ -20,15 +20,16 @@ use Rattle.machine.specs.Log.{firstWanted, wantedIndex}
 use Rattle.machine.specs.Promote as rule
 use Rattle.machine.specs.Counts.{countOf}
 use Rattle.machine.specs.Steps as steps
-use Rattle.machine.specs.Causes.{Lengths, firstCause, short, inRange, resultCauses}
-use Rattle.calls.specs.Replies.{refused, accepted, promotion}
+use Rattle.machine.specs.Causes.{Lengths, firstCause, short, inRange, deliverCauses, promoteCauses, resultCauses}
+use Rattle.calls.specs.Replies.{accepted, promotion}
 use Rattle.calls.proofs.Causes.{common-none, wanted-yes, wanted-no, deliver-fits, promote-free}
 use Rattle.published.specs.Figure.{Problem}
 use Rattle.published.specs.Turns.{supply, Measured}
-use Rattle.history.specs.Calls.{promote, LentCall, lengthsLent, answer}
-use Rattle.history.specs.Logged.{refusal, reply, bufferOf, answerBy}
+use Rattle.calls.specs.Table.{Call, promote, answer, row, causesOf, effectOf, fitting, acceptedAnswer, refusal, answerOf, changed, stateAfter}
+use Rattle.history.specs.Calls.{LentCall, lengthsLent}
+use Rattle.history.specs.Logged.{stateOf, refusalBy, answerBy}
 use Rattle.history.specs.Source.{supplyCall}
-use Rattle.history.proofs.Moves.{moved, machineStep}
+use Rattle.history.proofs.Moves.{moved, machineStep, promote-moved}
 
 -- ---- the wanted, counted
 
@@ -76,24 +77,27 @@ module _ (P : Problem) (z : Lengths) (l : Log) (enough : short z (l .settings) �
   none = common-none z true l enough refl
 
   -- the first wanted block's delivery
-  pub supply-clear : Measured P → firstWanted (l .entries) < length (l .entries) → refusal z l (supplyCall P l) ≡ 0
-  unfolding supplyCall refusal
+  pub supply-clear : Measured P → firstWanted (l .entries) < length (l .entries) → refusalBy z l (supplyCall P l) ≡ 0
+  unfolding supplyCall refusal causesOf row deliverCauses
   supply-clear measured wanted =
       deliver-fits z true l (map (P .integrand) (block (wantedIndex (l .entries)))) none (wanted-yes l wanted)
       (whole-block (P .integrand) (wantedIndex (l .entries)) ∙ sym (reading-facts .single (l .settings) (wantedIndex (l .entries)))) (in-range (P .integrand) measured (block (wantedIndex (l .entries))))
 
+  -- a call that is not refused
+  answer-clear : (c : Call) → refusalBy z l c ≡ 0 → answerBy z l c ≡ acceptedAnswer (fitting z true l) (stateOf l) (row c)
+  unfolding answerBy answerOf stateOf
+  answer-clear c e = rw e refl
+
   pub supply-answer : Measured P → firstWanted (l .entries) < length (l .entries) → answerBy z l (supplyCall P l) ≡ answer accepted
-  unfolding answerBy
-  supply-answer measured wanted = ap (λ n. cond (eqb n 0) (reply z l (supplyCall P l)) (record { reply = refused n; buffer = bufferOf (supplyCall P l) })) (supply-clear measured wanted) ∙ unfold reply supplyCall in refl
+  supply-answer measured wanted = answer-clear (supplyCall P l) (supply-clear measured wanted) ∙ unfold supplyCall acceptedAnswer row in refl
 
   -- a promotion
-  pub promote-clear : length (l .entries) ≤ firstWanted (l .entries) → refusal z l promote ≡ 0
-  unfolding refusal
+  pub promote-clear : length (l .entries) ≤ firstWanted (l .entries) → refusalBy z l promote ≡ 0
+  unfolding refusal causesOf row promoteCauses
   promote-clear free = promote-free z true l none (wanted-no l free)
 
   pub promote-answer : length (l .entries) ≤ firstWanted (l .entries) → answerBy z l promote ≡ answer (promotion (rule.promote l .outcome))
-  unfolding answerBy
-  promote-answer free = ap (λ n. cond (eqb n 0) (reply z l promote) (record { reply = refused n; buffer = bufferOf promote })) (promote-clear free) ∙ unfold reply in refl
+  promote-answer free = answer-clear promote (promote-clear free) ∙ unfold acceptedAnswer row stateOf in refl
 
 module _ (P : Problem) (x : LentCall) (m : Machine) (enough : short (lengthsLent (x .part)) (m .log .settings) ≡ false) where
   abbrev z : Lengths
@@ -102,16 +106,15 @@ module _ (P : Problem) (x : LentCall) (m : Machine) (enough : short (lengthsLent
   abbrev l : Log
   l = m .log
 
+  -- a call that is not refused
+  step-clear : (c : Call) → refusalBy z l c ≡ 0 → x .call ≡ c → machineStep m x ≡ moved m c
+  unfolding stateAfter
+  step-clear c e is = ap (λ (d : Call). stateAfter z true m d) is ∙ rw e refl
+
   -- the first wanted block's delivery
   pub supply-step : Measured P → firstWanted (l .entries) < length (l .entries) → x .call ≡ supplyCall P l → machineStep m x ≡ supply P m
-  unfolding machineStep
-  supply-step measured wanted is =
-      ap (λ c. cond (eqb (refusal z l c) 0) (moved m c) m) is
-      ∙ ap (λ n. cond (eqb n 0) (moved m (supplyCall P l)) m) (supply-clear P z l enough measured wanted)
-      ∙ unfold supplyCall moved supply in refl
+  supply-step measured wanted is = step-clear (supplyCall P l) (supply-clear P z l enough measured wanted) is ∙ unfold supplyCall effectOf row changed supply in refl
 
   -- a promotion
   pub promote-step : length (l .entries) ≤ firstWanted (l .entries) → x .call ≡ promote → machineStep m x ≡ steps.promoteStep m
-  unfolding machineStep
-  promote-step free is =
-      ap (λ c. cond (eqb (refusal z l c) 0) (moved m c) m) is ∙ ap (λ n. cond (eqb n 0) (moved m promote) m) (promote-clear P z l enough free) ∙ unfold moved in refl
+  promote-step free is = step-clear promote (promote-clear P z l enough free) is ∙ promote-moved m

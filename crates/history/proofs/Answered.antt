@@ -17,10 +17,12 @@ use Rattle.machine.proofs.Facts.{step-facts}
 use Rattle.calls.specs.Replies.{accepted, promotion}
 use Rattle.published.specs.Figure.{Problem}
 use Rattle.published.specs.Turns.{supply, Measured}
-use Rattle.history.specs.Calls.{Call, promote, Part, LentCall, lengthsLent, Answer, answer}
-use Rattle.history.specs.Logged.{noted, logStep, logAfter, answersBy}
-use Rattle.history.specs.Source.{supplyCall, supplyCalls, turnCalls, lendAll}
-use Rattle.history.proofs.Moves.{step-log, promoted-settings}
+use Rattle.calls.specs.Table.{Call, promote, Answer, answer}
+use Rattle.calls.proofs.Outcomes.{promoted-settings}
+use Rattle.history.specs.Calls.{Part, LentCall, lengthsLent}
+use Rattle.history.specs.Logged.{logStep, logAfter, answersBy}
+use Rattle.history.specs.Source.{supplyCall, suppliedLog, supplyCalls, turnCalls, lendAll}
+use Rattle.history.proofs.Moves.{step-log}
 use Rattle.history.proofs.Accepts.{some-wanted, supply-step, supply-answer, promote-step, promote-answer}
 use Rattle.history.proofs.Runs.{enough, supply-sound, supply-settings, supply-count}
 
@@ -56,13 +58,13 @@ module _ (x : Part) (P : Problem) (g : Settings) (long : 512 * 27 ≤ x .cells) 
   supplies-taken (suc n) m v e c =
       let h = some-wanted (m .log .entries) n c in (
         inl (supply-answer P (lengthsLent x) (m .log) (enough x P g long room measured m e) measured h),
-        subst (λ (o : Log). AllTaken (answersBy o (lendAll x (supplyCalls P n (noted (m .log) (supplyCall P (m .log))))))) (sym (stepped h))
-            (subst (λ (o : Log). AllTaken (answersBy (supply P m .log) (lendAll x (supplyCalls P n o)))) noted-is
+        subst (λ (o : Log). AllTaken (answersBy o (lendAll x (supplyCalls P n (suppliedLog P (m .log)))))) (sym (stepped h))
+            (subst (λ (o : Log). AllTaken (answersBy (supply P m .log) (lendAll x (supplyCalls P n o)))) supplied-is
             (supplies-taken n (supply P m) (supply-sound P measured m v h) (supply-settings P m ∙ e) (supply-count P measured m v h n c))),
       )
     where
-      noted-is : supply P m .log ≡ noted (m .log) (supplyCall P (m .log))
-      noted-is = unfold noted supplyCall supply steps.deliver in refl
+      supplied-is : supply P m .log ≡ suppliedLog P (m .log)
+      supplied-is = unfold suppliedLog supply steps.deliver in refl
 
       stepped : firstWanted (m .log .entries) < length (m .log .entries) → logStep (m .log) (lend (supplyCall P (m .log))) ≡ supply P m .log
       stepped h =

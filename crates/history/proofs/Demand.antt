@@ -10,7 +10,6 @@ use Prim.Native.Nat.{ℕ, _*_, _≤_}
 use native.Mathlib.Omega.{arith}
 use lib.ListN.{length}
 use Rattle.area.specs.declared.Settings.{Settings}
-use Rattle.area.specs.declared.JobRecord.{JobRecord}
 use Rattle.area.specs.Settings.{leastStore}
 use Rattle.area.specs.Records.{recordsOf, runOf}
 use Rattle.area.specs.Encoding.{Area, areaOf, entriesOf, storeWith, jobWith, written, machineOf}
@@ -22,21 +21,23 @@ use Rattle.machine.specs.Means.{crossOf}
 use Rattle.machine.proofs.Means.{mean-facts}
 use Rattle.writing.proofs.After.{written-sound, written-long, written-machine}
 use Rattle.calls.specs.Replies.{accepted, refused, counts, total, lengthsOf}
-use Rattle.calls.specs.Calls.{startCall, resultCall, crossCall}
-use Rattle.calls.proofs.Ways.{start-ways}
+use Rattle.calls.specs.Table.{start, result, crossTotal, Row, row, causesOf, fitting, acceptedAnswer, refusal, answerOf, Answer, answer}
+use Rattle.calls.specs.Calls.{callOn}
+use Rattle.calls.proofs.Facts.{no-cause}
 use Rattle.calls.proofs.Tests as tests
 use Rattle.calls.proofs.Causes.{common-none}
 use Rattle.soundness.specs.Sound.{Sound, LongEnough}
 use Rattle.soundness.specs.Clauses.{checked}
 use Rattle.soundness.proofs.Clauses.{clause-facts}
 use Rattle.area.proofs.Records.{length-recordsOf}
-use Rattle.history.specs.Calls.{Call, start, result, crossTotal, Part, LentCall, lengthsLent, Answer, answer}
-use Rattle.history.specs.Logged.{refusal, reply, answerBy, answersBy, logAfter}
-use Rattle.history.specs.Storage.{Storage, areaLent, Lent, AllLent, callOn, returned, doneOn, storageStep, storageAfter, answersOf}
+use Rattle.history.specs.Calls.{Part, LentCall, lengthsLent}
+use Rattle.history.specs.Logged.{stateOf, answerBy, answersBy, logAfter}
+use Rattle.history.specs.Storage.{Storage, areaLent, Lent, AllLent, returned, calledIn, storageStep, storageAfter, answersOf}
 use Rattle.history.specs.Found.{Neighbours, LinksAgree, Found, ThirdDemand}
 use Rattle.history.proofs.Holding.{Holds, Kept, front-small, run-over}
-use Rattle.history.proofs.Moves.{Fine, combined}
-use Rattle.history.proofs.Steps.{lengths, enough-answer, first-holds}
+use Rattle.history.proofs.Moves.{Fine, from-log}
+use Rattle.history.proofs.Steps.{lengths, answered, first-holds}
+use Rattle.history.proofs.Shorts.{rowAnswer}
 use Rattle.history.proofs.Lists.{machineAfter, lent-too, after-log, after-keeps, after-answers}
 use Rattle.history.proofs.LinksBothWays.{links-agree}
 use Rattle.history.proofs.Never.{never-four}
@@ -69,9 +70,6 @@ module _ (w : Storage) (m : Machine) (h : Holds w m) where
   checked-there : checked all ≡ true
   checked-there = clause-facts .answer all .back (subst LongEnough (sym whole-holds) (written-long all m (h .sound) (omega (arith, length-recordsOf (w .cells), h .long)) (h .room)), all-sound)
 
-  mean-is : m .mean ≡ crossOf (l .entries)
-  mean-is = combined m (record { sound = h .sound; mean = h .mean })
-
   neighbours : Neighbours (l .settings .axes) (l .entries)
   neighbours = record { index = h .sound .index; behind = h .sound .behind; admissible = h .sound .admissible; once = h .sound .different }
 
@@ -86,29 +84,25 @@ module _ (w : Storage) (m : Machine) (h : Holds w m) where
     none : firstCause (resultCauses z true l) ≡ 0
     none = common-none z true l (tests.enough z (l .settings) (omega (arith, long)) room) refl
 
-    answered : (c : Call) → callOn (areaLent w x) c .answer ≡ answerBy z l c
-    answered = enough-answer w x lent m h (record { lent = lent; cells = long; readings = room })
+    -- neither is refused
+    given : (r : Row) → causesOf z true l r ≡ resultCauses z true l → rowAnswer z true (stateOf l) r ≡ acceptedAnswer (fitting z true l) (stateOf l) r
+    unfolding stateOf
+    given r is = rw (is, none) refl
 
-    result-is : resultCall (areaLent w x) ≡ counts (countsOf (record { log = l; mean = crossOf (l .entries) }))
-    unfolding callOn answerBy refusal reply
-    result-is = ap (λ (y : Answer). y .reply) (answered result ∙ given)
-      where
-        given : answerBy z l result ≡ answer (counts (countsOf (record { log = l; mean = crossOf (l .entries) })))
-        given = rw none refl
+    result-is : callOn (areaLent w x) result .answer ≡ answer (counts (countsOf (stateOf l)))
+    unfolding answerBy answerOf refusal row causesOf acceptedAnswer resultCauses
+    result-is = answered w x lent m h result ∙ given (row result) refl
 
-    cross-is : crossCall (areaLent w x) ≡ total (crossOf (l .entries))
-    unfolding callOn answerBy refusal reply
-    cross-is = ap (λ (y : Answer). y .reply) (answered crossTotal ∙ given)
-      where
-        given : answerBy z l crossTotal ≡ answer (total (crossOf (l .entries)))
-        given = rw none refl
+    cross-is : callOn (areaLent w x) crossTotal .answer ≡ answer (total (crossOf (l .entries)))
+    unfolding answerBy answerOf refusal row causesOf acceptedAnswer resultCauses stateOf
+    cross-is = answered w x lent m h crossTotal ∙ given (row crossTotal) refl
 
   pub found : Found w l
   found =
       record {
         entries = entries-there;
         idle = h .sound .wanted-idle;
-        job = h .job ∙ ap {B = JobRecord} (λ y. jobWith (record { log = l; mean = y })) mean-is;
+        job = h .job ∙ ap jobWith (from-log m (record { sound = h .sound; mean = h .mean }));
         sound = checked-there;
         neighbours = neighbours;
         links = links;
@@ -119,13 +113,12 @@ module _ (w : Storage) (m : Machine) (h : Holds w m) where
 
 -- ---- an accepted start
 
-accepted-start : (a : Area) (g : Settings) → startCall a g .reply ≡ accepted → firstCause (startCauses (lengthsOf a) g) ≡ 0
-accepted-start a g =
-    start-ways (λ x. x .reply ≡ accepted → firstCause (startCauses (lengthsOf a) g) ≡ 0) a g (λ none e. none)
-    (λ some e. let y : _≡_ {A = ℕ} 0 1 = cc in absurd (omega arith))
+accepted-start : (a : Area) (g : Settings) → callOn a (start g) .answer ≡ answer accepted → firstCause (startCauses (lengthsOf a) g) ≡ 0
+unfolding refusal causesOf row
+accepted-start a g e = no-cause a (start g) (λ n f. let same : accepted ≡ refused n = sym (ap (λ (y : Answer). y .reply) e) ∙ f in let y : _≡_ {A = ℕ} 0 1 = cc in omega arith)
 
 module _ (w : Storage) (first : LentCall) (later : List LentCall) (g : Settings) (lent : AllLent w (first ∷ later))
-    (is : first .call ≡ start g) (taken : startCall (areaLent w (first .part)) g .reply ≡ accepted) where
+    (is : first .call ≡ start g) (taken : callOn (areaLent w (first .part)) (start g) .answer ≡ answer accepted) where
   abbrev m : Machine
   m = steps.started g
 
@@ -133,15 +126,12 @@ module _ (w : Storage) (first : LentCall) (later : List LentCall) (g : Settings)
   clear = ap (λ z. firstCause (startCauses z g)) (sym (lengths w (first .part) (lent .0))) ∙ accepted-start (areaLent w (first .part)) g taken
 
   begins : Kept w (storageStep w first) m
-  unfolding storageStep doneOn
+  unfolding storageStep calledIn
   begins = subst (λ c. Kept w (returned w (first .part) (callOn (areaLent w (first .part)) c .area)) m) (sym is) (first-holds w (first .part) (lent .0) g clear)
 
-  first-answer : doneOn w first .answer ≡ answer accepted
-  unfolding doneOn callOn
-  first-answer = ap (λ c. callOn (areaLent w (first .part)) c .answer) is ∙ started-answer
-    where
-      started-answer : callOn (areaLent w (first .part)) (start g) .answer ≡ answer accepted
-      started-answer = ap answer taken
+  first-answer : calledIn w first .answer ≡ answer accepted
+  unfolding calledIn
+  first-answer = ap (λ c. callOn (areaLent w (first .part)) c .answer) is ∙ taken
 
   lent-later : AllLent (storageStep w first) later
   lent-later = lent-too w (storageStep w first) (begins .cells) (begins .store) later (lent .1)

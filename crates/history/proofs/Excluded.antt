@@ -25,11 +25,13 @@ use Rattle.area.specs.Settings.{axesFit, budgetFit, readingsFor, readingCount, 
 use Rattle.area.specs.Log.{Log, withEntries}
 use Rattle.machine.specs.Log.{wanted, firstWanted, anyWanted, wantedIndex}
 use Rattle.machine.specs.Promote as rule
+use Rattle.machine.specs.Steps as steps
 use Rattle.machine.specs.Steps.{deliverAt, delivered}
-use Rattle.machine.specs.Causes.{firstCause, short, inRange, deliverCauses, promoteCauses, resultCauses, pointCauses, startCauses}
+use Rattle.machine.specs.Causes.{firstCause, short, inRange, deliverCauses, startCauses}
 use Rattle.machine.specs.Counts.{countOf, ceilingCount, countsOf}
 use Rattle.machine.specs.Means.{crossOf}
-use Rattle.calls.specs.Replies.{lengthsOf, Called, accepted}
+use Rattle.calls.specs.Replies.{lengthsOf, accepted}
+use Rattle.calls.specs.Table.{deliver, answer, promotionEffect, row, causesOf, effectOf, fitting, acceptedAnswer, refusedAnswer, refusal, answerOf, changed, stateAfter}
 use Rattle.published.proofs.Outcomes.{promoted-log}
 use Rattle.soundness.specs.Clauses.{isSound}
 use Rattle.soundness.proofs.Clauses.{clause-facts}
@@ -37,11 +39,11 @@ use Rattle.writing.specs.Settled.{Settled}
 use Rattle.area.specs.Encoding.{Area, entriesOf, machineOf}
 use lib.IntN.{ℤ}
 use mathlib.Core.List.{List}
-use Rattle.calls.specs.Calls.{deliverCall}
+use Rattle.calls.specs.Calls.{Called, callOn}
 use Rattle.calls.proofs.Tests as tests
 use Rattle.calls.proofs.Causes.{common-none, start-fits, deliver-fits}
-use Rattle.calls.proofs.Refusing.{start-accepts, deliver-accepts}
-use Rattle.history.specs.Logged.{refusal, noted, logStep, reply, bufferOf, answerBy, answersBy}
+use Rattle.calls.proofs.Rows.{start-accepts, deliver-accepts}
+use Rattle.history.specs.Logged.{stateOf, logStep, answerBy, answersBy}
 use Rattle.history.specs.Excluded.{refined, Passes, Excluded, fileCalls, answersAfter, CallCases}
 
 promoted-above : (l : Log) → (rule.isMet l ≡ true → ⊥) → rule.fits (l .settings .budget) (refined l) ≡ true
@@ -116,10 +118,10 @@ module _ (l : Log) where
 
 -- in a settled area no cause refuses a delivery that fits
 delivery-accepted : (a : Area) (rs : List ℤ) (i : ℕ) → Settled a → anyWanted (entriesOf a) ≡ true → length rs ≡ readingCount (a .job .settings) (wantedIndex (entriesOf a)) → inRange rs ≡ true
-    → deliverCall a rs i .reply ≡ accepted
+    → callOn a (deliver rs i) .answer ≡ answer accepted
 unfolding machineOf
 delivery-accepted a rs i s some whole range =
-    ap (λ (y : Called). y .reply)
+    ap (λ (y : Called). y .answer)
     (sym (deliver-accepts a rs i _ refl
     (deliver-fits (lengthsOf a) (isSound a) (machineOf a .log) rs
     (common-none (lengthsOf a) (isSound a) (machineOf a .log) (tests.enough (lengthsOf a) (a .job .settings) (s .lent .records) (s .lent .store)) (clause-facts .agree a .back (s .sound))) some whole range)))
@@ -128,10 +130,10 @@ pub excluded : Excluded
 excluded =
     record {
       starts = λ a g fit long room.
-          ap (λ (y : Called). y .reply)
+          ap (λ (y : Called). y .answer)
           (sym (start-accepts a g _ refl (start-fits (lengthsOf a) g fit (tests.enough (lengthsOf a) g long room))));
       accepted-deliveries = delivery-accepted;
-      deliveries = λ z l rs i long room some whole range. unfold refusal in deliver-fits z true l rs (common-none z true l (tests.enough z (l .settings) long room) refl) some whole range;
+      deliveries = λ z l rs i long room some whole range. unfold refusal causesOf row deliverCauses in deliver-fits z true l rs (common-none z true l (tests.enough z (l .settings) long room) refl) some whole range;
       means = unfold crossOf crossTotal deliveredOf readingIn readingsOf deliverAt delivered firstWanted wanted root coefficient sumOf subsets sign raisedOn isIn sameLevels tensorRule tensorSum units unit sumTo wholeWeight endsOne newCount behind blockSize in (refl, refl);
       started = λ g. unfold wanted in refl;
       delivered = λ g i rs. unfold wanted deliverAt delivered firstWanted in refl;
@@ -152,5 +154,5 @@ excluded =
     }
 
 pub call-cases : CallCases
-unfolding answersAfter axesFit budgetFit readingsFor readingCount leastStore pointCauses startCauses pointOf newPoint answersBy answerBy reply refusal logStep noted bufferOf fileCalls firstCause deliverCauses promoteCauses resultCauses short inRange anyWanted firstWanted wanted root deliverAt delivered rule.promote rule.promoteAt rule.refine rule.retire rule.retired rule.selected rule.firstActive rule.largest rule.isMet rule.fits rule.admittedAxes rule.passing rule.admits rule.backwardOld rule.isOld within levelsWithin excess forward backward allFrom sameLevels countsOf countOf cappedAxes ceilingCount reservedBy pendingOf crossOf crossTotal deliveredOf readingIn readingsOf coefficient sumOf subsets sign raisedOn isIn tensorRule tensorSum units unit sumTo wholeWeight endsOne newCount behind blockSize
+unfolding answersAfter axesFit budgetFit readingsFor readingCount leastStore startCauses pointOf newPoint answersBy answerBy answerOf acceptedAnswer refusedAnswer fitting refusal causesOf effectOf row promotionEffect changed stateAfter stateOf logStep fileCalls firstCause short inRange anyWanted firstWanted wanted root steps.started steps.deliver steps.promoteStep deliverAt delivered rule.promote rule.promoteAt rule.refine rule.retire rule.retired rule.selected rule.firstActive rule.largest rule.isMet rule.fits rule.admittedAxes rule.passing rule.admits rule.backwardOld rule.isOld within levelsWithin excess forward backward allFrom sameLevels countsOf countOf cappedAxes ceilingCount reservedBy pendingOf crossOf crossTotal deliveredOf readingIn readingsOf coefficient sumOf subsets sign raisedOn isIn tensorRule tensorSum units unit sumTo wholeWeight endsOne newCount behind blockSize
 call-cases = record { between = refl; mean-zero = refl; threshold-equal = refl; budget-four = refl; budget-five = refl; file = refl }

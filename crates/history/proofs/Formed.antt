@@ -2,30 +2,27 @@
 -- The idea: an accepted call leaves a settled area, whose held records are formed, and does not touch the others; a refused one leaves all.
 -- Assumes nothing.
 use mathlib.Core.Path.{_≡_, refl, ap, sym, _∙_, subst}
-use mathlib.Core.Logic.{_⊎_, inl, inr}
+use mathlib.Core.Logic.{inl, inr}
 use mathlib.Core.List.{List, _++_}
 use Prim.Native.Nat.{ℕ, _+_, _-_, _<_, _≤_}
 use native.Mathlib.Omega.{arith}
-use lib.IntN.{ℤ}
 use lib.ListN.{length, getD, take, drop, length-append, length-drop, List·getD-append}
 use lib.Seq.{getD-take, getD-drop, getD-append-add, length-take-le, take-all}
-use Rattle.area.specs.declared.Settings.{Settings}
 use Rattle.area.specs.declared.IndexRecord.{IndexRecord}
 use Rattle.area.specs.Records.{blank}
-use Rattle.area.specs.Encoding.{Area, heldOf}
+use Rattle.area.specs.Encoding.{Area, heldOf, machineOf, written}
 use Rattle.quadrature.specs.Readings.{recordAt}
 use Rattle.encoding.specs.Encodes.{Formed}
-use Rattle.machine.specs.Areas.{promoteOn}
 use Rattle.machine.specs.Causes.{Lengths}
 use Rattle.writing.specs.Settled.{Settled}
-use Rattle.calls.specs.Replies.{accepted, promotion, lengthsOf, Called}
-use Rattle.calls.specs.Calls.{startCall, deliverCall, promoteCall}
+use Rattle.calls.specs.Replies.{lengthsOf}
+use Rattle.calls.specs.Table.{Call, Effect, leaves, becomes, row, effectOf}
+use Rattle.calls.specs.Calls.{Called, areaAfter, callOn}
 use Rattle.calls.specs.Facts.{PastUnchanged}
-use Rattle.calls.proofs.Facts.{call-facts}
-use Rattle.calls.proofs.Ways.{start-ways, deliver-ways, promote-ways}
+use Rattle.calls.proofs.Ways.{call-ways}
+use Rattle.calls.proofs.Next.{Allowed, allowed-there, next-settled}
+use Rattle.calls.proofs.Written.{written-past, written-lengths}
 use Rattle.records.proofs.Orders.{less-or}
-use Rattle.history.specs.Calls.{Call, start, point, deliver, promote, result, crossTotal, check}
-use Rattle.history.specs.Storage.{callOn}
 
 -- ---- parts of formed records
 
@@ -91,42 +88,18 @@ module _ (a : Area) (f : Formed (a .run .records)) where
   itself : Leaves a a
   itself = record { formed = f; rest = refl; lengths = refl }
 
-  kept : (b : Area) → b ≡ a → Leaves a b
-  kept b e = subst (Leaves a) (sym e) itself
-
-  settles : (b : Area) → Settled b → PastUnchanged a b → lengthsOf b ≡ lengthsOf a → Leaves a b
-  settles b s past e = record { formed = settled-formed a b f s past e; rest = past .rest; lengths = e }
-
   held-formed : Formed (heldOf a)
   held-formed = formed-take (a .job .held) (a .run .records) f
 
-  start-leaves : (g : Settings) → Leaves a (startCall a g .area)
-  start-leaves g =
-      elim (start-ways (λ (x : Called). (x .reply ≡ accepted) ⊎ (x .area ≡ a)) a g (λ none. inl refl) (λ some. inr refl)) [
-        | inl e ↦ settles (startCall a g .area) (call-facts .start-settles a g e) (call-facts .start-past a g) (call-facts .start-lengths a g)
-        | inr e ↦ kept (startCall a g .area) e
-      ]
-
-  deliver-leaves : (rs : List ℤ) (i : ℕ) → Leaves a (deliverCall a rs i .area)
-  deliver-leaves rs i =
-      elim (deliver-ways (λ (x : Called). (x .reply ≡ accepted) ⊎ (x .area ≡ a)) a rs i (λ none. inl refl) (λ some. inr refl)) [
-        | inl e ↦ settles (deliverCall a rs i .area) (call-facts .deliver-settles a rs i held-formed e) (call-facts .deliver-past a rs i) (call-facts .deliver-lengths a rs i held-formed)
-        | inr e ↦ kept (deliverCall a rs i .area) e
-      ]
-
-  promote-leaves : Leaves a (promoteCall a .area)
-  promote-leaves =
-      elim (promote-ways (λ (x : Called). (x .reply ≡ promotion (promoteOn a .outcome)) ⊎ (x .area ≡ a)) a (λ none. inl refl) (λ some. inr refl)) [
-        | inl e ↦ settles (promoteCall a .area) (call-facts .promote-settles a (promoteOn a .outcome) held-formed e) (call-facts .promote-past a) (call-facts .promote-lengths a held-formed)
-        | inr e ↦ kept (promoteCall a .area) e
-      ]
-
+  -- an accepted call writes a state, or nothing
   pub call-leaves : (c : Call) → Leaves a (callOn a c .area)
-  unfolding callOn
-  call-leaves (start g) = start-leaves g
-  call-leaves (point n buffer) = itself
-  call-leaves (deliver rs i) = deliver-leaves rs i
-  call-leaves promote = promote-leaves
-  call-leaves result = itself
-  call-leaves crossTotal = itself
-  call-leaves check = itself
+  unfolding areaAfter
+  call-leaves c =
+      call-ways a c (λ (x : Called). Leaves a (x .area)) (λ none. after (effectOf (machineOf a) (row c)) (allowed-there a held-formed c none)) (λ some. itself)
+    where
+      after : (e : Effect) → Allowed (lengthsOf a) e → Leaves a (areaAfter a e)
+      after leaves x = itself
+      after (becomes n) x =
+          let past = written-past a n in
+          let same = written-lengths a n (x .sound) (x .records) (x .readings) in
+          record { formed = settled-formed a (written a n) f (next-settled a n x) past same; rest = past .rest; lengths = same }

@@ -3,52 +3,28 @@
 -- as well, and a state written into the part is written into the whole.
 -- Assumes nothing.
 use mathlib.Core.Path.{_≡_, refl, ap, sym, _∙_, subst}
-use mathlib.Core.Logic.{inl, inr}
-use mathlib.Core.List.{List, [], _∷_, _++_}
+use mathlib.Core.List.{List, [], _++_}
 use Prim.Native.Nat.{ℕ, _*_, _≤_}
 use native.Mathlib.Omega.{arith}
 use lib.IntN.{ℤ}
-use lib.ListN.{length, take, drop, take-append-drop, length-append}
+use lib.ListN.{length, take, drop, take-append-drop}
 use lib.Seq.{length-take-le}
-use Rattle.grid.specs.Block.{blockSize}
 use Rattle.area.specs.Records.{Run, recordsOf, cellsFor, cellsOf, runOf}
 use Rattle.area.specs.declared.Settings.{Settings}
-use Rattle.area.specs.Settings.{readingsFor, leastStore}
-use Rattle.area.proofs.Readings.{reading-facts}
-use Rattle.area.specs.Entry.{Entry, reservedBy}
+use Rattle.area.specs.Settings.{leastStore}
+use Rattle.area.specs.Entry.{Entry}
 use Rattle.area.specs.Encoding.{Area, recordsFor, storeFor, runWith, storeWith, jobWith, written}
 use Rattle.area.proofs.Records.{whole}
 use Rattle.area.proofs.Cells.{cells-length, cells-run, run-drop}
 use Rattle.encoding.specs.Encodes.{Formed}
 use Rattle.encoding.proofs.Places.{records-length}
-use Rattle.encoding.proofs.Store.{Blocks, AllWanted, blocks-of}
 use Rattle.area.specs.Log.{Machine}
 use Rattle.encoding.specs.Entries.{SoundMachine}
 use Rattle.machine.specs.Means.{meanOf}
-use Rattle.calls.proofs.Written.{formed-records}
+use Rattle.calls.proofs.Written.{formed-records, store-small}
 use Rattle.history.specs.Calls.{Part}
 use Rattle.history.specs.Storage.{Storage, areaLent, Lent, returned}
 use Rattle.history.proofs.Overlays.{over, over-part, over-whole, over-twice, over-length}
-
--- ---- how much a state needs
-
-stored-length : (g : Settings) (es : List Entry) → Blocks g es → length (storeFor es) ≤ readingsFor g (reservedBy es)
-unfolding storeFor reservedBy
-stored-length g [] b = omega arith
-stored-length g (e ∷ es) (inl x) =
-    omega (
-      arith,
-      length-append (e .readings) (storeFor es),
-      x .1,
-      stored-length g es (x .2),
-      reading-facts .count g (e .levels),
-      reading-facts .sum g (blockSize (e .levels)) (reservedBy es),
-    )
-stored-length g (e ∷ es) (inr x) = omega (arith, empty (e ∷ es) x)
-  where
-    empty : (fs : List Entry) → AllWanted fs → length (storeFor fs) ≤ 0
-    empty [] y = omega arith
-    empty (f ∷ fs) y = omega (arith, length-append (f .readings) (storeFor fs), ap length (y .1), empty fs (y .2))
 
 -- ---- a state in cells
 
@@ -69,12 +45,7 @@ module _ (m : Machine) (v : SoundMachine m) where
   front-small = omega (arith, front-length, v .count .1)
 
   pub back-small : length (storeFor es) ≤ leastStore (m .log .settings)
-  back-small = omega (
-    arith,
-    stored-length (m .log .settings) es (blocks-of v),
-    reading-facts .more (m .log .settings) (reservedBy es) (m .log .settings .budget) (v .within-budget),
-    reading-facts .least (m .log .settings),
-  )
+  back-small = store-small m v
 
   module _ (c : List ℕ) (room : length front ≤ length c) where
     dropped : runOf (drop (length front) c) ≡ record { records = drop (length es) (recordsOf c); rest = runOf c .rest }

@@ -2,7 +2,6 @@
 pub mod Overlays
 pub mod Holding
 pub mod Moves
-pub mod Views
 pub mod Shorts
 pub mod Steps
 pub mod Lists

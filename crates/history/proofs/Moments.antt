@@ -1,7 +1,7 @@
 -- The second demand at any moment: after every list of calls Fig. 1 stands where the log stands, as soon as nothing is wanted.
 -- The idea: every accepted call keeps the machine on the course of Fig. 1, within a turn or between two, and a refused one leaves it.
 -- Assumes nothing.
-use mathlib.Core.Path.{_≡_, refl, subst}
+use mathlib.Core.Path.{_≡_, refl, sym, subst}
 use mathlib.Core.Bool.{Bool, true, false, cond}
 use mathlib.Core.List.{List, [], _∷_}
 use Prim.Native.Nat.{ℕ, _<_, _≤_}
@@ -15,15 +15,15 @@ use Rattle.area.specs.Log.{Machine}
 use Rattle.machine.specs.Log.{firstWanted, anyWanted}
 use Rattle.machine.specs.Counts.{countOf}
 use Rattle.machine.specs.Steps as steps
-use Rattle.machine.specs.Causes.{Lengths}
+use Rattle.machine.specs.Causes.{Lengths, deliverCauses, promoteCauses}
 use Rattle.machine.proofs.Wanted.{none-wanted, reads-wanted}
 use Rattle.calls.proofs.Accepted.{deliverable, promotable}
 use Rattle.published.proofs.Problems.{posed}
 use Rattle.published.proofs.Moments.{OnCourse, start-course, deliver-course, promote-course, course-stands}
-use Rattle.history.specs.Calls.{Call, start, point, deliver, promote, result, crossTotal, check, LentCall, lengthsLent}
-use Rattle.history.specs.Logged.{refusal}
+use Rattle.calls.specs.Table.{Call, start, point, deliver, promote, result, crossTotal, check, row, causesOf, effectOf, refusal, changed, stateAfter}
+use Rattle.history.specs.Calls.{LentCall, lengthsLent}
 use Rattle.history.specs.Source.{StepsFollow, StepsFollowAll}
-use Rattle.history.proofs.Moves.{moved, machineStep, Fine, moved-fine, step-fine}
+use Rattle.history.proofs.Moves.{moved, machineStep, promote-moved, Fine, moved-fine, step-fine}
 use Rattle.history.proofs.Lists.{machineAfter}
 use Rattle.history.proofs.Demand.{log-there, state-fine}
 use Rattle.history.proofs.Standing.{follows-at}
@@ -31,22 +31,22 @@ use Rattle.history.proofs.Standing.{follows-at}
 -- ---- the calls
 
 module _ (m : Machine) (f : Fine m) (c : OnCourse m) where
-  moved-course : (z : Lengths) (x : Call) → refusal z (m .log) x ≡ 0 → OnCourse (moved m x)
-  unfolding moved refusal
+  moved-course : (z : Lengths) (x : Call) → refusal z true (m .log) x ≡ 0 → OnCourse (moved m x)
+  unfolding refusal causesOf effectOf row changed deliverCauses promoteCauses
   moved-course z (start g) e = start-course g
   moved-course z (point n buffer) e = c
   moved-course z (deliver rs i) e = deliver-course m rs i (deliverable z true (m .log) rs e .wanted) (moved-fine m f z (deliver rs i) e .sound) c
-  moved-course z promote e = promote-course m (f .sound) (promotable z true (m .log) e .free) c
+  moved-course z promote e = subst OnCourse (sym (promote-moved m)) (promote-course m (f .sound) (promotable z true (m .log) e .free) c)
   moved-course z result e = c
   moved-course z crossTotal e = c
   moved-course z check e = c
 
   step-course : (x : LentCall) → OnCourse (machineStep m x)
-  unfolding machineStep
-  step-course x = split (eqb (refusal (lengthsLent (x .part)) (m .log) (x .call)) 0) refl
+  unfolding stateAfter
+  step-course x = split (eqb (refusal (lengthsLent (x .part)) true (m .log) (x .call)) 0) refl
     where
-      split : (t : Bool) → eqb (refusal (lengthsLent (x .part)) (m .log) (x .call)) 0 ≡ t → OnCourse (cond t (moved m (x .call)) m)
-      split true e = moved-course (lengthsLent (x .part)) (x .call) (eqb-true (refusal (lengthsLent (x .part)) (m .log) (x .call)) 0 e)
+      split : (t : Bool) → eqb (refusal (lengthsLent (x .part)) true (m .log) (x .call)) 0 ≡ t → OnCourse (cond t (moved m (x .call)) m)
+      split true e = moved-course (lengthsLent (x .part)) (x .call) (eqb-true (refusal (lengthsLent (x .part)) true (m .log) (x .call)) 0 e)
       split false e = c
 
 after-course : (m : Machine) → Fine m → OnCourse m → (xs : List LentCall) → OnCourse (machineAfter m xs)

@@ -9,12 +9,14 @@ use Prim.Native.Nat.{ℕ}
 use native.Mathlib.Omega.{arith}
 use borrow.Author.Tests.{eqb-false}
 use lib.Dec.{eqb}
-use lib.ListN.{length}
 use Rattle.area.specs.Log.{Log}
-use Rattle.machine.specs.Causes.{Lengths, Cause, firstCause, startCauses, pointCauses, deliverCauses, promoteCauses, resultCauses}
+use Rattle.machine.specs.Causes.{Lengths, Cause, firstCause, startCauses}
 use Rattle.calls.specs.Replies.{refused}
-use Rattle.history.specs.Calls.{Call, start, point, deliver, promote, result, crossTotal, check, LentCall, lengthsLent, Answer}
-use Rattle.history.specs.Logged.{refusal, logStep, reply, bufferOf, answerBy, answersBy}
+use Rattle.calls.specs.Table.{Call, start, point, deliver, promote, result, crossTotal, check, Answer, row, causesOf, fitting, acceptedAnswer, refusedAnswer, refusal, answerOf}
+use Rattle.calls.proofs.Numbers.{accepted-reply}
+use Rattle.calls.proofs.Ways.{refused-reply}
+use Rattle.history.specs.Calls.{LentCall, lengthsLent}
+use Rattle.history.specs.Logged.{stateOf, logStep, answerBy, answersBy}
 
 -- every row with the number 4 has a test that does not refuse
 apart : List Cause → Bool
@@ -32,34 +34,24 @@ spared (c ∷ cs) h e = step (c .test) (eqb (c .number) 4) refl (spared cs) h e
     step false true n later f g = later f g
     step false false n later f g = later f g
 
-not-four : (z : Lengths) (l : Log) (c : Call) → refusal z l c ≡ 4 → ⊥
-unfolding apart refusal startCauses pointCauses deliverCauses promoteCauses resultCauses
+-- no own cause of a row has the number 4, and where the area is sound the row's test for 4 does not refuse
+not-four : (z : Lengths) (l : Log) (c : Call) → refusal z true l c ≡ 4 → ⊥
+unfolding apart refusal causesOf row startCauses
 not-four z l (start g) = spared (startCauses z g) refl
-not-four z l (point n buffer) = spared (pointCauses z true l n (length buffer)) refl
-not-four z l (deliver rs i) = spared (deliverCauses z true l rs) refl
-not-four z l promote = spared (promoteCauses z true l) refl
-not-four z l result = spared (resultCauses z true l) refl
-not-four z l crossTotal = spared (resultCauses z true l) refl
-not-four z l check = λ e. omega (arith, e)
-
--- an accepted call answers no refusal
-not-refused : (z : Lengths) (l : Log) (c : Call) (n : ℕ) → reply z l c .reply ≡ refused n → ⊥
-unfolding reply
-not-refused z l (start g) n e = let y : _≡_ {A = ℕ} 0 1 = cc in omega arith
-not-refused z l (point m buffer) n e = let y : _≡_ {A = ℕ} 0 1 = cc in omega arith
-not-refused z l (deliver rs i) n e = let y : _≡_ {A = ℕ} 0 1 = cc in omega arith
-not-refused z l promote n e = let y : _≡_ {A = ℕ} 0 1 = cc in omega arith
-not-refused z l result n e = let y : _≡_ {A = ℕ} 0 1 = cc in omega arith
-not-refused z l crossTotal n e = let y : _≡_ {A = ℕ} 0 1 = cc in omega arith
-not-refused z l check n e = let y : _≡_ {A = ℕ} 0 1 = cc in omega arith
+not-four z l (point n buffer) = spared (causesOf z true l (row (point n buffer))) refl
+not-four z l (deliver rs i) = spared (causesOf z true l (row (deliver rs i))) refl
+not-four z l promote = spared (causesOf z true l (row promote)) refl
+not-four z l result = spared (causesOf z true l (row result)) refl
+not-four z l crossTotal = spared (causesOf z true l (row crossTotal)) refl
+not-four z l check = spared (causesOf z true l (row check)) refl
 
 one : (z : Lengths) (l : Log) (c : Call) → answerBy z l c .reply ≡ refused 4 → ⊥
-unfolding answerBy
-one z l c = step (eqb (refusal z l c) 0)
+unfolding answerBy answerOf stateOf
+one z l c = step (eqb (refusal z true l c) 0)
   where
-    step : (t : Bool) → cond {A = Answer} t (reply z l c) (record { reply = refused (refusal z l c); buffer = bufferOf c }) .reply ≡ refused 4 → ⊥
-    step true e = not-refused z l c 4 e
-    step false e = let same : refusal z l c ≡ 4 = cc in not-four z l c same
+    step : (t : Bool) → cond t (acceptedAnswer (fitting z true l) (stateOf l) (row c)) (refusedAnswer (refusal z true l c) (row c)) .reply ≡ refused 4 → ⊥
+    step true e = accepted-reply (fitting z true l) (stateOf l) c 4 e
+    step false e = let same : refused (refusal z true l c) ≡ refused 4 = sym (refused-reply (refusal z true l c) (row c)) ∙ e in let number : refusal z true l c ≡ 4 = cc in not-four z l c number
 
 pub never-four : (l : Log) (xs : List LentCall) (y : Answer) → List·Memᴰ y (answersBy l xs) → y .reply ≡ refused 4 → ⊥
 unfolding answersBy

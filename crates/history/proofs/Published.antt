@@ -3,11 +3,10 @@
 -- Assumes nothing.
 use mathlib.Core.Path.{_≡_, refl, ap, sym, _∙_, subst}
 use mathlib.Core.Logic.{inl}
-use mathlib.Core.Bool.{true, cond}
+use mathlib.Core.Bool.{true}
 use mathlib.Core.List.{List, [], _∷_, _++_, map-append, List·Memᴰ}
 use Prim.Native.Nat.{ℕ, zero, suc, _*_, _<_, _≤_}
 use native.Mathlib.Omega.{arith}
-use lib.Dec.{eqb}
 use lib.ListN.{length}
 use Rattle.area.specs.declared.Settings.{Settings}
 use Rattle.area.specs.Settings.{SettingsFit, leastStore}
@@ -19,16 +18,17 @@ use Rattle.machine.specs.Causes.{firstCause, startCauses}
 use Rattle.machine.proofs.Wanted.{first-none}
 use Rattle.machine.proofs.Facts.{step-facts}
 use Rattle.machine.proofs.Means.{mean-facts}
-use Rattle.calls.specs.Replies.{refused, accepted, Called}
-use Rattle.calls.specs.Calls.{startCall}
+use Rattle.calls.specs.Replies.{accepted}
+use Rattle.calls.specs.Table.{Call, start, promote, Answer, answer, row, causesOf, acceptedAnswer, refusal, answerOf}
+use Rattle.calls.specs.Calls.{Called, callOn}
 use Rattle.calls.proofs.Tests as tests
-use Rattle.calls.proofs.Refusing.{start-accepts}
+use Rattle.calls.proofs.Rows.{start-accepts}
 use Rattle.published.specs.Figure.{Problem, goesOn, turns}
 use Rattle.published.specs.Turns.{turnsOn, Poses, Measured}
 use Rattle.published.proofs.Outcomes.{promoted-goes-on}
 use Rattle.published.proofs.Sums.{sum-facts}
-use Rattle.history.specs.Calls.{Call, start, Part, LentCall, lengthsLent, Answer, answer}
-use Rattle.history.specs.Logged.{refusal, reply, bufferOf, logStep, logAfter, answerBy, answersBy}
+use Rattle.history.specs.Calls.{Part, LentCall, lengthsLent}
+use Rattle.history.specs.Logged.{logStep, logAfter, answerBy, answersBy}
 use Rattle.history.specs.Storage.{Storage, areaLent, Lent, AllLent, storageAfter, answersOf}
 use Rattle.history.specs.Found.{Found, Demand}
 use Rattle.history.specs.Source.{MeanFollows, MeansFollow, supplyCall, turnCalls, lendAll, begun, logOf, callsOf, Follows, Run, RunsFollow}
@@ -101,8 +101,8 @@ module _ (x : Part) (P : Problem) (g : Settings) where
     -- ---- no call is refused
 
     first-taken : answerBy (lengthsLent x) l₀ (start g) ≡ answer accepted
-    unfolding answerBy refusal reply
-    first-taken = ap (λ n. cond (eqb n 0) (answer accepted) (record { reply = refused n; buffer = bufferOf (start g) })) (start-clear x P g long room measured fit posed)
+    unfolding answerBy answerOf refusal causesOf acceptedAnswer row
+    first-taken = rw (start-clear x P g long room measured fit posed) refl
 
     begun-taken : AllTaken (answersBy l₀ (lendAll x (begun P g)))
     unfolding lendAll begun answersBy
@@ -152,9 +152,9 @@ module _ (x : Part) (P : Problem) (g : Settings) where
 
       -- ---- the storage
       module _ (w : Storage) (lent : Lent w x) where
-        taken : startCall (areaLent w x) g .reply ≡ accepted
+        taken : callOn (areaLent w x) (start g) .answer ≡ answer accepted
         taken =
-            ap (λ (y : Called). y .reply)
+            ap (λ (y : Called). y .answer)
             (sym (start-accepts (areaLent w x) g _ refl
             (ap (λ z. firstCause (startCauses z g)) (lengths w x lent) ∙ start-clear x P g long room measured fit posed)))
 

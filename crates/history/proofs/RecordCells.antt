@@ -13,9 +13,10 @@ use Rattle.area.specs.Encoding.{Area}
 use Rattle.area.proofs.Cells.{cells-length, forth}
 use Rattle.encoding.specs.Encodes.{Formed}
 use Rattle.machine.specs.Causes.{Lengths}
-use Rattle.history.specs.Calls.{Answer}
-use Rattle.history.specs.Storage.{Storage, areaLent, Lent, AllLent, Done, callOn, returned, doneOn, storageStep, storageAfter, answersOf}
-use Rattle.history.specs.Recorded.{RecordStorage, RecordPart, RecordCall, inCells, callInCells, recordsLent, LentRecords, AllLentRecords, recordsDone, recordsReturned, recordsStep, recordsAfter, recordsAnswers}
+use Rattle.calls.specs.Table.{Answer}
+use Rattle.calls.specs.Calls.{Called, callOn}
+use Rattle.history.specs.Storage.{Storage, areaLent, Lent, AllLent, returned, calledIn, storageStep, storageAfter, answersOf}
+use Rattle.history.specs.Recorded.{RecordStorage, RecordPart, RecordCall, inCells, callInCells, recordsLent, LentRecords, AllLentRecords, calledInRecords, recordsReturned, recordsStep, recordsAfter, recordsAnswers}
 use Rattle.history.proofs.Formed.{formed-take, formed-drop, formed-append, Leaves, call-leaves}
 
 -- ---- the cells of records
@@ -69,22 +70,22 @@ module _ (w : RecordStorage) (x : RecordCall) (f : Formed (w .records)) (l : Len
   a = recordsLent w (x .part)
 
   abbrev b : Area
-  b = recordsDone w x .area
+  b = calledInRecords w x .area
 
   lent-formed : Formed (a .run .records)
   unfolding recordsLent
   lent-formed = formed-take n (w .records) f
 
   left : Leaves a b
-  unfolding recordsDone
+  unfolding calledInRecords
   left = call-leaves a lent-formed (x .call)
 
   no-rest : b .run .rest ≡ []
   unfolding recordsLent
   no-rest = left .rest
 
-  pub done-same : doneOn (inStorage w) (callInCells x) ≡ recordsDone w x
-  unfolding doneOn recordsDone
+  pub done-same : calledIn (inStorage w) (callInCells x) ≡ calledInRecords w x
+  unfolding calledIn calledInRecords
   done-same = ap (λ (z : Area). callOn z (x .call)) (lent-area w (x .part) f l)
 
   cells-left : cellsOf (b .run) ≡ cellsFor (b .run .records)
@@ -100,7 +101,7 @@ module _ (w : RecordStorage) (x : RecordCall) (f : Formed (w .records)) (l : Len
 
   pub step-same : storageStep (inStorage w) (callInCells x) ≡ inStorage (recordsStep w x)
   unfolding storageStep
-  step-same = ap (λ (d : Done). returned (inStorage w) (inCells (x .part)) (d .area)) done-same ∙ returned-same
+  step-same = ap (λ (d : Called). returned (inStorage w) (inCells (x .part)) (d .area)) done-same ∙ returned-same
 
   pub step-formed : Formed (recordsStep w x .records)
   unfolding recordsStep recordsReturned
@@ -150,7 +151,7 @@ together w (x ∷ xs) f l =
     record {
       after = ap (λ (z : Storage). storageAfter z (map callInCells xs)) (step-same w x f (l .0)) ∙ t .after;
       answers =
-          ap₂ (λ (y : Answer) (ys : List Answer). y ∷ ys) (ap (λ (d : Done). d .answer) (done-same w x f (l .0)))
+          ap₂ (λ (y : Answer) (ys : List Answer). y ∷ ys) (ap (λ (d : Called). d .answer) (done-same w x f (l .0)))
           (ap (λ (z : Storage). answersOf z (map callInCells xs)) (step-same w x f (l .0)) ∙ t .answers);
       formed = t .formed;
       records = t .records ∙ step-records w x f (l .0);

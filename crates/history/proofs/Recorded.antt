@@ -10,7 +10,8 @@ use Rattle.encoding.specs.Encodes.{Formed}
 use Rattle.area.specs.Log.{Log}
 use Rattle.machine.specs.Steps.{startLog}
 use Rattle.soundness.specs.Clauses.{checked}
-use Rattle.calls.specs.Calls.{startCall, resultCall, crossCall}
+use Rattle.calls.specs.Table.{start, result, crossTotal}
+use Rattle.calls.specs.Calls.{callOn}
 use Rattle.records.specs.Lent.{areaOn}
 use Rattle.history.specs.Logged.{logAfter}
 use Rattle.history.specs.Storage.{Storage}
@@ -33,8 +34,8 @@ module _ (w : RecordStorage) (l : Log) (f : Formed (w .records)) (found : Found 
         sound = ap checked (sym same-area) ∙ found .sound;
         neighbours = found .neighbours;
         links = subst (LinksAgree (l .entries)) (ap (λ (u : Run). u .records) (cells-run (w .records) f)) (found .links);
-        result = λ x lent long room. ap resultCall (sym (lent-area w x f lent)) ∙ found .result (inCells x) (lent-cells w x f lent) (omega (arith, long)) room;
-        cross = λ x lent long room. ap crossCall (sym (lent-area w x f lent)) ∙ found .cross (inCells x) (lent-cells w x f lent) (omega (arith, long)) room;
+        result = λ x lent long room. ap (λ (a : Area). callOn a result .answer) (sym (lent-area w x f lent)) ∙ found .result (inCells x) (lent-cells w x f lent) (omega (arith, long)) room;
+        cross = λ x lent long room. ap (λ (a : Area). callOn a crossTotal .answer) (sym (lent-area w x f lent)) ∙ found .cross (inCells x) (lent-cells w x f lent) (omega (arith, long)) room;
         mean = found .mean;
       }
 
@@ -43,7 +44,7 @@ third-demand-on-records w first later g f lent is taken =
     let both = together w (first ∷ later) f lent in
     let demand : Demand (inStorage w) (callInCells first) (map callInCells later) g
     = third-demand (inStorage w) (callInCells first) (map callInCells later) g (all-lent w (first ∷ later) f lent) is
-    (ap (λ (a : Area). startCall a g .reply) (lent-area w (first .part) f (lent .0)) ∙ taken) in
+    (ap (λ (a : Area). callOn a (start g) .answer) (lent-area w (first .part) f (lent .0)) ∙ taken) in
     record {
       answers = sym (both .answers) ∙ demand .answers;
       never-unsound = λ y m. demand .never-unsound y (subst (List·Memᴰ y) (sym (both .answers)) m);

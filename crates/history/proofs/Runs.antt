@@ -30,10 +30,12 @@ use Rattle.published.specs.Figure.{Problem, turn, turns}
 use Rattle.published.specs.Turns.{supply, supplies, turnOn, turnsOn, Poses, Measured, StandsAt}
 use Rattle.published.proofs.Facts.{published-facts}
 use Rattle.published.proofs.Increments.{value-at}
-use Rattle.history.specs.Calls.{Call, start, deliver, promote, Part, LentCall, lengthsLent}
-use Rattle.history.specs.Logged.{refusal, noted, logAfter}
-use Rattle.history.specs.Source.{supplyCall, supplyCalls, turnCalls, lendAll, begun, logOf, callsOf}
-use Rattle.history.proofs.Moves.{moved, machineStep, promoted-settings}
+use Rattle.calls.specs.Table.{Call, start, deliver, promote, row, causesOf, effectOf, refusal, changed, stateAfter}
+use Rattle.calls.proofs.Outcomes.{promoted-settings}
+use Rattle.history.specs.Calls.{Part, LentCall, lengthsLent}
+use Rattle.history.specs.Logged.{logAfter}
+use Rattle.history.specs.Source.{supplyCall, suppliedLog, supplyCalls, turnCalls, lendAll, begun, logOf, callsOf}
+use Rattle.history.proofs.Moves.{machineStep}
 use Rattle.history.proofs.Lists.{machineAfter, after-log, after-both}
 use Rattle.history.proofs.Accepts.{some-wanted, one-fewer, supply-step, promote-step}
 
@@ -86,12 +88,12 @@ module _ (x : Part) (P : Problem) (g : Settings) (long : 512 * 27 ≤ x .cells) 
   supplies-run zero m v e c = refl
   supplies-run (suc n) m v e c =
       let h = some-wanted (m .log .entries) n c in
-      ap (λ (y : Machine). machineAfter y (lendAll x (supplyCalls P n (noted (m .log) (supplyCall P (m .log)))))) (supply-step P (lend (supplyCall P (m .log))) m (enough m e) measured h refl)
-      ∙ ap (λ (o : Log). machineAfter (supply P m) (lendAll x (supplyCalls P n o))) noted-is
+      ap (λ (y : Machine). machineAfter y (lendAll x (supplyCalls P n (suppliedLog P (m .log))))) (supply-step P (lend (supplyCall P (m .log))) m (enough m e) measured h refl)
+      ∙ ap (λ (o : Log). machineAfter (supply P m) (lendAll x (supplyCalls P n o))) supplied-is
       ∙ supplies-run n (supply P m) (supply-sound P measured m v h) (supply-settings P m ∙ e) (supply-count P measured m v h n c)
     where
-      noted-is : noted (m .log) (supplyCall P (m .log)) ≡ supply P m .log
-      noted-is = unfold noted supplyCall supply steps.deliver in refl
+      supplied-is : suppliedLog P (m .log) ≡ supply P m .log
+      supplied-is = unfold suppliedLog supply steps.deliver in refl
 
   pub turn-run : (m : Machine) → SoundMachine m → m .log .settings ≡ g → length (m .log .entries) ≤ firstWanted (m .log .entries)
       → machineAfter m (lendAll x (turnCalls P (m .log))) ≡ turnOn P m
@@ -110,7 +112,7 @@ module _ (x : Part) (P : Problem) (g : Settings) (long : 512 * 27 ≤ x .cells) 
         start-fits (lengthsLent x) g fit (tests.enough (lengthsLent x) g (omega (arith, long)) room)
 
     pub start-step : machineStep m₀ (lend (start g)) ≡ m₀
-    unfolding machineStep refusal moved
+    unfolding stateAfter refusal causesOf effectOf row changed
     start-step = rw start-clear refl
 
     begun-run : machineAfter m₀ (lendAll x (begun P g)) ≡ turnsOn P g 0

@@ -17,22 +17,22 @@ use Rattle.calls.proofs.Tests as tests
 use Rattle.published.specs.Figure.{Problem, goesOn, turns}
 use Rattle.published.specs.Turns.{StandsAt}
 use Rattle.published.proofs.Facts.{published-facts}
-use Rattle.history.specs.Calls.{promote, Answer, answer}
-use Rattle.history.specs.Logged.{refusal, reply, bufferOf, answerBy}
+use Rattle.calls.specs.Table.{promote, result, Answer, answer, row, acceptedAnswer, refusedAnswer, refusal, answerOf}
+use Rattle.history.specs.Logged.{stateOf, answerBy}
 use Rattle.history.specs.Source.{Follows}
 use Rattle.history.proofs.Moves.{Fine, combined}
 use Rattle.history.proofs.Accepts.{promote-answer}
 
 -- a promotion that answers met is met
 met-outcome : (z : Lengths) (l : Log) → answerBy z l promote ≡ answer (promotion rule.met) → rule.promote l .outcome ≡ rule.met
-unfolding answerBy reply
-met-outcome z l e = step (eqb (refusal z l promote) 0) e
+unfolding answerBy answerOf acceptedAnswer refusedAnswer row stateOf
+met-outcome z l e = step (eqb (refusal z true l promote) 0) e
   where
-    step : (t : Bool) → cond {A = Answer} t (answer (promotion (rule.promote l .outcome))) (record { reply = refused (refusal z l promote); buffer = bufferOf promote }) ≡ answer (promotion rule.met)
+    step : (t : Bool) → cond {A = Answer} t (answer (promotion (rule.promote l .outcome))) (answer (refused (refusal z true l promote))) ≡ answer (promotion rule.met)
         → rule.promote l .outcome ≡ rule.met
     step true f = let k : promotion (rule.promote l .outcome) ≡ promotion rule.met = ap (λ (v : Answer). v .reply) f in cc
     step false f =
-        let k : refused (refusal z l promote) ≡ promotion rule.met = ap (λ (v : Answer). v .reply) f in
+        let k : refused (refusal z true l promote) ≡ promotion rule.met = ap (λ (v : Answer). v .reply) f in
         let y : _≡_ {A = ℕ} 0 1 = cc in
         absurd (omega arith)
 

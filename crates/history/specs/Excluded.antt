@@ -24,9 +24,10 @@ use Rattle.machine.specs.Counts.{ceilingCount}
 use Rattle.machine.specs.Means.{crossOf}
 use Rattle.writing.specs.Settled.{Settled}
 use Rattle.calls.specs.Replies.{refused, accepted, promotion, counts, total, verdict}
-use Rattle.calls.specs.Calls.{startCall, deliverCall}
-use Rattle.history.specs.Calls.{Call, start, point, deliver, promote, result, crossTotal, check, LentCall, Answer, answer}
-use Rattle.history.specs.Logged.{refusal, answersBy}
+use Rattle.calls.specs.Table.{Call, start, point, deliver, promote, result, crossTotal, check, Answer, answer}
+use Rattle.calls.specs.Calls.{callOn}
+use Rattle.history.specs.Calls.{LentCall}
+use Rattle.history.specs.Logged.{refusalBy, answersBy}
 
 -- The entries with the selected refined.
 abbrev pub refined : Log → List Entry
@@ -46,11 +47,11 @@ Passes l = (512 < length (refined l)) ⊎ (l .settings .budget < reservedBy (ref
 pub record Excluded : Type 0 where
   -- "refuses all starts or deliveries": no cause but the table's
   pub starts : (a : Area) (g : Settings) → SettingsFit g → 512 ≤ length (a .run .records) → leastStore g ≤ length (a .store)
-      → startCall a g .reply ≡ accepted
+      → callOn a (start g) .answer ≡ answer accepted
   pub accepted-deliveries : (a : Area) (rs : List ℤ) (i : ℕ) → Settled a → anyWanted (entriesOf a) ≡ true
-      → length rs ≡ readingCount (a .job .settings) (wantedIndex (entriesOf a)) → inRange rs ≡ true → deliverCall a rs i .reply ≡ accepted
+      → length rs ≡ readingCount (a .job .settings) (wantedIndex (entriesOf a)) → inRange rs ≡ true → callOn a (deliver rs i) .answer ≡ answer accepted
   pub deliveries : (z : Lengths) (l : Log) (rs : List ℤ) (i : ℕ) → 512 ≤ z .records → leastStore (l .settings) ≤ z .readings → anyWanted (l .entries) ≡ true
-      → length rs ≡ readingCount (l .settings) (wantedIndex (l .entries)) → inRange rs ≡ true → refusal z l (deliver rs i) ≡ 0
+      → length rs ≡ readingCount (l .settings) (wantedIndex (l .entries)) → inRange rs ≡ true → refusalBy z l (deliver rs i) ≡ 0
   -- "reports one fixed mean": the root's reading times 2^20 after its delivery
   pub means : (crossOf (deliverLog (startLog (settingsOf 3 0 9)) (pos 1 ∷ []) 7 .entries) ≡ pos (2 ^ 20)) × (crossOf (deliverLog (startLog (settingsOf 3 0 9)) (pos 2 ∷ []) 7 .entries) ≡ pos (2 * 2 ^ 20))
   -- "acknowledges calls, area untouched": the log changes, and the held records are the log's entries (`Found.entries`)

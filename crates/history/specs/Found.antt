@@ -20,9 +20,10 @@ use Rattle.machine.specs.Steps.{startLog}
 use Rattle.machine.specs.Counts.{countsOf}
 use Rattle.machine.specs.Means.{meanOf, crossOf}
 use Rattle.calls.specs.Replies.{refused, accepted, counts, total}
-use Rattle.calls.specs.Calls.{startCall, resultCall, crossCall}
-use Rattle.history.specs.Calls.{start, Part, LentCall, Answer, answer}
-use Rattle.history.specs.Logged.{logAfter, answersBy}
+use Rattle.calls.specs.Table.{start, result, crossTotal, Answer, answer}
+use Rattle.calls.specs.Calls.{callOn}
+use Rattle.history.specs.Calls.{Part, LentCall}
+use Rattle.history.specs.Logged.{stateOf, logAfter, answersBy}
 use Rattle.history.specs.Storage.{Storage, areaLent, Lent, AllLent, storageAfter, answersOf}
 
 -- About neighbours: d is the number of axes, es the log's entries.
@@ -55,7 +56,7 @@ pub record Found (w : Storage) (l : Log) : Type 0 where
   -- the indicators are 0 while wanted
   pub idle : (p : ℕ) → p < length (l .entries) → entryAt (l .entries) p .state ≡ 0 → entryAt (l .entries) p .indicator ≡ 0
   -- the job record is worked from the log
-  pub job : w .job ≡ jobWith (record { log = l; mean = crossOf (l .entries) })
+  pub job : w .job ≡ jobWith (stateOf l)
   -- the area is sound
   pub sound : checked (areaOf (w .job) (w .cells) (w .store)) ≡ true
   pub neighbours : Neighbours (l .settings .axes) (l .entries)
@@ -63,8 +64,8 @@ pub record Found (w : Storage) (l : Log) : Type 0 where
   -- result and cross total, called on storage that is long enough, answer one and the same mean: the sum of full tensor rules over the
   -- delivered indices, each times its combination coefficient
   pub result : (x : Part) → Lent w x → 512 * 27 ≤ x .cells → leastStore (l .settings) ≤ x .readings
-      → resultCall (areaLent w x) ≡ counts (countsOf (record { log = l; mean = crossOf (l .entries) }))
-  pub cross : (x : Part) → Lent w x → 512 * 27 ≤ x .cells → leastStore (l .settings) ≤ x .readings → crossCall (areaLent w x) ≡ total (crossOf (l .entries))
+      → callOn (areaLent w x) result .answer ≡ answer (counts (countsOf (stateOf l)))
+  pub cross : (x : Part) → Lent w x → 512 * 27 ≤ x .cells → leastStore (l .settings) ≤ x .readings → callOn (areaLent w x) crossTotal .answer ≡ answer (total (crossOf (l .entries)))
   -- which is also the sum of the delivered indices' differences
   pub mean : crossOf (l .entries) ≡ meanOf (l .entries)
 
@@ -82,4 +83,4 @@ pub record Demand (w : Storage) (first : LentCall) (later : List LentCall) (g : 
 -- The claim, one over the whole list.
 abbrev pub ThirdDemand : Type 0
 ThirdDemand = (w : Storage) (first : LentCall) (later : List LentCall) (g : Settings) → AllLent w (first ∷ later)
-    → first .call ≡ start g → startCall (areaLent w (first .part)) g .reply ≡ accepted → Demand w first later g
+    → first .call ≡ start g → callOn (areaLent w (first .part)) (start g) .answer ≡ answer accepted → Demand w first later g

@@ -20,11 +20,11 @@ use Rattle.machine.specs.Steps.{startLog}
 use Rattle.machine.specs.Counts.{countsOf}
 use Rattle.machine.specs.Means.{meanOf, crossOf}
 use Rattle.calls.specs.Replies.{refused, accepted, counts, total}
-use Rattle.calls.specs.Calls.{startCall, resultCall, crossCall}
+use Rattle.calls.specs.Table.{Call, start, result, crossTotal, Answer, answer}
+use Rattle.calls.specs.Calls.{Called, callOn}
 use Rattle.records.specs.Lent.{areaOn}
-use Rattle.history.specs.Calls.{Call, start, Part, LentCall, Answer, answer}
-use Rattle.history.specs.Logged.{logAfter, answersBy}
-use Rattle.history.specs.Storage.{Done, callOn}
+use Rattle.history.specs.Calls.{Part, LentCall}
+use Rattle.history.specs.Logged.{stateOf, logAfter, answersBy}
 use Rattle.history.specs.Found.{Neighbours, LinksAgree}
 
 pub record RecordStorage : Type 0 where
@@ -63,15 +63,15 @@ abbrev pub AllLentRecords : RecordStorage → List RecordCall → Type 0
 AllLentRecords w [] = Unit {0}
 AllLentRecords w (x ∷ xs) = LentRecords w (x .part) × AllLentRecords w xs
 
-unfoldable pub recordsDone : RecordStorage → RecordCall → Done
-recordsDone w x = callOn (recordsLent w (x .part)) (x .call)
+unfoldable pub calledInRecords : RecordStorage → RecordCall → Called
+calledInRecords w x = callOn (recordsLent w (x .part)) (x .call)
 
 -- The area as the call leaves it, back in its place; what was not lent stays.
 unfoldable pub recordsReturned : RecordStorage → RecordPart → Area → RecordStorage
 recordsReturned w x a = record { job = a .job; records = a .run .records ++ drop (x .records) (w .records); store = a .store ++ drop (x .readings) (w .store) }
 
 unfoldable pub recordsStep : RecordStorage → RecordCall → RecordStorage
-recordsStep w x = recordsReturned w (x .part) (recordsDone w x .area)
+recordsStep w x = recordsReturned w (x .part) (calledInRecords w x .area)
 
 unfoldable pub recordsAfter : RecordStorage → List RecordCall → RecordStorage
 recordsAfter w [] = w
@@ -79,7 +79,7 @@ recordsAfter w (x ∷ xs) = recordsAfter (recordsStep w x) xs
 
 unfoldable pub recordsAnswers : RecordStorage → List RecordCall → List Answer
 recordsAnswers w [] = []
-recordsAnswers w (x ∷ xs) = recordsDone w x .answer ∷ recordsAnswers (recordsStep w x) xs
+recordsAnswers w (x ∷ xs) = calledInRecords w x .answer ∷ recordsAnswers (recordsStep w x) xs
 
 -- ---- what is found, field by field as in Found.antt
 
@@ -89,15 +89,15 @@ pub record RecordsFound (w : RecordStorage) (l : Log) : Type 0 where
   -- the indicators are 0 while wanted
   pub idle : (p : ℕ) → p < length (l .entries) → entryAt (l .entries) p .state ≡ 0 → entryAt (l .entries) p .indicator ≡ 0
   -- the job record is worked from the log
-  pub job : w .job ≡ jobWith (record { log = l; mean = crossOf (l .entries) })
+  pub job : w .job ≡ jobWith (stateOf l)
   -- the area is sound
   pub sound : checked (areaOn (w .job) (w .records) (w .store)) ≡ true
   pub neighbours : Neighbours (l .settings .axes) (l .entries)
   pub links : LinksAgree (l .entries) (w .records)
   -- result and cross total, called on storage that is long enough, answer one and the same mean
   pub result : (x : RecordPart) → LentRecords w x → 512 ≤ x .records → leastStore (l .settings) ≤ x .readings
-      → resultCall (recordsLent w x) ≡ counts (countsOf (record { log = l; mean = crossOf (l .entries) }))
-  pub cross : (x : RecordPart) → LentRecords w x → 512 ≤ x .records → leastStore (l .settings) ≤ x .readings → crossCall (recordsLent w x) ≡ total (crossOf (l .entries))
+      → callOn (recordsLent w x) result .answer ≡ answer (counts (countsOf (stateOf l)))
+  pub cross : (x : RecordPart) → LentRecords w x → 512 ≤ x .records → leastStore (l .settings) ≤ x .readings → callOn (recordsLent w x) crossTotal .answer ≡ answer (total (crossOf (l .entries)))
   -- which is also the sum of the delivered indices' differences
   pub mean : crossOf (l .entries) ≡ meanOf (l .entries)
 
@@ -116,4 +116,4 @@ pub record RecordsDemand (w : RecordStorage) (first : RecordCall) (later : List 
 -- `records`, proofs/Typed.antt), so that is asked of the list.
 abbrev pub ThirdDemandOnRecords : Type 0
 ThirdDemandOnRecords = (w : RecordStorage) (first : RecordCall) (later : List RecordCall) (g : Settings) → Formed (w .records) → AllLentRecords w (first ∷ later)
-    → first .call ≡ start g → startCall (recordsLent w (first .part)) g .reply ≡ accepted → RecordsDemand w first later g
+    → first .call ≡ start g → callOn (recordsLent w (first .part)) (start g) .answer ≡ answer accepted → RecordsDemand w first later g

@@ -17,16 +17,17 @@ use Rattle.encoding.specs.Entries.{EnteredOld}
 use Rattle.machine.specs.Log.{anyWanted, wantedIndex}
 use Rattle.machine.specs.Promote as rule
 use Rattle.machine.specs.Counts.{countOf}
-use Rattle.machine.specs.Steps.{startLog}
+use Rattle.machine.specs.Steps.{startLog, deliverLog}
 use Rattle.machine.specs.Causes.{Lengths}
 use Rattle.machine.specs.Means.{crossOf}
 use Rattle.calls.specs.Replies.{accepted, promotion}
-use Rattle.calls.specs.Calls.{startCall}
+use Rattle.calls.specs.Table.{Call, start, deliver, promote, Answer, answer}
+use Rattle.calls.specs.Calls.{callOn}
 use Rattle.published.specs.Figure.{Problem, increment, goesOn, turns}
 use Rattle.published.specs.Turns.{activeOf, Poses, Measured, Supplied}
 use Rattle.published.specs.Sums.{Read}
-use Rattle.history.specs.Calls.{Call, start, deliver, promote, Part, LentCall, Answer, answer}
-use Rattle.history.specs.Logged.{noted, logAfter, answerBy}
+use Rattle.history.specs.Calls.{Part, LentCall}
+use Rattle.history.specs.Logged.{logAfter, answerBy}
 use Rattle.history.specs.Storage.{Storage, areaLent, Lent, AllLent, storageAfter, answersOf}
 use Rattle.history.specs.Found.{Found}
 
@@ -42,7 +43,7 @@ pub record MeanFollows (l : Log) : Type 0 where
 
 abbrev pub MeansFollow : Type 0
 MeansFollow = (w : Storage) (first : LentCall) (later : List LentCall) (g : Settings) → AllLent w (first ∷ later)
-    → first .call ≡ start g → startCall (areaLent w (first .part)) g .reply ≡ accepted → MeanFollows (logAfter (startLog g) later)
+    → first .call ≡ start g → callOn (areaLent w (first .part)) (start g) .answer ≡ answer accepted → MeanFollows (logAfter (startLog g) later)
 
 -- ---- where Fig. 1 stands, after every list of calls
 
@@ -70,7 +71,7 @@ pub record StepsFollow (l : Log) : Type 0 where
 
 abbrev pub StepsFollowAll : Type 0
 StepsFollowAll = (w : Storage) (first : LentCall) (later : List LentCall) (g : Settings) → AllLent w (first ∷ later)
-    → first .call ≡ start g → startCall (areaLent w (first .part)) g .reply ≡ accepted → StepsFollow (logAfter (startLog g) later)
+    → first .call ≡ start g → callOn (areaLent w (first .part)) (start g) .answer ≡ answer accepted → StepsFollow (logAfter (startLog g) later)
 
 -- ---- a whole run
 
@@ -78,10 +79,14 @@ StepsFollowAll = (w : Storage) (first : LentCall) (later : List LentCall) (g : S
 unfoldable pub supplyCall : Problem → Log → Call
 supplyCall P l = deliver (map (P .integrand) (block (wantedIndex (l .entries)))) (P .indicator (wantedIndex (l .entries)))
 
+-- The log after it.
+unfoldable pub suppliedLog : Problem → Log → Log
+suppliedLog P l = deliverLog l (map (P .integrand) (block (wantedIndex (l .entries)))) (P .indicator (wantedIndex (l .entries)))
+
 -- n deliveries.
 unfoldable pub supplyCalls : Problem → ℕ → Log → List Call
 supplyCalls P zero l = []
-supplyCalls P (suc n) l = supplyCall P l ∷ supplyCalls P n (noted l (supplyCall P l))
+supplyCalls P (suc n) l = supplyCall P l ∷ supplyCalls P n (suppliedLog P l)
 
 -- A promotion, and the deliveries of all that it admitted: nothing is wanted before it, so what is wanted after it is what it admitted.
 unfoldable pub turnCalls : Problem → Log → List Call

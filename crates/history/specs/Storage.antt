@@ -1,5 +1,5 @@
 -- The work area as the caller has it, and what a list of calls leaves in it and answers, by the very definitions that the calls' contracts
--- cite (crate `calls`, specs/Calls.antt; check: crate `soundness`, specs/Clauses.antt). Each call finds the area as the one before left it.
+-- cite (crate `calls`, specs/Calls.antt). Each call finds the area as the one before left it.
 use mathlib.Core.List.{List, [], _∷_, _++_}
 use Prim.Native.Nat.{ℕ, _≤_}
 use lib.IntN.{ℤ}
@@ -7,10 +7,9 @@ use lib.ListN.{length, take, drop}
 use Rattle.area.specs.declared.JobRecord.{JobRecord}
 use Rattle.area.specs.Records.{cellsOf}
 use Rattle.area.specs.Encoding.{Area, areaOf}
-use Rattle.soundness.specs.Clauses.{checked}
-use Rattle.calls.specs.Replies.{verdict}
-use Rattle.calls.specs.Calls.{startCall, pointCall, deliverCall, promoteCall, resultCall, crossCall}
-use Rattle.history.specs.Calls.{Call, start, point, deliver, promote, result, crossTotal, check, Part, LentCall, Answer, answer}
+use Rattle.calls.specs.Table.{Answer}
+use Rattle.calls.specs.Calls.{Called, callOn}
+use Rattle.history.specs.Calls.{Part, LentCall}
 
 pub record Storage : Type 0 where
   pub job : JobRecord
@@ -32,28 +31,15 @@ AllLent w (x ∷ xs) = Lent w (x .part) × AllLent w xs
 
 -- ---- one call
 
-pub record Done : Type 0 where
-  pub answer : Answer
-  pub area : Area
-
-unfoldable pub callOn : Area → Call → Done
-callOn a (start g) = record { answer = answer (startCall a g .reply); area = startCall a g .area }
-callOn a (point n buffer) = record { answer = record { reply = pointCall a n buffer .reply; buffer = pointCall a n buffer .buffer }; area = a }
-callOn a (deliver rs i) = record { answer = answer (deliverCall a rs i .reply); area = deliverCall a rs i .area }
-callOn a promote = record { answer = answer (promoteCall a .reply); area = promoteCall a .area }
-callOn a result = record { answer = answer (resultCall a); area = a }
-callOn a crossTotal = record { answer = answer (crossCall a); area = a }
-callOn a check = record { answer = answer (verdict (checked a)); area = a }
-
 -- The area as the call leaves it, back in its place; what was not lent stays.
 unfoldable pub returned : Storage → Part → Area → Storage
 returned w x a = record { job = a .job; cells = cellsOf (a .run) ++ drop (x .cells) (w .cells); store = a .store ++ drop (x .readings) (w .store) }
 
-unfoldable pub doneOn : Storage → LentCall → Done
-doneOn w x = callOn (areaLent w (x .part)) (x .call)
+unfoldable pub calledIn : Storage → LentCall → Called
+calledIn w x = callOn (areaLent w (x .part)) (x .call)
 
 unfoldable pub storageStep : Storage → LentCall → Storage
-storageStep w x = returned w (x .part) (doneOn w x .area)
+storageStep w x = returned w (x .part) (calledIn w x .area)
 
 -- ---- a list of calls
 
@@ -63,4 +49,4 @@ storageAfter w (x ∷ xs) = storageAfter (storageStep w x) xs
 
 unfoldable pub answersOf : Storage → List LentCall → List Answer
 answersOf w [] = []
-answersOf w (x ∷ xs) = doneOn w x .answer ∷ answersOf (storageStep w x) xs
+answersOf w (x ∷ xs) = calledIn w x .answer ∷ answersOf (storageStep w x) xs

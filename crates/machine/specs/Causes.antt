@@ -1,6 +1,6 @@
 -- What refuses a call ("Causes and numbers"): for each call its rows of the table, in the table's order. The tests are worked from the
 -- arguments, the lengths of the lent storage, the log, and whether the area is sound.
-use mathlib.Core.Bool.{Bool, true, not, cond, _&&_}
+use mathlib.Core.Bool.{Bool, true, false, not, cond, _&&_}
 use mathlib.Core.List.{List, [], _∷_}
 use Prim.Native.Nat.{ℕ}
 use lib.Dec.{leb, eqb}
@@ -43,27 +43,40 @@ inRange (x ∷ xs) = leb (natAbs x) 1048576 && inRange xs
 unfoldable pub startCauses : Lengths → Settings → List Cause
 startCauses z g = cause (not (axesFit g)) 1 ∷ cause (not (budgetFit g)) 2 ∷ cause (short z g) 3 ∷ []
 
--- The point's number is n, and the lent buffer has w bytes.
-unfoldable pub pointCauses : Lengths → Bool → Log → (n w : ℕ) → List Cause
-pointCauses z sound l n w =
-    cause (short z (l .settings)) 3
-    ∷ cause (not (leb (l .settings .axes) w)) 3
-    ∷ cause (not sound) 4
-    ∷ cause (not (anyWanted (l .entries))) 5
-    ∷ cause (leb (blockSize (wantedIndex (l .entries))) n) 9
-    ∷ []
+-- What every call but start and check asks before its own causes: storage that is not too short, nor, where it writes into a lent buffer, a
+-- buffer that is (`narrow`), 3; a sound area, 4.
+abbrev pub jobCauses : Lengths → (sound : Bool) → Settings → (narrow : Bool) → (own : List Cause) → List Cause
+jobCauses z sound g narrow own = cause (cond narrow true (short z g)) 3 ∷ cause (not sound) 4 ∷ own
 
-unfoldable pub deliverCauses : Lengths → Bool → Log → List ℤ → List Cause
-deliverCauses z sound l readings =
-    cause (short z (l .settings)) 3
-    ∷ cause (not sound) 4
-    ∷ cause (not (anyWanted (l .entries))) 5
+-- Point's own causes: no block wanted; the point's number n not below the block's size.
+abbrev pub pointOwn : Log → ℕ → List Cause
+pointOwn l n = cause (not (anyWanted (l .entries))) 5 ∷ cause (leb (blockSize (wantedIndex (l .entries))) n) 9 ∷ []
+
+-- Its buffer of w bytes is under d.
+abbrev pub narrowFor : Settings → ℕ → Bool
+narrowFor g w = not (leb (g .axes) w)
+
+unfoldable pub pointCauses : Lengths → Bool → Log → (n w : ℕ) → List Cause
+pointCauses z sound l n w = jobCauses z sound (l .settings) (narrowFor (l .settings) w) (pointOwn l n)
+
+-- Deliver's: no block wanted; the reading count is not the block's; a reading out of range.
+abbrev pub deliverOwn : Log → List ℤ → List Cause
+deliverOwn l readings =
+    cause (not (anyWanted (l .entries))) 5
     ∷ cause (not (eqb (length readings) (readingCount (l .settings) (wantedIndex (l .entries))))) 7
     ∷ cause (not (inRange readings)) 8
     ∷ []
 
-unfoldable pub promoteCauses : Lengths → Bool → Log → List Cause
-promoteCauses z sound l = cause (short z (l .settings)) 3 ∷ cause (not sound) 4 ∷ cause (anyWanted (l .entries)) 6 ∷ []
+unfoldable pub deliverCauses : Lengths → Bool → Log → List ℤ → List Cause
+deliverCauses z sound l readings = jobCauses z sound (l .settings) false (deliverOwn l readings)
 
+-- Promote's: a block wanted.
+abbrev pub promoteOwn : Log → List Cause
+promoteOwn l = cause (anyWanted (l .entries)) 6 ∷ []
+
+unfoldable pub promoteCauses : Lengths → Bool → Log → List Cause
+promoteCauses z sound l = jobCauses z sound (l .settings) false (promoteOwn l)
+
+-- Result and cross total have none of their own.
 unfoldable pub resultCauses : Lengths → Bool → Log → List Cause
-resultCauses z sound l = cause (short z (l .settings)) 3 ∷ cause (not sound) 4 ∷ []
+resultCauses z sound l = jobCauses z sound (l .settings) false []

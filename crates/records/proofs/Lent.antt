@@ -15,9 +15,11 @@ use Rattle.area.specs.declared.JobRecord.{JobRecord}
 use Rattle.area.specs.Records.{recordsOf}
 use Rattle.area.specs.Encoding.{Area}
 use Rattle.calls.specs.declared.Answered.{Answered}
-use Rattle.calls.specs.Replies.{Called}
+use Rattle.calls.specs.Table.{Call}
+use Rattle.calls.specs.Calls.{Called, callOn}
 use Rattle.records.specs.Lent.{areaOn, calledOn, lesser, over, front}
 use Rattle.records.proofs.Orders.{less-or}
+use Rattle.records.proofs.Longer.{call-longer}
 use Rattle.records.specs.Facts.{longer, calledLonger}
 
 lesser-few : (m n : ℕ) → m < n → lesser m n ≡ m
@@ -52,29 +54,31 @@ module _ (j : JobRecord) (rs : List IndexRecord) (s : List ℤ) where
         | inr h ↦ (ap (λ (k : ℕ). f (part k)) (lesser-many (length rs) 512 h) ∙ sym (same (part 512) (drop 512 rs) (room h)) ∙ ap f (whole 512))
       ]
 
+  pub front-answer : (c : Call) → callOn (part n) c .answer ≡ callOn all c .answer
+  front-answer c = front-answers (λ (a : Area). callOn a c .answer) (λ a more h. ap (λ (x : Called). x .answer) (call-longer a more h c))
+
   -- what also writes
-  abbrev Longer : (Area → Called) → Type 0
-  Longer f = (a : Area) (more : List IndexRecord) → 512 ≤ length (a .run .records) → f (longer a more) ≡ calledLonger (f a) more
+  unlonger : (x : Called) → calledLonger x [] ≡ x
+  unlonger x = ap {B = Called} (λ (l : List IndexRecord). record { answer = x .answer; area = record { job = x .area .job; run = record { records = l; rest = x .area .run .rest }; store = x .area .store } }) (append-nil (x .area .run .records))
 
-  unlonger : (c : Called) → calledLonger c [] ≡ c
-  unlonger c = ap {B = Called} (λ (l : List IndexRecord). record { reply = c .reply; area = record { job = c .area .job; run = record { records = l; rest = c .area .run .rest }; store = c .area .store } }) (append-nil (c .area .run .records))
-
-  front-calls : (f : Area → Called) → Longer f → calledLonger (f (part n)) (drop n rs) ≡ f all
-  front-calls f same =
+  front-calls : (c : Call) → calledLonger (callOn (part n) c) (drop n rs) ≡ callOn all c
+  front-calls c =
       elim (less-or (length rs) 512) [
-        | inl h ↦ (ap (λ (k : ℕ). calledLonger (f (part k)) (drop k rs)) (lesser-few (length rs) 512 h)
-            ∙ ap (λ (l : List IndexRecord). calledLonger (f (areaOn j l s)) (drop (length rs) rs)) (take-length rs)
-            ∙ ap (λ (l : List IndexRecord). calledLonger (f all) l) (drop-length rs)
-            ∙ unlonger (f all))
-        | inr h ↦ (ap (λ (k : ℕ). calledLonger (f (part k)) (drop k rs)) (lesser-many (length rs) 512 h) ∙ sym (same (part 512) (drop 512 rs) (room h)) ∙ ap f (whole 512))
+        | inl h ↦ (ap (λ (k : ℕ). calledLonger (callOn (part k) c) (drop k rs)) (lesser-few (length rs) 512 h)
+            ∙ ap (λ (l : List IndexRecord). calledLonger (callOn (areaOn j l s) c) (drop (length rs) rs)) (take-length rs)
+            ∙ ap (λ (l : List IndexRecord). calledLonger (callOn all c) l) (drop-length rs)
+            ∙ unlonger (callOn all c))
+        | inr h ↦ (ap (λ (k : ℕ). calledLonger (callOn (part k) c) (drop k rs)) (lesser-many (length rs) 512 h)
+            ∙ sym (call-longer (part 512) (drop 512 rs) (room h) c)
+            ∙ ap (λ (a : Area). callOn a c) (whole 512))
       ]
 
   -- the front's records go back over the lent ones
-  pub front-leaves : (f : Area → Called) → Longer f → (r : Answered) (c : List ℕ) (t : List ℤ) (l : List IndexRecord) (k : ℕ) → k ≡ n
-      → calledOn r (front k c) t ≡ f (part k) → l ≡ over k (recordsOf c) rs → calledOn r l t ≡ f all
+  pub front-leaves : (c : Call) (r : Answered) (w : List ℕ) (t : List ℤ) (l : List IndexRecord) (k : ℕ) → k ≡ n
+      → calledOn r (front k w) t ≡ callOn (part k) c → l ≡ over k (recordsOf w) rs → calledOn r l t ≡ callOn all c
   unfolding over front
-  front-leaves f same r c t l k e called put =
+  front-leaves c r w t l k e called put =
       ap (λ (x : List IndexRecord). calledOn r x t) put
       ∙ ap (λ (x : Called). calledLonger x (drop k rs)) called
-      ∙ ap (λ (m : ℕ). calledLonger (f (part m)) (drop m rs)) e
-      ∙ front-calls f same
+      ∙ ap (λ (m : ℕ). calledLonger (callOn (part m) c) (drop m rs)) e
+      ∙ front-calls c

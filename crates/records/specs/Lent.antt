@@ -11,14 +11,16 @@ use Rattle.area.specs.declared.JobRecord.{JobRecord}
 use Rattle.area.specs.Records.{Run, recordsOf}
 use Rattle.area.specs.Encoding.{Area}
 use Rattle.calls.specs.declared.Answered.{Answered}
-use Rattle.calls.specs.Replies.{Called, replyOf}
+use Rattle.calls.specs.Replies.{replyOf}
+use Rattle.calls.specs.Table.{answer}
+use Rattle.calls.specs.Calls.{Called}
 
 abbrev pub areaOn : JobRecord → List IndexRecord → List ℤ → Area
 areaOn j rs s = record { job = j; run = record { records = rs; rest = [] }; store = s }
 
 -- What a call leaves: its answer, and the area over the records as they are then.
 abbrev pub calledOn : Answered → List IndexRecord → List ℤ → Called
-calledOn r rs s = record { reply = replyOf (r .answer); area = areaOn (r .job) rs s }
+calledOn r rs s = record { answer = answer (replyOf (r .answer)); area = areaOn (r .job) rs s }
 
 -- ---- for the functions between the records and the cells
 

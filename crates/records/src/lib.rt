@@ -6,7 +6,8 @@ ghost use lib.ListN.{length, getD, set, take};
 ghost use Rattle.area.specs.Records.{recordsOf, runOf, blank};
 ghost use Rattle.soundness.specs.Clauses.{checked};
 ghost use Rattle.calls.specs.Replies.{replyOf, resultedOf, totalledOf};
-ghost use Rattle.calls.specs.Calls.{startCall, pointCall, deliverCall, promoteCall, resultCall, crossCall};
+ghost use Rattle.calls.specs.Table.{start, point, deliver, promote, result, crossTotal, answer};
+ghost use Rattle.calls.specs.Calls.{callOn};
 ghost use Rattle.records.specs.Lent.{areaOn, calledOn, lesser, over, overRun, front};
 
 // As many records as a job can hold.
@@ -107,7 +108,7 @@ fn flat_start(
     store: &[i32],
 ) -> FlatCalled
     requires { ⌜ flat .count ≤ 512 ⌝ }
-    ensures { λ r. ⌜ calledOn (r .answer) (front (flat .count) (r .words)) (now (store .entry)) ≡ startCall (areaOn job (front (flat .count) (flat .words)) (now (store .entry))) settings ⌝ }
+    ensures { λ r. ⌜ calledOn (r .answer) (front (flat .count) (r .words)) (now (store .entry)) ≡ callOn (areaOn job (front (flat .count) (flat .words)) (now (store .entry))) (start settings) ⌝ }
 {
     let mut words = flat.words;
     let answer = calls::start(job, settings, &mut words[..flat.count * 27], store);
@@ -122,7 +123,7 @@ fn flat_point(
     buffer: &mut [u8],
 ) -> calls::Answer
     requires { ⌜ flat .count ≤ 512 ⌝ }
-    ensures { λ r. ⌜ record { reply = replyOf r; buffer = now (buffer .exit) } ≡ pointCall (areaOn job (front (flat .count) (flat .words)) (now (store .entry))) n (now (buffer .entry)) ⌝ }
+    ensures { λ r. ⌜ record { reply = replyOf r; buffer = now (buffer .exit) } ≡ callOn (areaOn job (front (flat .count) (flat .words)) (now (store .entry))) (point n (now (buffer .entry))) .answer ⌝ }
 {
     let words = flat.words;
     calls::point(job, n, &words[..flat.count * 27], store, buffer)
@@ -136,7 +137,7 @@ fn flat_deliver(
     store: &mut [i32],
 ) -> FlatCalled
     requires { ⌜ flat .count ≤ 512 ⌝ }
-    ensures { λ r. ⌜ calledOn (r .answer) (front (flat .count) (r .words)) (now (store .exit)) ≡ deliverCall (areaOn job (front (flat .count) (flat .words)) (now (store .entry))) (now (readings .entry)) indicator ⌝ }
+    ensures { λ r. ⌜ calledOn (r .answer) (front (flat .count) (r .words)) (now (store .exit)) ≡ callOn (areaOn job (front (flat .count) (flat .words)) (now (store .entry))) (deliver (now (readings .entry)) indicator) ⌝ }
 {
     let mut words = flat.words;
     let answer = calls::deliver(
@@ -151,7 +152,7 @@ fn flat_deliver(
 
 fn flat_promote(job: area::JobRecord, flat: Flat, store: &[i32]) -> FlatCalled
     requires { ⌜ flat .count ≤ 512 ⌝ }
-    ensures { λ r. ⌜ calledOn (r .answer) (front (flat .count) (r .words)) (now (store .entry)) ≡ promoteCall (areaOn job (front (flat .count) (flat .words)) (now (store .entry))) ⌝ }
+    ensures { λ r. ⌜ calledOn (r .answer) (front (flat .count) (r .words)) (now (store .entry)) ≡ callOn (areaOn job (front (flat .count) (flat .words)) (now (store .entry))) promote ⌝ }
 {
     let mut words = flat.words;
     let answer = calls::promote(job, &mut words[..flat.count * 27], store);
@@ -160,7 +161,7 @@ fn flat_promote(job: area::JobRecord, flat: Flat, store: &[i32]) -> FlatCalled
 
 fn flat_result(job: area::JobRecord, flat: Flat, store: &[i32]) -> calls::Resulted
     requires { ⌜ flat .count ≤ 512 ⌝ }
-    ensures { λ r. ⌜ resultedOf r ≡ resultCall (areaOn job (front (flat .count) (flat .words)) (now (store .entry))) ⌝ }
+    ensures { λ r. ⌜ answer (resultedOf r) ≡ callOn (areaOn job (front (flat .count) (flat .words)) (now (store .entry))) result .answer ⌝ }
 {
     let words = flat.words;
     calls::result(job, &words[..flat.count * 27], store)
@@ -168,7 +169,7 @@ fn flat_result(job: area::JobRecord, flat: Flat, store: &[i32]) -> calls::Result
 
 fn flat_cross_total(job: area::JobRecord, flat: Flat, store: &[i32]) -> calls::Totalled
     requires { ⌜ flat .count ≤ 512 ⌝ }
-    ensures { λ r. ⌜ totalledOf r ≡ crossCall (areaOn job (front (flat .count) (flat .words)) (now (store .entry))) ⌝ }
+    ensures { λ r. ⌜ answer (totalledOf r) ≡ callOn (areaOn job (front (flat .count) (flat .words)) (now (store .entry))) crossTotal .answer ⌝ }
 {
     let words = flat.words;
     calls::cross_total(job, &words[..flat.count * 27], store)
@@ -191,7 +192,7 @@ pub fn start(
     records: &mut [area::IndexRecord],
     store: &[i32],
 ) -> calls::Answered
-    ensures { λ r. ⌜ calledOn r (now (records .exit)) (now (store .entry)) ≡ startCall (areaOn job (now (records .entry)) (now (store .entry))) settings ⌝ }
+    ensures { λ r. ⌜ calledOn r (now (records .exit)) (now (store .entry)) ≡ callOn (areaOn job (now (records .entry)) (now (store .entry))) (start settings) ⌝ }
 {
     let flat = flatten(records);
     let done = flat_start(job, settings, flat, store);
@@ -207,7 +208,7 @@ pub fn point(
     store: &[i32],
     buffer: &mut [u8],
 ) -> calls::Answer
-    ensures { λ r. ⌜ record { reply = replyOf r; buffer = now (buffer .exit) } ≡ pointCall (areaOn job (now (records .entry)) (now (store .entry))) n (now (buffer .entry)) ⌝ }
+    ensures { λ r. ⌜ record { reply = replyOf r; buffer = now (buffer .exit) } ≡ callOn (areaOn job (now (records .entry)) (now (store .entry))) (point n (now (buffer .entry))) .answer ⌝ }
 {
     let flat = flatten(records);
     flat_point(job, n, flat, store, buffer)
@@ -221,7 +222,7 @@ pub fn deliver(
     records: &mut [area::IndexRecord],
     store: &mut [i32],
 ) -> calls::Answered
-    ensures { λ r. ⌜ calledOn r (now (records .exit)) (now (store .exit)) ≡ deliverCall (areaOn job (now (records .entry)) (now (store .entry))) (now (readings .entry)) indicator ⌝ }
+    ensures { λ r. ⌜ calledOn r (now (records .exit)) (now (store .exit)) ≡ callOn (areaOn job (now (records .entry)) (now (store .entry))) (deliver (now (readings .entry)) indicator) ⌝ }
 {
     let flat = flatten(records);
     let done = flat_deliver(job, readings, indicator, flat, store);
@@ -235,7 +236,7 @@ pub fn promote(
     records: &mut [area::IndexRecord],
     store: &[i32],
 ) -> calls::Answered
-    ensures { λ r. ⌜ calledOn r (now (records .exit)) (now (store .entry)) ≡ promoteCall (areaOn job (now (records .entry)) (now (store .entry))) ⌝ }
+    ensures { λ r. ⌜ calledOn r (now (records .exit)) (now (store .entry)) ≡ callOn (areaOn job (now (records .entry)) (now (store .entry))) promote ⌝ }
 {
     let flat = flatten(records);
     let done = flat_promote(job, flat, store);
@@ -245,7 +246,7 @@ pub fn promote(
 
 // The counts of the area.
 pub fn result(job: area::JobRecord, records: &[area::IndexRecord], store: &[i32]) -> calls::Resulted
-    ensures { λ r. ⌜ resultedOf r ≡ resultCall (areaOn job (now (records .entry)) (now (store .entry))) ⌝ }
+    ensures { λ r. ⌜ answer (resultedOf r) ≡ callOn (areaOn job (now (records .entry)) (now (store .entry))) result .answer ⌝ }
 {
     let flat = flatten(records);
     flat_result(job, flat, store)
@@ -257,7 +258,7 @@ pub fn cross_total(
     records: &[area::IndexRecord],
     store: &[i32],
 ) -> calls::Totalled
-    ensures { λ r. ⌜ totalledOf r ≡ crossCall (areaOn job (now (records .entry)) (now (store .entry))) ⌝ }
+    ensures { λ r. ⌜ answer (totalledOf r) ≡ callOn (areaOn job (now (records .entry)) (now (store .entry))) crossTotal .answer ⌝ }
 {
     let flat = flatten(records);
     flat_cross_total(job, flat, store)

@@ -29,7 +29,7 @@ use Rattle.writing.proofs.After.{machine-sound}
 use Rattle.calls.proofs.Tests as tests
 use Rattle.calls.proofs.Causes.{common-none, wanted-yes, deliver-count, deliver-range, deliver-fits}
 use Rattle.calls.proofs.Settling.{entries-count, wanted-levels, wanted-within}
-use Rattle.calls.proofs.Left.{readings-range}
+use Rattle.calls.proofs.Ranges.{readings-range}
 use Rattle.calls.proofs.Written.{written-state}
 use Rattle.jobfile.specs.Bytes.{four}
 use Rattle.jobfile.specs.Form.{entryByte}

@@ -30,7 +30,7 @@ use Rattle.machine.proofs.Facts.{step-facts}
 use Rattle.machine.proofs.Means.{mean-facts}
 use Rattle.calls.proofs.Accepted.{startable, Deliverable, deliverable}
 use Rattle.calls.proofs.Causes.{start-axes, start-budget, start-fits, common-none, deliver-count, deliver-range, deliver-fits}
-use Rattle.calls.proofs.Left.{readings-range}
+use Rattle.calls.proofs.Ranges.{readings-range}
 use Rattle.calls.proofs.Tests as tests
 use Rattle.published.proofs.Outcomes.{promoted-not-met, promoted-log}
 use Rattle.jobfile.specs.Form.{formed, broken, formOf, entryCount}

@@ -7,7 +7,8 @@ use Rattle.abi.specs.Exports.{exported}
 use Rattle.area.specs.declared.JobRecord.{JobRecord}
 use Rattle.area.specs.Records.{runOf}
 use Rattle.area.specs.Encoding.{areaOf}
-use Rattle.calls.specs.Calls.{deliverCall}
+use Rattle.calls.specs.Table as table
+use Rattle.calls.specs.Calls.{callOn}
 use Rattle.abi.proofs.wihupya_deliver.Statement.{statement}
 use Rattle.abi.proofs.wihupya_deliver.Tie as tie
 
@@ -35,7 +36,7 @@ returns c =
     let s = c .before .before .before .before .before .before .before .before .before .before .before .before in
     let cells = now (s .args .cells) in
     let store = now (s .args .store) in
-    let is = c .before .before .before .before .before .before .deliver .ensures ∙ ap (λ (j : JobRecord). deliverCall (areaOf j cells store) (now (s .args .readings)) (s .args .indicator)) (c .before .before .before .before .before .before .before .before .before .job-of .ensures) in
+    let is = c .before .before .before .before .before .before .deliver .ensures ∙ ap (λ (j : JobRecord). callOn (areaOf j cells store) (table.deliver (now (s .args .readings)) (s .args .indicator))) (c .before .before .before .before .before .before .before .before .before .job-of .ensures) in
     (λ i. record { number = c .number-of .ensures i; job = c .before .words-of .ensures i; run = runOf (c .before .before .before .before .before .before .deliver .last .1 .1 .1 .0); store = c .before .before .before .before .before .before .deliver .last .1 .1 .1 .1 .0 }) ∙ ap exported is
 
 pub wihupya-deliver-spec : {M : Type 1} → statement M

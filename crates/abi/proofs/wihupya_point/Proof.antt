@@ -6,8 +6,8 @@ use denote.Ref.{now}
 use Rattle.abi.specs.Exports.{numberOf}
 use Rattle.area.specs.declared.JobRecord.{JobRecord}
 use Rattle.area.specs.Encoding.{areaOf}
-use Rattle.calls.specs.Calls.{pointCall}
-use Rattle.calls.specs.Replies.{Pointed}
+use Rattle.calls.specs.Table as table
+use Rattle.calls.specs.Calls.{callOn}
 use Rattle.abi.proofs.wihupya_point.Statement.{statement}
 use Rattle.abi.proofs.wihupya_point.Tie as tie
 
@@ -26,8 +26,8 @@ same-length c = search needs
 returns : tie.Need-returns
 returns c =
     let s = c .before .before .before .before .before .before .before .before in
-    let is = c .before .before .before .point .ensures ∙ ap (λ (j : JobRecord). pointCall (areaOf j (now (s .args .cells)) (now (s .args .store))) (s .args .n) (now (s .args .buffer))) (c .before .before .before .before .before .job-of .ensures) in
-    (c .number-of .ensures ∙ ap (λ (x : Pointed). numberOf (x .reply)) is, ap (λ (x : Pointed). x .buffer) is)
+    let is = c .before .before .before .point .ensures ∙ ap (λ (j : JobRecord). callOn (areaOf j (now (s .args .cells)) (now (s .args .store))) (table.point (s .args .n) (now (s .args .buffer))) .answer) (c .before .before .before .before .before .job-of .ensures) in
+    (c .number-of .ensures ∙ ap (λ (x : table.Answer). numberOf (x .reply)) is, ap (λ (x : table.Answer). x .buffer) is)
 
 pub wihupya-point-spec : {M : Type 1} → statement M
 wihupya-point-spec =

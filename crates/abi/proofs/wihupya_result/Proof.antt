@@ -8,7 +8,8 @@ use Rattle.abi.specs.Words.{jobOf}
 use Rattle.abi.specs.Exports.{numberOf, countsAfter}
 use Rattle.area.specs.declared.JobRecord.{JobRecord}
 use Rattle.area.specs.Encoding.{areaOf}
-use Rattle.calls.specs.Calls.{resultCall}
+use Rattle.calls.specs.Table as table
+use Rattle.calls.specs.Calls.{callOn}
 use Rattle.abi.proofs.wihupya_result.Statement.{statement}
 use Rattle.abi.proofs.wihupya_result.Tie as tie
 
@@ -32,14 +33,14 @@ unfolding resultedOf numberOf countsAfter
 returns c =
     let s = c .before .before .before .before .before .before in
     let a = areaOf (jobOf (now (s .args .job))) (now (s .args .cells)) (now (s .args .store)) in
-    let is = ap resultedOf (sym (c .before .resulted .given .1)) ∙ c .before .before .before .result .ensures ∙ ap (λ (j : JobRecord). resultCall (areaOf j (now (s .args .cells)) (now (s .args .store)))) (c .before .before .before .before .job-of .ensures) in
+    let is = ap resultedOf (sym (c .before .resulted .given .1)) ∙ ap (λ (x : table.Answer). x .reply) (c .before .before .before .result .ensures) ∙ ap (λ (j : JobRecord). callOn (areaOf j (now (s .args .cells)) (now (s .args .store))) table.result .answer .reply) (c .before .before .before .before .job-of .ensures) in
     (ap numberOf is, ap (λ x. countsAfter x (now (s .args .counts))) is)
 
 returns-2 : tie.Need-returns-2
 unfolding resultedOf numberOf countsAfter
 returns-2 c =
     let s = c .before .before .before .before .before .before .before in
-    let is = ap resultedOf (sym (c .before .before .resulted2 .given .1)) ∙ c .before .before .before .before .result .ensures ∙ ap (λ (j : JobRecord). resultCall (areaOf j (now (s .args .cells)) (now (s .args .store)))) (c .before .before .before .before .before .job-of .ensures) in
+    let is = ap resultedOf (sym (c .before .before .resulted2 .given .1)) ∙ ap (λ (x : table.Answer). x .reply) (c .before .before .before .before .result .ensures) ∙ ap (λ (j : JobRecord). callOn (areaOf j (now (s .args .cells)) (now (s .args .store))) table.result .answer .reply) (c .before .before .before .before .before .job-of .ensures) in
     (ap numberOf is, c .count-words .ensures ∙ ap (λ x. countsAfter x (now (s .args .counts))) is)
 
 pub wihupya-result-spec : {M : Type 1} → statement M

@@ -7,7 +7,8 @@ use Rattle.abi.specs.Exports.{exported}
 use Rattle.area.specs.declared.JobRecord.{JobRecord}
 use Rattle.area.specs.Records.{runOf}
 use Rattle.area.specs.Encoding.{areaOf}
-use Rattle.calls.specs.Calls.{startCall}
+use Rattle.calls.specs.Table as table
+use Rattle.calls.specs.Calls.{callOn}
 use Rattle.abi.proofs.wihupya_start.Statement.{statement}
 use Rattle.abi.proofs.wihupya_start.Tie as tie
 
@@ -32,7 +33,7 @@ returns c =
     let s = c .before .before .before .before .before .before .before .before .before .before in
     let cells = now (s .args .cells) in
     let store = now (s .args .store) in
-    let is = c .before .before .before .before .before .start .ensures ∙ ap (λ (j : JobRecord). startCall (areaOf j cells store) (record { axes = s .args .axes; threshold = s .args .threshold; budget = s .args .budget })) (c .before .before .before .before .before .before .before .job-of .ensures) in
+    let is = c .before .before .before .before .before .start .ensures ∙ ap (λ (j : JobRecord). callOn (areaOf j cells store) (table.start (record { axes = s .args .axes; threshold = s .args .threshold; budget = s .args .budget }))) (c .before .before .before .before .before .before .before .job-of .ensures) in
     (λ i. record { number = c .number-of .ensures i; job = c .before .words-of .ensures i; run = runOf (c .before .before .before .before .before .start .last .1 .1 .0); store = store }) ∙ ap exported is
 
 pub wihupya-start-spec : {M : Type 1} → statement M

@@ -5,7 +5,9 @@ use denote.Ref.{now}
 use Rattle.sums.proofs.Words.{back}
 use Rattle.area.specs.Encoding.{areaOf}
 use Rattle.calls.specs.Replies.{total, totalledOf}
-use Rattle.calls.proofs.Refusing.{cross-refuses, cross-accepts}
+use lib.IntN.{ℤ}
+use Rattle.calls.specs.Table.{answer}
+use Rattle.calls.proofs.Rows.{cross-refuses, cross-accepts}
 use Rattle.calls.proofs.Settling.{settled}
 use Rattle.calls.proofs.cross_total.Statement.{statement}
 use Rattle.calls.proofs.cross_total.Tie as tie
@@ -28,7 +30,7 @@ unfolding totalledOf
 returns-2 c =
     let s = c .before .before .before .before in
     let a = areaOf (s .args .job) (now (s .args .cells)) (now (s .args .store)) in
-    ap total (back (c .cross-total .result) (sfits-of (c .cross-total .ok)) ∙ c .cross-total .ensures) ∙ cross-accepts a (c .before .before .area-cause .result) (c .before .before .area-cause .ensures) (c .before .if1 .left)
+    ap (λ (z : ℤ). answer (total z)) (back (c .cross-total .result) (sfits-of (c .cross-total .ok)) ∙ c .cross-total .ensures) ∙ cross-accepts a (c .before .before .area-cause .result) (c .before .before .area-cause .ensures) (c .before .if1 .left)
 
 pub cross-total-spec : {M : Type 1} → statement M
 cross-total-spec = tie.close (tie.spec area-cause-requires returns cross-total-requires returns-2)

@@ -16,8 +16,9 @@ use Rattle.machine.specs.Causes.{firstCause, inRange}
 use Rattle.writing.specs.Settled.{Settled}
 use Rattle.calls.specs.Replies.{lengthsOf}
 use lib.IntN.{ℤ}
-use Rattle.calls.specs.Replies.{refused, accepted, replyOf}
-use Rattle.calls.proofs.Refusing.{deliver-refuses, deliver-accepts}
+use Rattle.calls.specs.Replies.{accepted, replyOf}
+use Rattle.calls.specs.Table.{answer}
+use Rattle.calls.proofs.Rows.{deliver-refuses, deliver-accepts}
 use Rattle.area.specs.Records.{heldIn}
 use Rattle.machine.specs.Causes.{deliverCauses}
 use Rattle.writing.specs.Heads.{headsOf}
@@ -81,7 +82,7 @@ unfolding replyOf
 returns-2 c =
     let s = c .before .before .before .before .before .before .before .before .before .before .before .before .before .before in
     let a = areaOf (s .args .job) (now (s .args .cells)) (now (s .args .store)) in
-    ap (λ (x : Area). record { reply = accepted; area = x }) (c .before .before .before .deliver .ensures .0)
+    ap (λ (x : Area). record { answer = answer accepted; area = x }) (c .before .before .before .deliver .ensures .0)
     ∙ deliver-accepts a (now (s .args .readings)) (s .args .indicator) (c .before .before .before .before .before .before .before .before .before .before .deliver-cause .result) (c .before .before .before .before .before .before .before .before .before .before .deliver-cause .ensures) (c .before .before .before .before .before .before .before .before .before .if1 .left)
 
 pub deliver-spec : {M : Type 1} → statement M

@@ -18,8 +18,8 @@ use Rattle.machine.specs.Causes.{firstCause}
 use Rattle.writing.specs.Settled.{Settled}
 use Rattle.calls.specs.Replies.{lengthsOf}
 use lib.IntN.{ℤ}
-use Rattle.calls.specs.Replies.{refused, accepted, replyOf}
-use Rattle.calls.proofs.Refusing.{point-refuses, point-accepts}
+use Rattle.calls.specs.Replies.{accepted, replyOf}
+use Rattle.calls.proofs.Rows.{point-refuses, point-accepts}
 use mathlib.Core.List.{_++_}
 use lib.ListN.{take, drop}
 use Rattle.grid.specs.Block.{pointOf}

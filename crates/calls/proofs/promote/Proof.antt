@@ -13,8 +13,9 @@ use Rattle.machine.specs.Causes.{firstCause}
 use Rattle.writing.specs.Settled.{Settled}
 use Rattle.calls.specs.Replies.{lengthsOf}
 use lib.IntN.{ℤ}
-use Rattle.calls.specs.Replies.{refused, promotion, replyOf}
-use Rattle.calls.proofs.Refusing.{promote-refuses, promote-accepts}
+use Rattle.calls.specs.Replies.{promotion, replyOf}
+use Rattle.calls.specs.Table.{answer}
+use Rattle.calls.proofs.Rows.{promote-refuses, promote-accepts}
 use Rattle.machine.specs.Areas.{AreaPromotion}
 use Rattle.machine.specs.Causes.{promoteCauses}
 use Rattle.calls.proofs.Accepted.{Promotable, promotable}
@@ -60,7 +61,7 @@ returns-2 c =
     let after = c .before .before .before .promote .last .1 .0 in
     let reply = c .as-answer .ensures .0 ∙ ap (λ (x : AreaPromotion). promotion (x .outcome)) is in
     let area = ap (λ (k : JobRecord). areaOf k after (now (s .args .store))) (c .as-answer .ensures .1) ∙ ap (λ (x : AreaPromotion). x .area) is in
-    (λ i. record { reply = reply i; area = area i }) ∙ promote-accepts a (c .before .before .before .before .before .before .promote-cause .result) (c .before .before .before .before .before .before .promote-cause .ensures) (c .before .before .before .before .before .if1 .left)
+    (λ i. record { answer = answer (reply i); area = area i }) ∙ promote-accepts a (c .before .before .before .before .before .before .promote-cause .result) (c .before .before .before .before .before .before .promote-cause .ensures) (c .before .before .before .before .before .if1 .left)
 
 pub promote-spec : {M : Type 1} → statement M
 promote-spec =

@@ -4,8 +4,10 @@ use mathlib.Core.Path.{sym, ap, _∙_}
 use Prim.Native.Nat.{_-_}
 use denote.Ref.{now}
 use Rattle.area.specs.Encoding.{areaOf}
-use Rattle.calls.specs.Replies.{refused, counts, resultedOf}
-use Rattle.calls.proofs.Refusing.{result-refuses, result-accepts}
+use Rattle.calls.specs.Replies.{counts, resultedOf}
+use Rattle.machine.specs.Counts.{Counts}
+use Rattle.calls.specs.Table.{answer}
+use Rattle.calls.proofs.Rows.{result-refuses, result-accepts}
 use Rattle.calls.proofs.Settling.{settled}
 use Rattle.calls.proofs.result.Statement.{statement}
 use Rattle.calls.proofs.result.Tie as tie
@@ -28,7 +30,7 @@ unfolding resultedOf
 returns-2 c =
     let s = c .before .before .before .before in
     let a = areaOf (s .args .job) (now (s .args .cells)) (now (s .args .store)) in
-    ap counts (c .result .ensures) ∙ result-accepts a (c .before .before .area-cause .result) (c .before .before .area-cause .ensures) (c .before .if1 .left)
+    ap (λ (n : Counts). answer (counts n)) (c .result .ensures) ∙ result-accepts a (c .before .before .area-cause .result) (c .before .before .area-cause .ensures) (c .before .if1 .left)
 
 pub result-spec : {M : Type 1} → statement M
 result-spec = tie.close (tie.spec area-cause-requires returns result-requires returns-2)

@@ -13,8 +13,9 @@ use Rattle.area.proofs.Records.{length-recordsOf}
 use Rattle.machine.specs.Causes.{firstCause}
 use Rattle.calls.specs.Replies.{lengthsOf}
 use lib.IntN.{ℤ, pos}
-use Rattle.calls.specs.Replies.{refused, accepted, replyOf}
-use Rattle.calls.proofs.Refusing.{start-refuses, start-accepts}
+use Rattle.calls.specs.Replies.{accepted, replyOf}
+use Rattle.calls.specs.Table.{answer}
+use Rattle.calls.proofs.Rows.{start-refuses, start-accepts}
 use Rattle.area.specs.Records.{runOf, stored}
 use Rattle.machine.specs.Causes.{startCauses}
 use Rattle.machine.specs.Areas.{startOn}
@@ -61,7 +62,7 @@ unfolding replyOf
 returns-2 c =
     let s = c .before .before .before .before .before .before .before in
     let a = areaOf (s .args .job) (now (s .args .cells)) (now (s .args .store)) in
-    ap (λ (x : Area). record { reply = accepted; area = x })
+    ap (λ (x : Area). record { answer = answer accepted; area = x })
     (area-is (s .args .job) (c .before .before .start .result) (now (s .args .cells)) (c .before .before .start .last .1 .0) (now (s .args .store)) (s .args .settings)
     (room (s .args .job) (now (s .args .cells)) (now (s .args .store)) (s .args .settings) (c .before .before .before .before .before .start-cause .result) (c .before .before .before .before .before .start-cause .ensures) (c .before .before .before .before .if1 .left)) (c .before .before .start .ensures .0) (c .before .before .start .ensures .1))
     ∙ start-accepts a (s .args .settings) (c .before .before .before .before .before .start-cause .result) (cause-is (s .args .job) (now (s .args .cells)) (now (s .args .store)) (s .args .settings) (c .before .before .before .before .before .start-cause .result) (c .before .before .before .before .before .start-cause .ensures)) (c .before .before .before .before .if1 .left)

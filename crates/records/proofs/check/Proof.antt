@@ -25,7 +25,7 @@ use denote.Triple.Spec.{Meets, tripleOf}
 use denote.Triple.Table.{entered, cited}
 use Rattle.soundness.specs.Clauses.{checked}
 use Rattle.records.specs.Lent.{areaOn}
-use Rattle.records.proofs.Longer.{check-longer}
+use Rattle.records.proofs.Longer.{checked-longer}
 use Rattle.records.proofs.Lent.{front-answers}
 use Rattle.records.proofs.Flattening.{Flatten}
 use Rattle.records.proofs.Reading.{Saying, clauses, OnFront, OnCells, reads}
@@ -48,7 +48,7 @@ abbrev Says : Saying Q
 Says r j rs s = r ≡ checked (areaOn j rs s)
 
 on-front : OnFront Q Says
-on-front r j rs s e = e ∙ front-answers j rs s checked check-longer
+on-front r j rs s e = e ∙ front-answers j rs s checked checked-longer
 
 module _ {M : Type 1} (𝓤 : URA M) (H : Heap 𝓤) (A : Atoms 𝓤) (W : Given 𝓤 H A) (mem : Memory → SProp 𝓤) (run : Routine → Fun 𝓤) (𝓣 : Tables 𝓤 H)
     (known-flatten : Triple 𝓤 (𝓣 .C #records·flatten) (Flatten 𝓤 H A mem run)) (known-flat : Triple 𝓤 (𝓣 .C #records·flat-check) (OnCells 𝓤 H A mem run Q Says)) where

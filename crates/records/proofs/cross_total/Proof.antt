@@ -22,12 +22,12 @@ use denote.Triple.Entry.{Args}
 use denote.Triple.Spec.{Meets, tripleOf}
 use denote.Triple.Table.{entered, cited}
 use Rattle.calls.specs.Replies.{totalledOf}
-use Rattle.calls.specs.Calls.{crossCall}
+use Rattle.calls.specs.Table as table
+use Rattle.calls.specs.Calls.{callOn}
 use Rattle.calls.proofs.Totalled as P
 use Rattle.calls.proofs.Totalled.Laws as P′
 use Rattle.records.specs.Lent.{areaOn}
-use Rattle.records.proofs.Longer.{cross-longer}
-use Rattle.records.proofs.Lent.{front-answers}
+use Rattle.records.proofs.Lent.{front-answer}
 use Rattle.records.proofs.Flattening.{Flatten}
 use Rattle.records.proofs.Reading.{Saying, clauses, OnFront, OnCells, reads}
 use Rattle.records.proofs.flatten.Symbol as flatten-def
@@ -46,10 +46,10 @@ abbrev Q : RattleType
 Q = P.the-row
 
 abbrev Says : Saying Q
-Says r j rs s = totalledOf r ≡ crossCall (areaOn j rs s)
+Says r j rs s = table.answer (totalledOf r) ≡ callOn (areaOn j rs s) table.crossTotal .answer
 
 on-front : OnFront Q Says
-on-front r j rs s e = e ∙ front-answers j rs s crossCall cross-longer
+on-front r j rs s e = e ∙ front-answer j rs s table.crossTotal
 
 module _ {M : Type 1} (𝓤 : URA M) (H : Heap 𝓤) (A : Atoms 𝓤) (W : Given 𝓤 H A) (mem : Memory → SProp 𝓤) (run : Routine → Fun 𝓤) (𝓣 : Tables 𝓤 H)
     (known-flatten : Triple 𝓤 (𝓣 .C #records·flatten) (Flatten 𝓤 H A mem run)) (known-flat : Triple 𝓤 (𝓣 .C #records·flat-cross-total) (OnCells 𝓤 H A mem run Q Says)) where

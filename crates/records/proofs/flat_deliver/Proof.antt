@@ -5,7 +5,8 @@ use denote.Ref.{now}
 use lib.ListN.{length}
 use Rattle.area.specs.Records.{Run}
 use Rattle.calls.specs.Replies.{replyOf}
-use Rattle.calls.specs.Calls.{deliverCall}
+use Rattle.calls.specs.Table as table
+use Rattle.calls.specs.Calls.{callOn}
 use Rattle.records.proofs.Cuts.{room-for, cut-count, cut-run, cut-after}
 use Rattle.records.proofs.Words.{words-count}
 use Rattle.records.proofs.flat_deliver.Statement.{statement}
@@ -38,10 +39,10 @@ returns c =
     let r = c .before .before .deliver .result in
     let flat = s .args .flat in
     let count : length (flat .words) ≡ 13824 = words-count flat _ (s .good .1 .1 .1 .0) in
-    ap (λ (u : Run). record { reply = replyOf (r .answer); area = record { job = r .job; run = u; store = c .before .before .deliver .last .1 .1 .1 .1 .0 } })
+    ap (λ (u : Run). record { answer = table.answer (replyOf (r .answer)); area = record { job = r .job; run = u; store = c .before .before .deliver .last .1 .1 .1 .1 .0 } })
     (cut-after (flat .count) (flat .words) (s .pre) count (c .before .before .deliver .last .1 .1 .1 .0) (c .before .before .deliver .kept .1 .1 .1 .0))
     ∙ c .before .before .deliver .ensures
-    ∙ ap (λ (u : Run). deliverCall (record { job = s .args .job; run = u; store = now (s .args .store) }) (now (s .args .readings)) (s .args .indicator)) (cut-run (flat .count) (flat .words) (s .pre) count)
+    ∙ ap (λ (u : Run). callOn (record { job = s .args .job; run = u; store = now (s .args .store) }) (table.deliver (now (s .args .readings)) (s .args .indicator))) (cut-run (flat .count) (flat .words) (s .pre) count)
 
 pub flat-deliver-spec : {M : Type 1} → statement M
 flat-deliver-spec =

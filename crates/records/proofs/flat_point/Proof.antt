@@ -4,7 +4,8 @@ use mathlib.Core.Path.{_≡_, ap, _∙_}
 use denote.Ref.{now}
 use lib.ListN.{length}
 use Rattle.area.specs.Records.{Run}
-use Rattle.calls.specs.Calls.{pointCall}
+use Rattle.calls.specs.Table as table
+use Rattle.calls.specs.Calls.{callOn}
 use Rattle.records.proofs.Cuts.{room-for, cut-count, cut-run}
 use Rattle.records.proofs.flat_point.Statement.{statement}
 use Rattle.records.proofs.flat_point.Tie as tie
@@ -36,7 +37,7 @@ returns c =
     let flat = s .args .flat in
     let count : length (flat .words) ≡ 13824 = search needs in
     c .before .before .point .ensures
-    ∙ ap (λ (u : Run). pointCall (record { job = s .args .job; run = u; store = now (s .args .store) }) (s .args .n) (now (s .args .buffer))) (cut-run (flat .count) (flat .words) (s .pre) count)
+    ∙ ap (λ (u : Run). callOn (record { job = s .args .job; run = u; store = now (s .args .store) }) (table.point (s .args .n) (now (s .args .buffer))) .answer) (cut-run (flat .count) (flat .words) (s .pre) count)
 
 pub flat-point-spec : {M : Type 1} → statement M
 flat-point-spec =

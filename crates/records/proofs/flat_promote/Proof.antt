@@ -5,7 +5,8 @@ use denote.Ref.{now}
 use lib.ListN.{length}
 use Rattle.area.specs.Records.{Run}
 use Rattle.calls.specs.Replies.{replyOf}
-use Rattle.calls.specs.Calls.{promoteCall}
+use Rattle.calls.specs.Table as table
+use Rattle.calls.specs.Calls.{callOn}
 use Rattle.records.proofs.Cuts.{room-for, cut-count, cut-run, cut-after}
 use Rattle.records.proofs.flat_promote.Statement.{statement}
 use Rattle.records.proofs.flat_promote.Tie as tie
@@ -34,10 +35,10 @@ returns c =
     let r = c .before .promote .result in
     let flat = s .args .flat in
     let count : length (flat .words) ≡ 13824 = search needs in
-    ap (λ (u : Run). record { reply = replyOf (r .answer); area = record { job = r .job; run = u; store = now (s .args .store) } })
+    ap (λ (u : Run). record { answer = table.answer (replyOf (r .answer)); area = record { job = r .job; run = u; store = now (s .args .store) } })
     (cut-after (flat .count) (flat .words) (s .pre) count (c .before .promote .last .1 .0) (c .before .promote .kept .1 .0))
     ∙ c .before .promote .ensures
-    ∙ ap (λ (u : Run). promoteCall (record { job = s .args .job; run = u; store = now (s .args .store) })) (cut-run (flat .count) (flat .words) (s .pre) count)
+    ∙ ap (λ (u : Run). callOn (record { job = s .args .job; run = u; store = now (s .args .store) }) table.promote) (cut-run (flat .count) (flat .words) (s .pre) count)
 
 pub flat-promote-spec : {M : Type 1} → statement M
 flat-promote-spec =

@@ -4,7 +4,8 @@ use mathlib.Core.Path.{_≡_, ap, _∙_}
 use denote.Ref.{now}
 use lib.ListN.{length}
 use Rattle.area.specs.Records.{Run}
-use Rattle.calls.specs.Calls.{resultCall}
+use Rattle.calls.specs.Table as table
+use Rattle.calls.specs.Calls.{callOn}
 use Rattle.records.proofs.Cuts.{room-for, cut-count, cut-run}
 use Rattle.records.proofs.flat_result.Statement.{statement}
 use Rattle.records.proofs.flat_result.Tie as tie
@@ -33,7 +34,7 @@ returns c =
     let flat = s .args .flat in
     let count : length (flat .words) ≡ 13824 = search needs in
     c .result .ensures
-    ∙ ap (λ (u : Run). resultCall (record { job = s .args .job; run = u; store = now (s .args .store) })) (cut-run (flat .count) (flat .words) (s .pre) count)
+    ∙ ap (λ (u : Run). callOn (record { job = s .args .job; run = u; store = now (s .args .store) }) table.result .answer) (cut-run (flat .count) (flat .words) (s .pre) count)
 
 pub flat-result-spec : {M : Type 1} → statement M
 flat-result-spec =

@@ -42,17 +42,16 @@ use denote.Triple.Walked.{says, Stays, gave-slice, stay-none-slice, stay-none, w
 use denote.Exit.{yes}
 use Rattle.area.specs.declared.IndexRecord.{IndexRecord}
 use Rattle.area.specs.declared.JobRecord.{JobRecord}
-use Rattle.area.specs.Encoding.{Area}
 use Rattle.area.proofs.JobRecord as J
 use Rattle.area.proofs.JobRecord.Laws as J′
 use Rattle.calls.specs.Replies.{replyOf}
-use Rattle.calls.specs.Calls.{pointCall}
+use Rattle.calls.specs.Table as table
+use Rattle.calls.specs.Calls.{callOn}
 use Rattle.calls.proofs.Answer as P
 use Rattle.calls.proofs.Answer.Laws as P′
 use Rattle.records.specs.declared.Flat.{Flat}
 use Rattle.records.specs.Lent.{areaOn, front}
-use Rattle.records.proofs.Longer.{point-longer}
-use Rattle.records.proofs.Lent.{front-answers}
+use Rattle.records.proofs.Lent.{front-answer}
 use Rattle.records.proofs.Words.{F}
 use Rattle.records.proofs.Flattening.{R, JR, machJ, Flattens, small, Flatten, flatten-of}
 use Rattle.records.proofs.Flat as U
@@ -75,7 +74,7 @@ abbrev Q : RattleType
 Q = P.the-row
 
 abbrev Says : P.the-row .Denot → JobRecord → ℕ → List IndexRecord → List ℤ → (before after : List ℕ) → Type 0
-Says r j n rs s k k′ = record { reply = replyOf r; buffer = k′ } ≡ pointCall (areaOn j rs s) n k
+Says r j n rs s k k′ = record { reply = replyOf r; buffer = k′ } ≡ callOn (areaOn j rs s) (table.point n k) .answer
 
 abbrev stayed : Stays (call.ended .signature .params) (call.ended .kept)
 stayed = (stay-none (λ _. JR) yes, (stay-none (λ _. usize) yes, (stay-none-slice (0 ∷ []) tt (plain (λ _. R)) yes, (stay-none-slice (1 ∷ []) tt (plain (λ _. i32)) yes, (gave-slice (2 ∷ []) tt (plain (λ _. u8)), tt)))))
@@ -152,9 +151,9 @@ module _ {M : Type 1} (𝓤 : URA M) (H : Heap 𝓤) (A : Atoms 𝓤) (W : Given
   answered : (f : Flat) (r : P.the-row .Denot) (k : List ℕ) → Flattens f (x .now) → Says r j n (front (f .count) (f .words)) (y .now) (z .now) k → Says r j n (x .now) (y .now) (z .now) k
   answered f r k e e′ =
       e′
-      ∙ ap (λ (l : List IndexRecord). pointCall (areaOn j l (y .now)) n (z .now)) (e .1)
-      ∙ ap (λ (m : ℕ). pointCall (areaOn j (take m (x .now)) (y .now)) n (z .now)) (e .0)
-      ∙ front-answers j (x .now) (y .now) (λ (c : Area). pointCall c n (z .now)) (λ c more h. point-longer c more h n (z .now))
+      ∙ ap (λ (l : List IndexRecord). callOn (areaOn j l (y .now)) (table.point n (z .now)) .answer) (e .1)
+      ∙ ap (λ (m : ℕ). callOn (areaOn j (take m (x .now)) (y .now)) (table.point n (z .now)) .answer) (e .0)
+      ∙ front-answer j (x .now) (y .now) (table.point n (z .now))
 
   module _ (C : Calls 𝓤 H) (Λ : Loops 𝓤 H) (fm : FmC 𝓤 H (W .laws) C) (known-flatten : Triple 𝓤 (C #records·flatten) (Flatten 𝓤 H A mem run)) (known-flat : Triple 𝓤 (C #records·flat-point) (OnCells 𝓤 H A mem run)) where
     walk : ent 𝓤 (onEntry 𝓤 H A call.signature (κ₀, (κ₁, (κ₂, tt))) (q₀, (q₁, (q₂, tt))) a at) (WpFn 𝓤 H C Λ code.function (machJ j ∷ vint w64 n ∷ s₀ ∷ s₁ ∷ s₂ ∷ []) Post)

@@ -44,18 +44,17 @@ use denote.Exit.{yes}
 use Rattle.area.specs.declared.IndexRecord.{IndexRecord}
 use Rattle.area.specs.declared.JobRecord.{JobRecord}
 use Rattle.area.specs.Records.{recordsOf}
-use Rattle.area.specs.Encoding.{Area}
 use Rattle.area.proofs.JobRecord as J
 use Rattle.area.proofs.JobRecord.Laws as J′
 use Rattle.calls.specs.declared.Answered.{Answered}
-use Rattle.calls.specs.Calls.{promoteCall}
+use Rattle.calls.specs.Table as table
+use Rattle.calls.specs.Calls.{callOn}
 use Rattle.calls.proofs.Answered as N
 use Rattle.calls.proofs.Answered.Laws as N′
 use Rattle.records.specs.declared.Flat.{Flat}
 use Rattle.records.specs.declared.FlatCalled.{FlatCalled}
 use Rattle.records.specs.Lent.{areaOn, calledOn, over, front}
 use Rattle.records.proofs.Shared.{LentShared, lends-shared, shared-back}
-use Rattle.records.proofs.Longer.{promote-longer}
 use Rattle.records.proofs.Lent.{front-leaves}
 use Rattle.records.proofs.Words.{held-back, F, machF}
 use Rattle.records.proofs.Flattening.{R, JR, machJ, Flattens, small, Flatten, flatten-of}
@@ -121,11 +120,11 @@ module _ {M : Type 1} (𝓤 : URA M) (H : Heap 𝓤) (A : Atoms 𝓤) (W : Given
 
   -- what the contract says
   abbrev Says : Answered → List IndexRecord → List ℤ → Type 0
-  Says r l k = calledOn r l k ≡ promoteCall (areaOn j ys (y .now))
+  Says r l k = calledOn r l k ≡ callOn (areaOn j ys (y .now)) table.promote
 
   -- what the contract of the call on cells says
   abbrev SaysFlat : FlatCalled → Flat → List ℤ → Type 0
-  SaysFlat d f k = calledOn (d .answer) (front (f .count) (d .words)) k ≡ promoteCall (areaOn j (front (f .count) (f .words)) (y .now))
+  SaysFlat d f k = calledOn (d .answer) (front (f .count) (d .words)) k ≡ callOn (areaOn j (front (f .count) (f .words)) (y .now)) table.promote
 
   exits : (r : Answered) (l : List IndexRecord) → Says r l (y .now) → Is Q r (machQ r ∷ []) → length l ≡ length ys
       → ent 𝓤 (⋆ 𝓤 H A ((‵ (flft κ₀ q₀) ⊛ ‵ ftrue) ∷ (‵ (flft κ₁ q₁) ⊛ ‵ ftrue) ∷ ‵ (finally R γ l) ∷ ‵ Owny ∷ [])) (Post (machQ r))
@@ -153,7 +152,7 @@ module _ {M : Type 1} (𝓤 : URA M) (H : Heap 𝓤) (A : Atoms 𝓤) (W : Given
   -- the call on the front, with its records put back, is the call on all
   answered : (f : Flat) (d : FlatCalled) (l : List IndexRecord) (k : List ℤ) → Flattens f ys → SaysFlat d f k → l ≡ over (f .count) (recordsOf (d .words)) ys → Says (d .answer) l k
   answered f d l k e called put =
-      front-leaves j ys (y .now) (λ (z : Area). promoteCall z) promote-longer (d .answer) (d .words) k l (f .count) (e .0) (called ∙ ap (λ (z : List IndexRecord). promoteCall (areaOn j z (y .now))) (e .1)) put
+      front-leaves j ys (y .now) table.promote (d .answer) (d .words) k l (f .count) (e .0) (called ∙ ap (λ (z : List IndexRecord). callOn (areaOn j z (y .now)) table.promote) (e .1)) put
 
   module _ (C : Calls 𝓤 H) (Λ : Loops 𝓤 H) (fm : FmC 𝓤 H (W .laws) C) (known-flatten : Triple 𝓤 (C #records·flatten) (Flatten 𝓤 H A mem run)) (known-flat : Triple 𝓤 (C #records·flat-promote) (OnCells 𝓤 H A mem run)) (known-back : Triple 𝓤 (C #records·put-back) (Back 𝓤 H A mem run)) where
     walk : ent 𝓤 (onEntry 𝓤 H A call.signature (κ₀, (κ₁, tt)) (q₀, (q₁, tt)) a at) (WpFn 𝓤 H C Λ code.function (machJ j ∷ sx ∷ sy ∷ []) Post)

@@ -1,0 +1,88 @@
+-- The two ways of each call, with its row read off.
+-- Assumes nothing.
+use mathlib.Core.Path.{_≡_, refl, ap, sym, _∙_}
+use mathlib.Core.List.{List, _++_}
+use Prim.Native.Nat.{ℕ}
+use lib.IntN.{ℤ}
+use lib.ListN.{length, take, drop}
+use Rattle.area.specs.declared.Settings.{Settings}
+use Rattle.grid.specs.Block.{pointOf}
+use Rattle.area.specs.Log.{Machine}
+use Rattle.area.specs.Encoding.{Area, entriesOf, machineOf, written}
+use Rattle.soundness.specs.Clauses.{isSound}
+use Rattle.machine.specs.Log.{wantedIndex}
+use Rattle.machine.specs.Promote.{Outcome, met, spent, promoted}
+use Rattle.machine.specs.Steps.{promoteStep}
+use Rattle.machine.specs.Causes.{firstCause, startCauses, pointCauses, deliverCauses, promoteCauses, resultCauses}
+use Rattle.machine.specs.Areas.{startOn, deliverOn, changedBy, promoteOn}
+use Rattle.machine.specs.Counts.{countsOf}
+use Rattle.machine.specs.Means.{crossOf}
+use Rattle.calls.specs.Replies.{refused, accepted, promotion, counts, total, lengthsOf}
+use Rattle.calls.specs.Table.{start, point, deliver, promote, result, crossTotal, answer, promotionEffect, row, causesOf, effectOf, acceptedAnswer, refusedAnswer, refusal}
+use Rattle.calls.specs.Calls.{Called, areaAfter, callOn}
+use Rattle.calls.proofs.Ways.{call-accepts, call-refuses}
+
+module _ (a : Area) (g : Settings) (n : ℕ) (is : n ≡ firstCause (startCauses (lengthsOf a) g)) where
+  pub start-refuses : (n ≡ 0 → ⊥) → record { answer = answer (refused n); area = a } ≡ callOn a (start g)
+  unfolding row causesOf refusal refusedAnswer
+  start-refuses f = call-refuses a (start g) n is f
+
+  pub start-accepts : n ≡ 0 → record { answer = answer accepted; area = startOn a g } ≡ callOn a (start g)
+  unfolding row causesOf effectOf refusal acceptedAnswer areaAfter startOn
+  start-accepts e = call-accepts a (start g) n is e
+
+module _ (a : Area) (rs : List ℤ) (i n : ℕ) (is : n ≡ firstCause (deliverCauses (lengthsOf a) (isSound a) (machineOf a .log) rs)) where
+  pub deliver-refuses : (n ≡ 0 → ⊥) → record { answer = answer (refused n); area = a } ≡ callOn a (deliver rs i)
+  unfolding row causesOf refusal refusedAnswer deliverCauses
+  deliver-refuses f = call-refuses a (deliver rs i) n is f
+
+  pub deliver-accepts : n ≡ 0 → record { answer = answer accepted; area = deliverOn a rs i } ≡ callOn a (deliver rs i)
+  unfolding row causesOf effectOf refusal acceptedAnswer areaAfter deliverOn deliverCauses
+  deliver-accepts e = call-accepts a (deliver rs i) n is e
+
+-- the area after a promotion, by its outcome
+pub outcome-area : (a : Area) (o : Outcome) (m : Machine) → areaAfter a (promotionEffect o m) ≡ changedBy o a (written a m)
+unfolding areaAfter promotionEffect changedBy
+outcome-area a met m = refl
+outcome-area a spent m = refl
+outcome-area a promoted m = refl
+
+module _ (a : Area) (n : ℕ) (is : n ≡ firstCause (promoteCauses (lengthsOf a) (isSound a) (machineOf a .log))) where
+  pub promote-refuses : (n ≡ 0 → ⊥) → record { answer = answer (refused n); area = a } ≡ callOn a promote
+  unfolding row causesOf refusal refusedAnswer promoteCauses
+  promote-refuses f = call-refuses a promote n is f
+
+  pub promote-accepts : n ≡ 0 → record { answer = answer (promotion (promoteOn a .outcome)); area = promoteOn a .area } ≡ callOn a promote
+  unfolding row causesOf effectOf refusal acceptedAnswer promoteOn promoteCauses
+  promote-accepts e =
+      (λ i. record { answer = answer (promotion (promoteOn a .outcome)); area = same i }) ∙ call-accepts a promote n is e
+    where
+      same : promoteOn a .area ≡ areaAfter a (promotionEffect (promoteOn a .outcome) (promoteStep (machineOf a)))
+      same = sym (outcome-area a (promoteOn a .outcome) (promoteStep (machineOf a)))
+
+module _ (a : Area) (n : ℕ) (buffer : List ℕ) (m : ℕ) (is : m ≡ firstCause (pointCauses (lengthsOf a) (isSound a) (machineOf a .log) n (length buffer))) where
+  pub point-refuses : (m ≡ 0 → ⊥) → record { reply = refused m; buffer = buffer } ≡ callOn a (point n buffer) .answer
+  unfolding row causesOf refusal refusedAnswer pointCauses
+  point-refuses f = ap (λ (x : Called). x .answer) (call-refuses a (point n buffer) m is f)
+
+  pub point-accepts : m ≡ 0
+      → record { reply = accepted; buffer = take (a .job .settings .axes) (pointOf (wantedIndex (entriesOf a)) n) ++ drop (a .job .settings .axes) buffer } ≡ callOn a (point n buffer) .answer
+  unfolding row causesOf effectOf refusal acceptedAnswer pointCauses machineOf
+  point-accepts e = ap (λ (x : Called). x .answer) (call-accepts a (point n buffer) m is e)
+
+module _ (a : Area) (m : ℕ) (is : m ≡ firstCause (resultCauses (lengthsOf a) (isSound a) (machineOf a .log))) where
+  pub result-refuses : (m ≡ 0 → ⊥) → answer (refused m) ≡ callOn a result .answer
+  unfolding row causesOf refusal refusedAnswer resultCauses
+  result-refuses f = ap (λ (x : Called). x .answer) (call-refuses a result m is f)
+
+  pub result-accepts : m ≡ 0 → answer (counts (countsOf (machineOf a))) ≡ callOn a result .answer
+  unfolding row causesOf refusal acceptedAnswer resultCauses
+  result-accepts e = ap (λ (x : Called). x .answer) (call-accepts a result m is e)
+
+  pub cross-refuses : (m ≡ 0 → ⊥) → answer (refused m) ≡ callOn a crossTotal .answer
+  unfolding row causesOf refusal refusedAnswer resultCauses
+  cross-refuses f = ap (λ (x : Called). x .answer) (call-refuses a crossTotal m is f)
+
+  pub cross-accepts : m ≡ 0 → answer (total (crossOf (entriesOf a))) ≡ callOn a crossTotal .answer
+  unfolding row causesOf refusal acceptedAnswer resultCauses machineOf
+  cross-accepts e = ap (λ (x : Called). x .answer) (call-accepts a crossTotal m is e)
