@@ -3,11 +3,11 @@ SHELL = /bin/bash
 .SHELLFLAGS = -o pipefail -c
 
 CARGO = cargo
-REFERENCE = --release --offline --quiet --manifest-path reference/Cargo.toml
-COMPARISON = --release --offline --quiet --manifest-path comparison/Cargo.toml
-HARNESS = --release --offline --quiet --manifest-path harness/Cargo.toml
+REFERENCE = --release --offline --quiet --manifest-path tests/reference/Cargo.toml
+COMPARISON = --release --offline --quiet --manifest-path tests/comparison/Cargo.toml
+HARNESS = --release --offline --quiet --manifest-path tests/harness/Cargo.toml
 BENCH = --release --offline --quiet --manifest-path bench/Cargo.toml
-BINDINGS = --release --offline --quiet --manifest-path bindings/Cargo.toml
+BINDINGS = --release --offline --quiet --manifest-path bindings/wihupya/Cargo.toml
 PUMP_IN_RUST = --release --offline --quiet --manifest-path examples/pump-in-rust/Cargo.toml
 C = $(CC) -std=c99 -Wall -Wextra -Werror -O2 -I include
 
@@ -40,8 +40,8 @@ reference-test:
 
 # Short runs of the call driver and of the job files, with fixed seeds.
 reference-runs: tools
-	reference/target/release/drive 1 20000
-	reference/target/release/survey 1 1000
+	tests/reference/target/release/drive 1 20000
+	tests/reference/target/release/survey 1 1000
 
 # The proved figures of areas against the reference's.
 compared:
@@ -50,7 +50,7 @@ compared:
 
 # The exported calls as the static library that the harness links.
 exported:
-	@rt staticlib abi | grep '^rt: '
+	@rt staticlib wihupya | grep '^rt: '
 
 # The harness's own tests, and named cases on the exported calls: boundary cases, causes of refusals and their order.
 harness-test: exported
@@ -68,10 +68,10 @@ listed: exported
 # in C and in Rust, whose report is that of the same job as a file.
 callers: exported
 	@$(CARGO) test $(BINDINGS)
-	@$(C) -pedantic -o bindings/tests/header bindings/tests/header.c target/staticlib/libabi.a
-	@bindings/tests/header
-	@if command -v $(CXX) > /dev/null; then $(CXX) -std=c++11 -Wall -Wextra -Werror -I include -fsyntax-only -x c++ bindings/tests/header.c; fi
-	@$(C) -o examples/pump-in-c/pump examples/pump-in-c/pump.c target/staticlib/libabi.a
+	@$(C) -pedantic -o bindings/wihupya/tests/header bindings/wihupya/tests/header.c target/staticlib/libwihupya.a
+	@bindings/wihupya/tests/header
+	@if command -v $(CXX) > /dev/null; then $(CXX) -std=c++11 -Wall -Wextra -Werror -I include -fsyntax-only -x c++ bindings/wihupya/tests/header.c; fi
+	@$(C) -o examples/pump-in-c/pump examples/pump-in-c/pump.c target/staticlib/libwihupya.a
 	@examples/pump-in-c/pump | diff examples/four-axis-pump.report -
 	@$(CARGO) run $(PUMP_IN_RUST) | diff examples/four-axis-pump.report -
 	@$(CARGO) test $(PUMP_IN_RUST)
@@ -79,12 +79,12 @@ callers: exported
 
 # The proved program against the reference's on generated job files, every byte that they print; about half a minute.
 programs-compared: program tools
-	@reference/target/release/compare target/bin/integrator 1 2000
+	@tests/reference/target/release/compare target/bin/integrator 1 2000
 
 # The same on fresh files: make compare SEED=7 COUNT=20000
 compare: COUNT = 2000
 compare: program tools
-	@reference/target/release/compare target/bin/integrator $(SEED) $(COUNT)
+	@tests/reference/target/release/compare target/bin/integrator $(SEED) $(COUNT)
 
 # The exported calls for as long as one likes: make soak SEED=7 COUNT=5000000
 soak: COUNT = 1000000
@@ -104,8 +104,8 @@ bench: baseline-test program
 
 # Writes the named and generated job files of the crate `vectors` anew, and what they must print.
 pack: tools
-	@reference/target/release/pack crates/vectors
+	@tests/reference/target/release/pack crates/vectors
 
 clean:
-	rm -rf target .verdict reference/target comparison/target harness/target bench/target bindings/target examples/pump-in-rust/target
-	rm -f bindings/tests/header examples/pump-in-c/pump
+	rm -rf target .verdict tests/reference/target tests/comparison/target tests/harness/target bench/target bindings/wihupya/target examples/pump-in-rust/target
+	rm -f bindings/wihupya/tests/header examples/pump-in-c/pump

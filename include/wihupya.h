@@ -1,5 +1,5 @@
 /*
- * Wihupya, the sparse-grid integrator, for callers in C (C99) and C++. Link target/staticlib/libabi.a, which `make exported`
+ * Wihupya, the sparse-grid integrator, for callers in C (C99) and C++. Link target/staticlib/libwihupya.a, which `make exported`
  * writes for x86-64 Linux; of other libraries it needs memcpy alone.
  *
  * The library decides which points to measure and averages the readings. You measure. A job runs like this (as a program:

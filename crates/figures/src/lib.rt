@@ -1,5 +1,5 @@
 // The figures of an area, exported so that a program in another language can compare them: only the comparison links them, and the
-// library for callers (`abi`) does not have them.
+// library for callers (`wihupya`) does not have them.
 // Nothing asks a caller outside for what is required here, so the comparison hands over areas that meet it.
 ghost use mathlib.Core.Path.{_≡_};
 ghost use Prim.Native.Nat.{_+_, _*_, _<_, _≤_};

@@ -1,0 +1,68 @@
+//! That the header for C says what these bindings say.
+
+use wihupya::*;
+
+const HEADER: &str = include_str!("../../../include/wihupya.h");
+
+/// What the header defines a name as, without the comment after it.
+fn defined(name: &str) -> Option<&'static str> {
+    HEADER.lines().find_map(|line| {
+        let value = line.strip_prefix("#define WIHUPYA_")?.strip_prefix(name)?.strip_prefix(' ')?;
+        Some(value.split("/*").next().unwrap_or(value).trim())
+    })
+}
+
+/// `NotSound` as `NOT_SOUND`.
+fn in_c(name: &str) -> String {
+    let begins = |(at, letter): (usize, char)| match letter.is_uppercase() && at > 0 {
+        true => vec!['_', letter],
+        false => vec![letter.to_ascii_uppercase()],
+    };
+    name.chars().enumerate().flat_map(begins).collect()
+}
+
+#[test]
+fn causes_have_the_same_names_and_numbers() {
+    for cause in Refusal::ALL {
+        let name = in_c(&format!("{cause:?}"));
+        assert_eq!(defined(&name), Some(cause.number().to_string().as_str()), "{name}");
+    }
+}
+
+#[test]
+fn limits_are_the_same() {
+    let numbers = [
+        ("MOST_AXES", MOST_AXES as i64),
+        ("RECORDS", RECORDS as i64),
+        ("RECORD_CELLS", RECORD_CELLS as i64),
+        ("JOB_WORDS", JOB_WORDS as i64),
+        ("LARGEST_BUDGET", LARGEST_BUDGET.into()),
+        ("LARGEST_READING", LARGEST_READING.into()),
+        ("SCALE", SCALE),
+    ];
+    for (name, number) in numbers {
+        assert_eq!(defined(name), Some(number.to_string().as_str()), "{name}");
+    }
+    assert_eq!(defined("CELLS"), Some("(WIHUPYA_RECORDS * WIHUPYA_RECORD_CELLS)"));
+}
+
+#[test]
+fn the_job_records_words_are_the_headers() {
+    let job = JobRecord {
+        threshold: 1 << 32 | 2,
+        pending_error: 3 << 32 | 4,
+        scaled_mean: 5 << 32 | 6,
+        axes: 7,
+        budget: 8,
+        held: 9,
+        reserved: 10,
+    };
+    let words = job.to_words();
+    let at = |name: &str| defined(name).unwrap().parse::<usize>().unwrap();
+    let wide = |name| words[at(name)..][..2].to_vec();
+    assert_eq!(wide("JOB_THRESHOLD"), [2, 1]);
+    assert_eq!(wide("JOB_PENDING"), [4, 3]);
+    assert_eq!(wide("JOB_MEAN"), [6, 5]);
+    let narrow = ["JOB_AXES", "JOB_BUDGET", "JOB_HELD", "JOB_RESERVED"].map(|name| words[at(name)]);
+    assert_eq!(narrow, [7, 8, 9, 10]);
+}

@@ -1,0 +1,83 @@
+-- `wihupya::count_words` meets its contract: the nine words one after the other. Assumes nothing.
+use mathlib.Core.Path.{ap, _∙_}
+use mathlib.Core.List.{[], _∷_}
+use Prim.Native.Nat.{_-_}
+use mir.Syntax.{w64}
+use mir.Val.{ofZ}
+use Rattle.sums.proofs.Words.{back}
+use Rattle.wihupya.specs.Words.{lowWord, highWord}
+use Rattle.wihupya.specs.Exports.{countsAfter}
+use borrow.Author.Needs.{needs, sfits-of}
+use Rattle.counting.specs.Answer.{countsIn}
+use Rattle.wihupya.proofs.count_words.Statement.{statement}
+use Rattle.wihupya.proofs.count_words.Tie as tie
+
+bits-of-requires : tie.Need-bits-of-requires
+bits-of-requires c κs = search needs
+
+low-word-requires : tie.Need-low-word-requires
+low-word-requires c κs = search needs
+
+array-write-words : tie.Need-array-write-words
+array-write-words c = search needs
+
+high-word-requires : tie.Need-high-word-requires
+high-word-requires c κs = search needs
+
+array-write-words-2 : tie.Need-array-write-words-2
+array-write-words-2 c = search needs
+
+low-word-requires-2 : tie.Need-low-word-requires-2
+low-word-requires-2 c κs = search needs
+
+array-write-words-3 : tie.Need-array-write-words-3
+array-write-words-3 c = search needs
+
+high-word-requires-2 : tie.Need-high-word-requires-2
+high-word-requires-2 c κs = search needs
+
+array-write-words-4 : tie.Need-array-write-words-4
+array-write-words-4 c = search needs
+
+array-write-words-5 : tie.Need-array-write-words-5
+array-write-words-5 c = search needs
+
+array-write-words-6 : tie.Need-array-write-words-6
+array-write-words-6 c = search needs
+
+array-write-words-7 : tie.Need-array-write-words-7
+array-write-words-7 c = search needs
+
+array-write-words-8 : tie.Need-array-write-words-8
+array-write-words-8 c = search needs
+
+array-write-words-9 : tie.Need-array-write-words-9
+array-write-words-9 c = search needs
+
+returns : tie.Need-returns
+unfolding countsAfter countsIn
+returns c =
+    let s = c .before .before .before .before .before .before in
+    let n = s .args .counts in
+    let mean = c .before .before .before .before .bits-of .ensures ∙ ap (ofZ w64) (back (n .mean) (sfits-of (c .before .before .before .before .before .struct-told .given .1 .1 .1 .1 .1 .0 .1))) in
+    λ i. c .before .before .before .low-word .ensures i ∷ c .before .before .high-word .ensures i ∷ (c .before .low-word2 .ensures ∙ ap lowWord mean) i ∷ (c .high-word2 .ensures ∙ ap highWord mean) i ∷ n .old ∷ n .active ∷ n .wanted ∷ n .reserved ∷ n .ceiling ∷ []
+
+pub count-words-spec : {M : Type 1} → statement M
+count-words-spec =
+    tie.close
+    (tie.spec
+    bits-of-requires
+    low-word-requires
+    array-write-words
+    high-word-requires
+    array-write-words-2
+    low-word-requires-2
+    array-write-words-3
+    high-word-requires-2
+    array-write-words-4
+    array-write-words-5
+    array-write-words-6
+    array-write-words-7
+    array-write-words-8
+    array-write-words-9
+    returns)

@@ -1,0 +1,93 @@
+-- `wihupya::words_of` meets its contract: the ten words one after the other. Assumes nothing.
+use mathlib.Core.Path.{ap, _∙_}
+use mathlib.Core.List.{[], _∷_}
+use Prim.Native.Nat.{_-_}
+use mir.Syntax.{w64}
+use mir.Val.{ofZ}
+use Rattle.sums.proofs.Words.{back}
+use Rattle.wihupya.specs.Words.{lowWord, highWord, wordsOf}
+use borrow.Author.Needs.{needs, sfits-of}
+use Rattle.wihupya.proofs.words_of.Statement.{statement}
+use Rattle.wihupya.proofs.words_of.Tie as tie
+
+bits-of-requires : tie.Need-bits-of-requires
+bits-of-requires c κs = search needs
+
+low-word-requires : tie.Need-low-word-requires
+low-word-requires c κs = search needs
+
+array-write-words : tie.Need-array-write-words
+array-write-words c = search needs
+
+high-word-requires : tie.Need-high-word-requires
+high-word-requires c κs = search needs
+
+array-write-words-2 : tie.Need-array-write-words-2
+array-write-words-2 c = search needs
+
+low-word-requires-2 : tie.Need-low-word-requires-2
+low-word-requires-2 c κs = search needs
+
+array-write-words-3 : tie.Need-array-write-words-3
+array-write-words-3 c = search needs
+
+high-word-requires-2 : tie.Need-high-word-requires-2
+high-word-requires-2 c κs = search needs
+
+array-write-words-4 : tie.Need-array-write-words-4
+array-write-words-4 c = search needs
+
+low-word-requires-3 : tie.Need-low-word-requires-3
+low-word-requires-3 c κs = search needs
+
+array-write-words-5 : tie.Need-array-write-words-5
+array-write-words-5 c = search needs
+
+high-word-requires-3 : tie.Need-high-word-requires-3
+high-word-requires-3 c κs = search needs
+
+array-write-words-6 : tie.Need-array-write-words-6
+array-write-words-6 c = search needs
+
+array-write-words-7 : tie.Need-array-write-words-7
+array-write-words-7 c = search needs
+
+array-write-words-8 : tie.Need-array-write-words-8
+array-write-words-8 c = search needs
+
+array-write-words-9 : tie.Need-array-write-words-9
+array-write-words-9 c = search needs
+
+array-write-words-10 : tie.Need-array-write-words-10
+array-write-words-10 c = search needs
+
+returns : tie.Need-returns
+unfolding wordsOf
+returns c =
+    let s = c .before .before .before .before .before .before .before .before in
+    let j = s .args .job in
+    let mean = c .before .before .before .before .before .before .bits-of .ensures ∙ ap (ofZ w64) (back (j .mean) (sfits-of (c .before .before .before .before .before .before .before .struct-told .given .1 .1 .1 .1 .0 .1))) in
+    λ i. c .before .before .before .before .before .low-word .ensures i ∷ c .before .before .before .before .high-word .ensures i ∷ c .before .before .before .low-word2 .ensures i ∷ c .before .before .high-word2 .ensures i ∷ (c .before .low-word3 .ensures ∙ ap lowWord mean) i ∷ (c .high-word3 .ensures ∙ ap highWord mean) i ∷ j .settings .axes ∷ j .settings .budget ∷ j .held ∷ j .reserved ∷ []
+
+pub words-of-spec : {M : Type 1} → statement M
+words-of-spec =
+    tie.close
+    (tie.spec
+    bits-of-requires
+    low-word-requires
+    array-write-words
+    high-word-requires
+    array-write-words-2
+    low-word-requires-2
+    array-write-words-3
+    high-word-requires-2
+    array-write-words-4
+    low-word-requires-3
+    array-write-words-5
+    high-word-requires-3
+    array-write-words-6
+    array-write-words-7
+    array-write-words-8
+    array-write-words-9
+    array-write-words-10
+    returns)

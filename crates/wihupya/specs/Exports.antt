@@ -1,0 +1,74 @@
+-- What an exported call leaves: a number, 0 if it was not refused and else the number of the cause; the job record's words, the cells'
+-- records and rest, and the store. Promote, result and cross total write their answer into words of their own, which a refusal
+-- leaves.
+use mathlib.Core.List.{List, [], _∷_}
+use Prim.Native.Nat.{ℕ}
+use lib.IntN.{ℤ}
+use mir.Syntax.{w64}
+use mir.Val.{ofZ}
+use Rattle.area.specs.Records.{Run}
+use Rattle.machine.specs.Promote.{Outcome, met, spent, promoted}
+use Rattle.calls.specs.Replies.{Reply, refused, accepted, promotion, counts, total, verdict}
+use Rattle.calls.specs.Calls.{Called}
+use Rattle.wihupya.specs.Words.{lowWord, highWord, wordsOf}
+
+unfoldable pub numberOf : Reply → ℕ
+numberOf (refused n) = n
+numberOf accepted = 0
+numberOf (promotion o) = 0
+numberOf (counts c) = 0
+numberOf (total x) = 0
+numberOf (verdict b) = 0
+
+pub record Exported : Type 0 where
+  pub number : ℕ
+  pub job : List ℕ
+  pub run : Run
+  pub store : List ℤ
+
+unfoldable pub exported : Called → Exported
+exported x = record { number = numberOf (x .answer .reply); job = wordsOf (x .area .job); run = x .area .run; store = x .area .store }
+
+-- 0 met, 1 spent, 2 promoted.
+unfoldable pub outcomeWord : Outcome → ℕ
+outcomeWord met = 0
+outcomeWord spent = 1
+outcomeWord promoted = 2
+
+-- The outcome's word after promote.
+unfoldable pub outcomeAfter : Reply → List ℕ → List ℕ
+outcomeAfter (refused n) w = w
+outcomeAfter accepted w = w
+outcomeAfter (promotion o) w = outcomeWord o ∷ []
+outcomeAfter (counts c) w = w
+outcomeAfter (total x) w = w
+outcomeAfter (verdict b) w = w
+
+-- The counts' words after result: pending error and scaled mean with their low word first, then old, active, wanted, reserved and the
+-- ceiling count.
+unfoldable pub countsAfter : Reply → List ℕ → List ℕ
+countsAfter (refused n) w = w
+countsAfter accepted w = w
+countsAfter (promotion o) w = w
+countsAfter (counts c) w =
+    lowWord (c .pending)
+    ∷ highWord (c .pending)
+    ∷ lowWord (ofZ w64 (c .mean))
+    ∷ highWord (ofZ w64 (c .mean))
+    ∷ c .old
+    ∷ c .active
+    ∷ c .wanted
+    ∷ c .reserved
+    ∷ c .ceiling
+    ∷ []
+countsAfter (total x) w = w
+countsAfter (verdict b) w = w
+
+-- The total's words after cross total, its low word first.
+unfoldable pub totalAfter : Reply → List ℕ → List ℕ
+totalAfter (refused n) w = w
+totalAfter accepted w = w
+totalAfter (promotion o) w = w
+totalAfter (counts c) w = w
+totalAfter (total x) w = lowWord (ofZ w64 x) ∷ highWord (ofZ w64 x) ∷ []
+totalAfter (verdict b) w = w

@@ -1,0 +1,277 @@
+// The calls, exported for C and Rust: the proved functions, with nothing asked of what the storage holds. A job record is ten words
+// (specs/Words.antt). The length of cells counts words, 27 to a record; that of the store counts readings. A call returns 0 if it was
+// not refused, else the number of the cause. include/wihupya.h says it for C, and bindings/ for Rust.
+ghost use mathlib.Core.Path.{_≡_};
+ghost use mathlib.Core.List.{[]};
+ghost use Prim.Native.Nat.{_+_, _*_, _^_};
+ghost use mir.Syntax.{w64};
+ghost use mir.Val.{toZ, ofZ};
+ghost use Rattle.area.specs.Settings.{settingsOf};
+ghost use Rattle.area.specs.Encoding.{areaOf};
+ghost use Rattle.soundness.specs.Clauses.{checked};
+ghost use Rattle.area.specs.Records.{runOf};
+ghost use Rattle.counting.specs.Answer.{countsIn};
+ghost use Rattle.calls.specs.Replies.{counts as countsReply, total as totalReply, replyOf};
+ghost use Rattle.calls.specs.Table.{start, point, deliver, promote, result, crossTotal};
+ghost use Rattle.calls.specs.Calls.{callOn};
+ghost use Rattle.wihupya.specs.Words.{jobOf, lowWord, highWord, wordsOf};
+ghost use Rattle.wihupya.specs.Exports.{numberOf, exported, outcomeAfter, countsAfter, totalAfter};
+
+// Two words as a 64-bit number.
+fn wide(low: u32, high: u32) -> u64
+    ensures { λ r. ⌜ r ≡ low + high * 2 ^ 32 ⌝ }
+{
+    low as u64 + high as u64 * 4294967296
+}
+
+// A 64-bit number as two's complement.
+fn signed(bits: u64) -> i64
+    ensures { λ r. ⌜ r ≡ toZ w64 bits ⌝ }
+{
+    if bits < 9223372036854775808 {
+        bits as i64
+    } else {
+        let below = 18446744073709551615 - bits;
+        -1 - (below as i64)
+    }
+}
+
+// The job record that ten words are.
+fn job_of(words: &[u32; 10]) -> area::JobRecord
+    ensures { λ r. ⌜ r ≡ jobOf (now (words .entry)) ⌝ }
+{
+    area::JobRecord {
+        settings: area::Settings {
+            axes: words[6],
+            threshold: wide(words[0], words[1]),
+            budget: words[7],
+        },
+        held: words[8],
+        reserved: words[9],
+        pending: wide(words[2], words[3]),
+        mean: signed(wide(words[4], words[5])),
+    }
+}
+
+// The low and the high word of a 64-bit number.
+fn low_word(number: u64) -> u32
+    ensures { λ r. ⌜ r ≡ lowWord number ⌝ }
+{
+    (number % 4294967296) as u32
+}
+
+fn high_word(number: u64) -> u32
+    ensures { λ r. ⌜ r ≡ highWord number ⌝ }
+{
+    (number / 4294967296) as u32
+}
+
+// The 64 bits of a signed number.
+fn bits_of(number: i64) -> u64
+    ensures { λ r. ⌜ r ≡ ofZ w64 number ⌝ }
+{
+    if number < 0 {
+        let below = (-1 - number) as u64;
+        18446744073709551615 - below
+    } else {
+        number as u64
+    }
+}
+
+// The ten words of a job record.
+fn words_of(job: area::JobRecord) -> [u32; 10]
+    ensures { λ r. ⌜ r ≡ wordsOf job ⌝ }
+{
+    let mean = bits_of(job.mean);
+    let mut words = [0u32; 10];
+    words[0] = low_word(job.settings.threshold);
+    words[1] = high_word(job.settings.threshold);
+    words[2] = low_word(job.pending);
+    words[3] = high_word(job.pending);
+    words[4] = low_word(mean);
+    words[5] = high_word(mean);
+    words[6] = job.settings.axes;
+    words[7] = job.settings.budget;
+    words[8] = job.held;
+    words[9] = job.reserved;
+    words
+}
+
+// The number of an answer.
+fn number_of(answer: calls::Answer) -> u32
+    ensures { λ r. ⌜ r ≡ numberOf (replyOf answer) ⌝ }
+{
+    match answer {
+        calls::Answer::Refused(number) => number,
+        calls::Answer::Accepted => 0,
+        calls::Answer::Met => 0,
+        calls::Answer::Spent => 0,
+        calls::Answer::Promoted => 0,
+    }
+}
+
+// The outcome of a promotion as a word; another answer leaves the word.
+fn outcome_word(answer: calls::Answer, before: [u32; 1]) -> [u32; 1]
+    ensures { λ r. ⌜ r ≡ outcomeAfter (replyOf answer) before ⌝ }
+{
+    match answer {
+        calls::Answer::Refused(_) => before,
+        calls::Answer::Accepted => before,
+        calls::Answer::Met => [0u32; 1],
+        calls::Answer::Spent => [1u32; 1],
+        calls::Answer::Promoted => [2u32; 1],
+    }
+}
+
+// Counts as nine words.
+fn count_words(counts: counting::Counts) -> [u32; 9]
+    ensures { λ r. ⌜ r ≡ countsAfter (countsReply (countsIn counts)) [] ⌝ }
+{
+    let mean = bits_of(counts.mean);
+    let mut words = [0u32; 9];
+    words[0] = low_word(counts.pending);
+    words[1] = high_word(counts.pending);
+    words[2] = low_word(mean);
+    words[3] = high_word(mean);
+    words[4] = counts.old;
+    words[5] = counts.active;
+    words[6] = counts.wanted;
+    words[7] = counts.reserved;
+    words[8] = counts.ceiling;
+    words
+}
+
+// A total as two words.
+fn total_words(total: i64) -> [u32; 2]
+    ensures { λ r. ⌜ r ≡ totalAfter (totalReply total) [] ⌝ }
+{
+    let bits = bits_of(total);
+    let mut words = [0u32; 2];
+    words[0] = low_word(bits);
+    words[1] = high_word(bits);
+    words
+}
+
+// Whether the area is sound and lies in storage that is long enough.
+#[no_mangle]
+pub extern "C" fn wihupya_check(job: &[u32; 10], cells: &[u32], store: &[i32]) -> bool
+    ensures { λ r. ⌜ r ≡ checked (areaOf (jobOf (now (job .entry))) (now (cells .entry)) (now (store .entry))) ⌝ }
+{
+    checking::check(job_of(job), cells, store)
+}
+
+// Starts a job.
+#[no_mangle]
+pub extern "C" fn wihupya_start(
+    job: &mut [u32; 10],
+    axes: u32,
+    threshold: u64,
+    budget: u32,
+    cells: &mut [u32],
+    store: &[i32],
+) -> u32
+    ensures { λ r. ⌜ record { number = r; job = now (job .exit); run = runOf (now (cells .exit)); store = now (store .entry) } ≡ exported (callOn (areaOf (jobOf (now (job .entry))) (now (cells .entry)) (now (store .entry))) (start (settingsOf axes threshold budget))) ⌝ }
+{
+    let settings = area::Settings {
+        axes,
+        threshold,
+        budget,
+    };
+    let answered = calls::start(job_of(job), settings, cells, store);
+    let after = answered.job;
+    let answer = answered.answer;
+    *job = words_of(after);
+    number_of(answer)
+}
+
+// Writes the positions of a point of the first wanted block.
+#[no_mangle]
+pub extern "C" fn wihupya_point(
+    job: &[u32; 10],
+    n: usize,
+    cells: &[u32],
+    store: &[i32],
+    buffer: &mut [u8],
+) -> u32
+    ensures { λ r. ⌜ (r ≡ numberOf (callOn (areaOf (jobOf (now (job .entry))) (now (cells .entry)) (now (store .entry))) (point n (now (buffer .entry))) .answer .reply)) × (now (buffer .exit) ≡ callOn (areaOf (jobOf (now (job .entry))) (now (cells .entry)) (now (store .entry))) (point n (now (buffer .entry))) .answer .buffer) ⌝ }
+{
+    number_of(calls::point(job_of(job), n, cells, store, buffer))
+}
+
+// Delivers the first wanted block.
+#[no_mangle]
+pub extern "C" fn wihupya_deliver(
+    job: &mut [u32; 10],
+    readings: &[i32],
+    indicator: u32,
+    cells: &mut [u32],
+    store: &mut [i32],
+) -> u32
+    ensures { λ r. ⌜ record { number = r; job = now (job .exit); run = runOf (now (cells .exit)); store = now (store .exit) } ≡ exported (callOn (areaOf (jobOf (now (job .entry))) (now (cells .entry)) (now (store .entry))) (deliver (now (readings .entry)) indicator)) ⌝ }
+{
+    let answered = calls::deliver(job_of(job), readings, indicator, cells, store);
+    let after = answered.job;
+    let answer = answered.answer;
+    *job = words_of(after);
+    number_of(answer)
+}
+
+// Promotes, and tells the outcome: 0 met, 1 spent, 2 promoted.
+#[no_mangle]
+pub extern "C" fn wihupya_promote(
+    job: &mut [u32; 10],
+    outcome: &mut [u32; 1],
+    cells: &mut [u32],
+    store: &[i32],
+) -> u32
+    ensures is { λ r. ⌜ record { number = r; job = now (job .exit); run = runOf (now (cells .exit)); store = now (store .entry) } ≡ exported (callOn (areaOf (jobOf (now (job .entry))) (now (cells .entry)) (now (store .entry))) promote) ⌝ }
+    ensures outcome { λ r. ⌜ now (outcome .exit) ≡ outcomeAfter (callOn (areaOf (jobOf (now (job .entry))) (now (cells .entry)) (now (store .entry))) promote .answer .reply) (now (outcome .entry)) ⌝ }
+{
+    let answered = calls::promote(job_of(job), cells, store);
+    let after = answered.job;
+    let answer = answered.answer;
+    *job = words_of(after);
+    let before = *outcome;
+    *outcome = outcome_word(answer, before);
+    number_of(answer)
+}
+
+// The counts of the area.
+#[no_mangle]
+pub extern "C" fn wihupya_result(
+    job: &[u32; 10],
+    counts: &mut [u32; 9],
+    cells: &[u32],
+    store: &[i32],
+) -> u32
+    ensures { λ r. ⌜ (r ≡ numberOf (callOn (areaOf (jobOf (now (job .entry))) (now (cells .entry)) (now (store .entry))) result .answer .reply)) × (now (counts .exit) ≡ countsAfter (callOn (areaOf (jobOf (now (job .entry))) (now (cells .entry)) (now (store .entry))) result .answer .reply) (now (counts .entry))) ⌝ }
+{
+    let resulted = calls::result(job_of(job), cells, store);
+    match resulted {
+        calls::Resulted::Refused(number) => number,
+        calls::Resulted::Counted(found) => {
+            *counts = count_words(found);
+            0
+        }
+    }
+}
+
+// The scaled mean worked out from the readings.
+#[no_mangle]
+pub extern "C" fn wihupya_cross_total(
+    job: &[u32; 10],
+    total: &mut [u32; 2],
+    cells: &[u32],
+    store: &[i32],
+) -> u32
+    ensures { λ r. ⌜ (r ≡ numberOf (callOn (areaOf (jobOf (now (job .entry))) (now (cells .entry)) (now (store .entry))) crossTotal .answer .reply)) × (now (total .exit) ≡ totalAfter (callOn (areaOf (jobOf (now (job .entry))) (now (cells .entry)) (now (store .entry))) crossTotal .answer .reply) (now (total .entry))) ⌝ }
+{
+    let totalled = calls::cross_total(job_of(job), cells, store);
+    match totalled {
+        calls::Totalled::Refused(number) => number,
+        calls::Totalled::Total(found) => {
+            *total = total_words(found);
+            0
+        }
+    }
+}
