@@ -4,5 +4,5 @@ pub mod Slices
 pub mod Records
 pub mod Cells
 pub mod Lookups
-pub mod Founds
+pub mod LookupPlaces
 pub mod Facts

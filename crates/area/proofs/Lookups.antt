@@ -11,9 +11,9 @@ use lib.ListN.{length, getD, take, drop, drop-of-length-le}
 use lib.Seq.{drop-cons, getD-take, length-take-le}
 use borrow.Author.Tests.{eq-eqb, ne-eqb}
 use Rattle.grid.specs.Coefficient.{sameLevels}
-use Rattle.area.specs.declared.Found.the-variants.{At, Nothing}
+use Rattle.area.specs.declared.LookupResult.the-variants.{At, NotFound}
 use Rattle.area.specs.Records.{recordsOf, blank, heldIn}
-use Rattle.area.specs.Lookup.{foundFrom}
+use Rattle.area.specs.Lookup.{lookupFrom}
 use Rattle.area.proofs.Records.{length-recordsOf}
 
 -- one level of each list
@@ -46,14 +46,14 @@ flag-end a b i whole false ha hb h = h
 
 -- one record of the first n
 module _ (c : List ℕ) (n p : ℕ) (k : List ℕ) (room : n * 27 ≤ length c) where
-  pub found-head : p < n → foundFrom p (drop p (heldIn c n)) k ≡ cond (sameLevels (getD (recordsOf c) p blank .levels) k) (At p) (foundFrom (p + 1) (drop (p + 1) (heldIn c n)) k)
-  unfolding foundFrom heldIn
+  pub found-head : p < n → lookupFrom p (drop p (heldIn c n)) k ≡ cond (sameLevels (getD (recordsOf c) p blank .levels) k) (At p) (lookupFrom (p + 1) (drop (p + 1) (heldIn c n)) k)
+  unfolding lookupFrom heldIn
   found-head h =
       let hl : length (take n (recordsOf c)) ≡ n = length-take-le n (recordsOf c) (rw (length-recordsOf c) (omega arith)) in
       rw (drop-cons (take n (recordsOf c)) p blank (omega arith), getD-take n (recordsOf c) p blank h, add-one p)
 
-  pub found-end : n ≤ p → foundFrom p (drop p (heldIn c n)) k ≡ Nothing
-  unfolding foundFrom heldIn
+  pub found-end : n ≤ p → lookupFrom p (drop p (heldIn c n)) k ≡ NotFound
+  unfolding lookupFrom heldIn
   found-end h =
       let hl : length (take n (recordsOf c)) ≡ n = length-take-le n (recordsOf c) (rw (length-recordsOf c) (omega arith)) in
       let q : length (take n (recordsOf c)) ≤ p = omega arith in

@@ -5,7 +5,7 @@ use Prim.Native.Nat.{ℕ, _+_}
 use lib.Dec.{leb}
 use lib.IntN.{ℤ}
 use lib.ListN.{length, take, drop}
-use Rattle.sums.specs.Lists.{tab}
+use Rattle.sums.specs.Lists.{tabulate}
 use Rattle.grid.specs.Index.{forward, backward}
 use Rattle.grid.specs.Coefficient.{sameLevels}
 use Rattle.area.specs.declared.IndexRecord.{IndexRecord}
@@ -65,7 +65,7 @@ placeOf ls k = placeFrom 0 ls k
 -- Sixteen links: the places of the forward neighbours along axes 1 to 8, then of the backward neighbours. Lowered at level 1 the
 -- list has a level 0, which no index has, so there the link is none.
 unfoldable pub linksOf : List (List ℕ) → List ℕ → List ℕ
-linksOf ls k = tab 8 (λ a. placeOf ls (forward k a)) ++ tab 8 (λ a. placeOf ls (backward k a))
+linksOf ls k = tabulate 8 (λ a. placeOf ls (forward k a)) ++ tabulate 8 (λ a. placeOf ls (backward k a))
 
 -- The record of an entry whose readings lie from f on.
 unfoldable pub encoded : List (List ℕ) → ℕ → Entry → IndexRecord

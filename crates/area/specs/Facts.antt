@@ -6,9 +6,9 @@ use Prim.Native.Nat.{ℕ, _<_, _≤_}
 use lib.Dec.{leb}
 use lib.ListN.{length, getD}
 use Rattle.area.specs.declared.IndexRecord.{IndexRecord}
-use Rattle.area.specs.declared.Found.the-variants.{At, Nothing}
+use Rattle.area.specs.declared.LookupResult.the-variants.{At, NotFound}
 use Rattle.area.specs.Records.{Run, runOf, cellsOf, blank, levelsOf}
-use Rattle.area.specs.Lookup.{foundIn}
+use Rattle.area.specs.Lookup.{lookupIn}
 use Rattle.area.specs.Encoding.{none, placeOf}
 
 pub record RunFacts : Type 0 where
@@ -21,4 +21,4 @@ pub record RunFacts : Type 0 where
       → length (u .rest) < 27 → runOf (cellsOf u) ≡ u
   -- the lookup as an answer and as a place are one: it finds the place, or nothing where the place is none
   pub found : (rs : List IndexRecord) (k : List ℕ) → length rs ≤ none
-      → foundIn rs k ≡ cond (leb none (placeOf (levelsOf rs) k)) Nothing (At (placeOf (levelsOf rs) k))
+      → lookupIn rs k ≡ cond (leb none (placeOf (levelsOf rs) k)) NotFound (At (placeOf (levelsOf rs) k))

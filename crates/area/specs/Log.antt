@@ -17,5 +17,5 @@ pub record Machine : Type 0 where
 abbrev pub withEntries : Log → List Entry → Log
 withEntries l es = record { settings = l .settings; entries = es }
 
-abbrev pub holding : Machine → List Entry → Machine
-holding m es = record { log = withEntries (m .log) es; mean = m .mean }
+abbrev pub machineWithEntries : Machine → List Entry → Machine
+machineWithEntries m es = record { log = withEntries (m .log) es; mean = m .mean }

@@ -9,7 +9,7 @@ ghost use Rattle.grid.specs.Index.{level, Within};
 ghost use Rattle.grid.specs.Coefficient.{sameLevels};
 ghost use Rattle.area.specs.Settings.{readingsFor, readingCount, leastStore};
 ghost use Rattle.area.specs.Records.{recordsOf, runOf, stored, blank, heldIn};
-ghost use Rattle.area.specs.Lookup.{foundIn};
+ghost use Rattle.area.specs.Lookup.{lookupIn};
 
 // The link to a neighbour that is not held.
 pub const NONE: u32 = 4294967295;
@@ -45,9 +45,9 @@ pub struct IndexRecord {
 }
 
 // Where a level list is held.
-pub enum Found {
+pub enum LookupResult {
     At(usize),
-    Nothing,
+    NotFound,
 }
 
 // How many readings so many points have.
@@ -198,18 +198,18 @@ fn levels_match(cells: &[u32], place: usize, levels: [u32; 8]) -> bool
 }
 
 // The first held place that has these levels.
-pub fn lookup(cells: &[u32], held: usize, levels: [u32; 8]) -> Found
+pub fn lookup(cells: &[u32], held: usize, levels: [u32; 8]) -> LookupResult
     requires { ⌜ held * 27 ≤ length (now cells) ⌝ }
-    ensures { λ r. ⌜ r ≡ foundIn (heldIn (now (cells .entry)) held) levels ⌝ }
+    ensures { λ r. ⌜ r ≡ lookupIn (heldIn (now (cells .entry)) held) levels ⌝ }
 {
     let mut place = 0;
     while place < held {
         if levels_match(cells, place, levels) {
-            return Found::At(place);
+            return LookupResult::At(place);
         }
         place += 1;
     }
-    Found::Nothing
+    LookupResult::NotFound
 }
 
 // Writes eight cells in a row; the others stay.

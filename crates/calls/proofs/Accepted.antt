@@ -17,7 +17,7 @@ use Rattle.grid.specs.Block.{blockSize}
 use Rattle.soundness.proofs.Exactly.{reads-and, reads-le}
 use Rattle.area.specs.Log.{Log}
 use Rattle.machine.specs.Log.{firstWanted, anyWanted, wantedIndex}
-use Rattle.machine.specs.Causes.{Cause, Lengths, cause, firstCause, short, inRange, narrowFor, startCauses, pointCauses, deliverCauses, promoteCauses, resultCauses}
+use Rattle.machine.specs.Causes.{Cause, Lengths, cause, firstCause, short, inRange, pointBufferShort, startCauses, pointCauses, deliverCauses, promoteCauses, resultCauses}
 
 -- no test of the list refuses
 pub record Missed (t : Bool) (cs : List Cause) : Type 0 where
@@ -115,7 +115,7 @@ module _ (z : Lengths) (sound : Bool) (l : Log) where
   unfolding pointCauses
   pointable n w e =
       let one = missed _ 2 _ e in
-      let long = neither (narrowFor (l .settings) w) (short z (l .settings)) (one .here) in
+      let long = neither (pointBufferShort (l .settings) w) (short z (l .settings)) (one .here) in
       let two = missed _ 3 _ (one .later) in
       let three = missed _ 4 _ (two .later) in
       let four = missed _ 8 _ (three .later) in

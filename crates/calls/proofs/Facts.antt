@@ -12,25 +12,25 @@ use Rattle.area.specs.declared.Settings.{Settings}
 use Rattle.area.specs.Encoding.{Area, heldOf, entriesOf, machineOf}
 use Rattle.quadrature.specs.Readings.{recordAt}
 use Rattle.soundness.specs.Clauses.{isSound}
-use Rattle.encoding.specs.Encodes.{Formed}
+use Rattle.encoding.specs.Encodes.{WellFormed}
 use Rattle.machine.specs.Log.{firstWanted}
 use Rattle.machine.specs.Promote.{met, spent}
 use Rattle.machine.specs.Steps.{started}
 use Rattle.machine.specs.Causes.{firstCause, startCauses, pointCauses, deliverCauses, promoteCauses}
 use Rattle.machine.specs.Areas.{startOn, deliverOn, promoteOn}
-use Rattle.writing.specs.Settled.{Settled}
+use Rattle.writing.specs.ValidArea.{ValidArea}
 use Rattle.calls.specs.Replies.{refused, accepted, promotion, lengthsOf}
 use Rattle.calls.specs.Table.{Call, start, point, deliver, promote, result, crossTotal, check, answer, row, causesOf, effectOf, fitting, acceptedAnswer, refusedAnswer, refusal, stateAfter}
-use Rattle.calls.specs.Calls.{Called, areaAfter, refusalOn, callOn}
+use Rattle.calls.specs.Calls.{CallResult, areaAfter, refusalOn, callOn}
 use Rattle.calls.specs.Facts.{PastUnchanged, numbersOf, Accepted, CallFacts}
 use Rattle.calls.proofs.Buffers.{laid-length, laid-later}
 use Rattle.calls.proofs.Numbers.{cause-number, accepted-reply}
-use Rattle.calls.proofs.Ways.{refused-reply, call-accepts, call-ways}
+use Rattle.calls.proofs.CauseCases.{refused-reply, call-accepts, call-ways}
 use Rattle.calls.proofs.Rows.{start-accepts, start-refuses, promote-accepts}
 use Rattle.calls.proofs.Outcomes.{idle-area}
-use Rattle.calls.proofs.Next.{IsJob, Next, next-start, next-settled, allowed-there, settled-before, after-settled, after-state, after-lengths, after-past}
-use Rattle.calls.proofs.Told.{cross-mean, result-recorded, check-answer}
-use Rattle.calls.proofs.Left.{started-store, started-same, delivered-outside, delivered-stored, promoted-store}
+use Rattle.calls.proofs.Next.{IsJob, Next, next-start, next-valid, allowed-there, valid-before, after-valid, after-state, after-lengths, after-past}
+use Rattle.calls.proofs.ResultValues.{cross-mean, result-recorded, check-answer}
+use Rattle.calls.proofs.StepEffects.{started-store, started-same, delivered-outside, delivered-stored, promoted-store}
 use Rattle.calls.proofs.Written.{written-state}
 
 -- ---- refused or not
@@ -38,31 +38,31 @@ use Rattle.calls.proofs.Written.{written-state}
 module _ (a : Area) (c : Call) where
   refused-keeps : (n : ℕ) → callOn a c .answer .reply ≡ refused n → (callOn a c .area ≡ a) × (callOn a c .answer ≡ refusedAnswer n (row c)) × List·Memᴰ n (numbersOf c)
   refused-keeps n =
-      call-ways a c (λ (x : Called). x .answer .reply ≡ refused n → (x .area ≡ a) × (x .answer ≡ refusedAnswer n (row c)) × List·Memᴰ n (numbersOf c))
+      call-ways a c (λ (x : CallResult). x .answer .reply ≡ refused n → (x .area ≡ a) × (x .answer ≡ refusedAnswer n (row c)) × List·Memᴰ n (numbersOf c))
       (λ none e. absurd (accepted-reply (fitting (lengthsOf a) (isSound a) (machineOf a .log)) (machineOf a) c n e))
       (λ some e. let same : refusalOn a c ≡ n = same-number e in
-        (refl, ap (λ k. refusedAnswer k (row c)) same, subst (λ k. List·Memᴰ k (numbersOf c)) same (cause-number (lengthsOf a) (isSound a) (machineOf a .log) c some)))
+      (refl, ap (λ k. refusedAnswer k (row c)) same, subst (λ k. List·Memᴰ k (numbersOf c)) same (cause-number (lengthsOf a) (isSound a) (machineOf a .log) c some)))
     where
       same-number : refusedAnswer (refusalOn a c) (row c) .reply ≡ refused n → refusalOn a c ≡ n
       same-number e = let k : refused (refusalOn a c) ≡ refused n = sym (refused-reply (refusalOn a c) (row c)) ∙ e in cc
 
   -- a call that answers no refusal has no cause
   pub no-cause : Accepted a c → refusalOn a c ≡ 0
-  no-cause f = call-ways a c (λ (x : Called). ((n : ℕ) → x .answer .reply ≡ refused n → ⊥) → refusalOn a c ≡ 0) (λ none g. none)
+  no-cause f = call-ways a c (λ (x : CallResult). ((n : ℕ) → x .answer .reply ≡ refused n → ⊥) → refusalOn a c ≡ 0) (λ none g. none)
       (λ some g. absurd (g (refusalOn a c) (refused-reply (refusalOn a c) (row c)))) f
 
   past : PastUnchanged a (callOn a c .area)
-  past = call-ways a c (λ (x : Called). PastUnchanged a (x .area)) (λ none. after-past a (effectOf (machineOf a) (row c))) (λ some. record { records = refl; rest = refl })
+  past = call-ways a c (λ (x : CallResult). PastUnchanged a (x .area)) (λ none. after-past a (effectOf (machineOf a) (row c))) (λ some. record { records = refl; rest = refl })
 
-  module _ (formed : Formed (heldOf a)) where
+  module _ (well-formed : WellFormed (heldOf a)) where
     lengths : lengthsOf (callOn a c .area) ≡ lengthsOf a
-    lengths = call-ways a c (λ (x : Called). lengthsOf (x .area) ≡ lengthsOf a) (λ none. after-lengths a (effectOf (machineOf a) (row c)) (allowed-there a formed c none)) (λ some. refl)
+    lengths = call-ways a c (λ (x : CallResult). lengthsOf (x .area) ≡ lengthsOf a) (λ none. after-lengths a (effectOf (machineOf a) (row c)) (allowed-there a well-formed c none)) (λ some. refl)
 
     state : Accepted a c → machineOf (callOn a c .area) ≡ stateAfter (lengthsOf a) (isSound a) (machineOf a) c
     unfolding stateAfter callOn
     state f =
         let none = no-cause f in
-        rw none (after-state a (effectOf (machineOf a) (row c)) (allowed-there a formed c none))
+        rw none (after-state a (effectOf (machineOf a) (row c)) (allowed-there a well-formed c none))
 
 -- ---- an accepted start
 
@@ -81,9 +81,9 @@ module _ (a : Area) (g : Settings) where
   unfolding refusal causesOf row
   next-there none = next-start (lengthsOf a) g none
 
-  start-settles : callOn a (start g) .answer .reply ≡ accepted → Settled (callOn a (start g) .area)
+  start-leaves-valid : callOn a (start g) .answer .reply ≡ accepted → ValidArea (callOn a (start g) .area)
   unfolding startOn
-  start-settles e = rw (is-start (start-none e)) (next-settled a (started g) (next-there (start-none e)))
+  start-leaves-valid e = rw (is-start (start-none e)) (next-valid a (started g) (next-there (start-none e)))
 
   start-state : callOn a (start g) .answer .reply ≡ accepted → machineOf (callOn a (start g) .area) ≡ started g
   unfolding startOn
@@ -91,11 +91,11 @@ module _ (a : Area) (g : Settings) where
 
   start-lengths : lengthsOf (callOn a (start g) .area) ≡ lengthsOf a
   unfolding effectOf row
-  start-lengths = call-ways a (start g) (λ (x : Called). lengthsOf (x .area) ≡ lengthsOf a) (λ none. after-lengths a (effectOf (machineOf a) (row (start g))) (next-there none)) (λ some. refl)
+  start-lengths = call-ways a (start g) (λ (x : CallResult). lengthsOf (x .area) ≡ lengthsOf a) (λ none. after-lengths a (effectOf (machineOf a) (row (start g))) (next-there none)) (λ some. refl)
 
   start-store : callOn a (start g) .area .store ≡ a .store
   unfolding effectOf row areaAfter startOn
-  start-store = call-ways a (start g) (λ (x : Called). x .area .store ≡ a .store) (λ none. started-store a g) (λ some. refl)
+  start-store = call-ways a (start g) (λ (x : CallResult). x .area .store ≡ a .store) (λ none. started-store a g) (λ some. refl)
 
 module _ (a b : Area) (g : Settings) (same : lengthsOf a ≡ lengthsOf b) where
   abbrev cause : ℕ
@@ -107,8 +107,8 @@ module _ (a b : Area) (g : Settings) (same : lengthsOf a ≡ lengthsOf b) where
   start-answer : callOn a (start g) .answer ≡ callOn b (start g) .answer
   unfolding refusal causesOf row acceptedAnswer refusedAnswer
   start-answer =
-      call-ways a (start g) (λ (x : Called). x .answer ≡ callOn b (start g) .answer) (λ none. ap (λ (x : Called). x .answer) (start-accepts b g cause one-cause none))
-      (λ some. ap (λ (x : Called). x .answer) (start-refuses b g cause one-cause some))
+      call-ways a (start g) (λ (x : CallResult). x .answer ≡ callOn b (start g) .answer) (λ none. ap (λ (x : CallResult). x .answer) (start-accepts b g cause one-cause none))
+      (λ some. ap (λ (x : CallResult). x .answer) (start-refuses b g cause one-cause some))
 
   start-job : callOn a (start g) .answer .reply ≡ accepted
       → (callOn a (start g) .area .job ≡ callOn b (start g) .area .job)
@@ -118,52 +118,52 @@ module _ (a b : Area) (g : Settings) (same : lengthsOf a ≡ lengthsOf b) where
 
 -- ---- every accepted call but check
 
-module _ (a : Area) (formed : Formed (heldOf a)) where
-  job-settles : (c : Call) → IsJob (row c) → refusalOn a c ≡ 0 → Settled (areaAfter a (effectOf (machineOf a) (row c)))
-  job-settles c j none = after-settled a (effectOf (machineOf a) (row c)) (settled-before a formed c j none) (allowed-there a formed c none)
+module _ (a : Area) (well-formed : WellFormed (heldOf a)) where
+  job-leaves-valid : (c : Call) → IsJob (row c) → refusalOn a c ≡ 0 → ValidArea (areaAfter a (effectOf (machineOf a) (row c)))
+  job-leaves-valid c j none = after-valid a (effectOf (machineOf a) (row c)) (valid-before a well-formed c j none) (allowed-there a well-formed c none)
 
-  by-call : (c : Call) → refusalOn a c ≡ 0 → (c ≡ check → ⊥) → Settled (areaAfter a (effectOf (machineOf a) (row c)))
-  by-call (start g) none h = unfold effectOf row areaAfter in next-settled a (started g) (next-there a g none)
-  by-call (point n buffer) none h = job-settles (point n buffer) (unfold row in tt) none
-  by-call (deliver rs i) none h = job-settles (deliver rs i) (unfold row in tt) none
-  by-call promote none h = job-settles promote (unfold row in tt) none
-  by-call result none h = job-settles result (unfold row in tt) none
-  by-call crossTotal none h = job-settles crossTotal (unfold row in tt) none
+  by-call : (c : Call) → refusalOn a c ≡ 0 → (c ≡ check → ⊥) → ValidArea (areaAfter a (effectOf (machineOf a) (row c)))
+  by-call (start g) none h = unfold effectOf row areaAfter in next-valid a (started g) (next-there a g none)
+  by-call (point n buffer) none h = job-leaves-valid (point n buffer) (unfold row in tt) none
+  by-call (deliver rs i) none h = job-leaves-valid (deliver rs i) (unfold row in tt) none
+  by-call promote none h = job-leaves-valid promote (unfold row in tt) none
+  by-call result none h = job-leaves-valid result (unfold row in tt) none
+  by-call crossTotal none h = job-leaves-valid crossTotal (unfold row in tt) none
   by-call check none h = absurd (h refl)
 
-settles : (a : Area) (c : Call) → Formed (heldOf a) → Accepted a c → (c ≡ check → ⊥) → Settled (callOn a c .area)
+leaves-valid : (a : Area) (c : Call) → WellFormed (heldOf a) → Accepted a c → (c ≡ check → ⊥) → ValidArea (callOn a c .area)
 unfolding callOn
-settles a c formed f other = rw (no-cause a c f) (by-call a formed c (no-cause a c f) other)
+leaves-valid a c well-formed f other = rw (no-cause a c f) (by-call a well-formed c (no-cause a c f) other)
 
 -- ---- point
 
 module _ (a : Area) (m : ℕ) where
   point-length : (buffer : List ℕ) → length (callOn a (point m buffer) .answer .buffer) ≡ length buffer
   unfolding refusal causesOf row acceptedAnswer refusedAnswer pointCauses machineOf
-  point-length buffer = call-ways a (point m buffer) (λ (x : Called). length (x .answer .buffer) ≡ length buffer) (laid-length a m buffer) (λ some. refl)
+  point-length buffer = call-ways a (point m buffer) (λ (x : CallResult). length (x .answer .buffer) ≡ length buffer) (laid-length a m buffer) (λ some. refl)
 
   point-later : (i : ℕ) (buffer : List ℕ) → a .job .settings .axes ≤ i → getD (callOn a (point m buffer) .answer .buffer) i 0 ≡ getD buffer i 0
   unfolding refusal causesOf row acceptedAnswer refusedAnswer pointCauses machineOf
   point-later i buffer h =
-      call-ways a (point m buffer) (λ (x : Called). getD (x .answer .buffer) i 0 ≡ getD buffer i 0) (λ none. laid-later a m buffer none i h) (λ some. refl)
+      call-ways a (point m buffer) (λ (x : CallResult). getD (x .answer .buffer) i 0 ≡ getD buffer i 0) (λ none. laid-later a m buffer none i h) (λ some. refl)
 
 -- ---- deliver
 
-module _ (a : Area) (rs : List ℤ) (i : ℕ) (formed : Formed (heldOf a)) where
+module _ (a : Area) (rs : List ℤ) (i : ℕ) (well-formed : WellFormed (heldOf a)) where
   abbrev first : ℕ
   first = recordAt (heldOf a) (firstWanted (entriesOf a)) .first
 
   deliver-store : (n : ℕ) → (n < first) ⊎ (first + length rs ≤ n) → getD (callOn a (deliver rs i) .area .store) n (pos 0) ≡ getD (a .store) n (pos 0)
   unfolding refusal causesOf effectOf row areaAfter deliverCauses deliverOn
   deliver-store n out =
-      call-ways a (deliver rs i) (λ (x : Called). getD (x .area .store) n (pos 0) ≡ getD (a .store) n (pos 0)) (λ none. delivered-outside a formed rs i none n out) (λ some. refl)
+      call-ways a (deliver rs i) (λ (x : CallResult). getD (x .area .store) n (pos 0) ≡ getD (a .store) n (pos 0)) (λ none. delivered-outside a well-formed rs i none n out) (λ some. refl)
 
   deliver-stored : (n : ℕ) → callOn a (deliver rs i) .answer .reply ≡ accepted → n < length rs
       → getD (callOn a (deliver rs i) .area .store) (first + n) (pos 0) ≡ getD rs n (pos 0)
   unfolding refusal causesOf effectOf row areaAfter refusedAnswer deliverCauses deliverOn
   deliver-stored n e h =
-      call-ways a (deliver rs i) (λ (x : Called). x .answer .reply ≡ accepted → getD (x .area .store) (first + n) (pos 0) ≡ getD rs n (pos 0))
-      (λ none f. delivered-stored a formed rs i none n h) (λ some f. absurd (accepted-not _ (sym f))) e
+      call-ways a (deliver rs i) (λ (x : CallResult). x .answer .reply ≡ accepted → getD (x .area .store) (first + n) (pos 0) ≡ getD rs n (pos 0))
+      (λ none f. delivered-stored a well-formed rs i none n h) (λ some f. absurd (accepted-not _ (sym f))) e
 
 -- ---- promote
 
@@ -172,23 +172,23 @@ module _ (a : Area) where
   unfolding refusal causesOf row promoteCauses
   is-promote none = sym (promote-accepts a (firstCause (promoteCauses (lengthsOf a) (isSound a) (machineOf a .log))) refl none)
 
-  promote-ways : (P : Called → Type 0) → (refusalOn a promote ≡ 0 → P (record { answer = answer (promotion (promoteOn a .outcome)); area = promoteOn a .area }))
+  promote-ways : (P : CallResult → Type 0) → (refusalOn a promote ≡ 0 → P (record { answer = answer (promotion (promoteOn a .outcome)); area = promoteOn a .area }))
       → ((refusalOn a promote ≡ 0 → ⊥) → P (record { answer = answer (refused (refusalOn a promote)); area = a })) → P (callOn a promote)
   unfolding refusedAnswer row
   promote-ways P f g = call-ways a promote P (λ none. subst P (sym (call-accepts-promote none)) (f none)) g
     where
       call-accepts-promote : refusalOn a promote ≡ 0
-          → _≡_ {A = Called} (record { answer = acceptedAnswer (fitting (lengthsOf a) (isSound a) (machineOf a .log)) (machineOf a) (row promote); area = areaAfter a (effectOf (machineOf a) (row promote)) })
+          → _≡_ {A = CallResult} (record { answer = acceptedAnswer (fitting (lengthsOf a) (isSound a) (machineOf a .log)) (machineOf a) (row promote); area = areaAfter a (effectOf (machineOf a) (row promote)) })
           (record { answer = answer (promotion (promoteOn a .outcome)); area = promoteOn a .area })
       call-accepts-promote none = call-accepts a promote (refusalOn a promote) refl none ∙ is-promote none
 
-  promote-store : Formed (heldOf a) → callOn a promote .area .store ≡ a .store
+  promote-store : WellFormed (heldOf a) → callOn a promote .area .store ≡ a .store
   unfolding refusal causesOf row promoteCauses
-  promote-store formed = promote-ways (λ (x : Called). x .area .store ≡ a .store) (λ none. promoted-store a formed none) (λ some. refl)
+  promote-store well-formed = promote-ways (λ (x : CallResult). x .area .store ≡ a .store) (λ none. promoted-store a well-formed none) (λ some. refl)
 
-  promote-idle : (callOn a promote .answer .reply ≡ promotion met) ⊎ (callOn a promote .answer .reply ≡ promotion spent) → callOn a promote .area ≡ a
-  promote-idle =
-      promote-ways (λ (x : Called). (x .answer .reply ≡ promotion met) ⊎ (x .answer .reply ≡ promotion spent) → x .area ≡ a) (λ none h. idle-area a (outcomes h)) (λ some h. refl)
+  promote-unchanged : (callOn a promote .answer .reply ≡ promotion met) ⊎ (callOn a promote .answer .reply ≡ promotion spent) → callOn a promote .area ≡ a
+  promote-unchanged =
+      promote-ways (λ (x : CallResult). (x .answer .reply ≡ promotion met) ⊎ (x .answer .reply ≡ promotion spent) → x .area ≡ a) (λ none h. idle-area a (outcomes h)) (λ some h. refl)
     where
       outcomes : (promotion (promoteOn a .outcome) ≡ promotion met) ⊎ (promotion (promoteOn a .outcome) ≡ promotion spent)
           → (promoteOn a .outcome ≡ met) ⊎ (promoteOn a .outcome ≡ spent)
@@ -199,18 +199,18 @@ pub call-facts : CallFacts
 call-facts =
     record {
       refused-keeps = refused-keeps;
-      start-settles = start-settles;
+      start-leaves-valid = start-leaves-valid;
       start-state = start-state;
-      settles = settles;
+      leaves-valid = leaves-valid;
       state = state;
       start-lengths = start-lengths;
       lengths = lengths;
       past = past;
       start-store = start-store;
       promote-store = promote-store;
-      deliver-store = λ a rs i n formed. deliver-store a rs i formed n;
-      deliver-stored = λ a rs i n formed. deliver-stored a rs i formed n;
-      promote-idle = promote-idle;
+      deliver-store = λ a rs i n well-formed. deliver-store a rs i well-formed n;
+      deliver-stored = λ a rs i n well-formed. deliver-stored a rs i well-formed n;
+      promote-unchanged = promote-unchanged;
       point-length = point-length;
       point-later = λ a n i buffer. point-later a n i buffer;
       result-recorded = result-recorded;

@@ -1,4 +1,4 @@
--- What an accepted call leaves: a settled area that holds the next state, in storage as long as before.
+-- What an accepted call leaves: a valid area that holds the next state, in storage as long as before.
 -- The idea: an accepted step keeps the clauses on the state, which is shown call by call; the rest is said once of any state that is written.
 -- Assumes nothing.
 use mathlib.Core.Path.{_≡_, refl, sym, subst}
@@ -11,13 +11,13 @@ use Rattle.area.specs.Settings.{leastStore}
 use Rattle.area.specs.Log.{Log, Machine}
 use Rattle.area.specs.Encoding.{Area, heldOf, machineOf, written}
 use Rattle.soundness.specs.Clauses.{isSound}
-use Rattle.encoding.specs.Encodes.{Formed}
+use Rattle.encoding.specs.Encodes.{WellFormed}
 use Rattle.encoding.specs.Entries.{SoundMachine}
 use Rattle.machine.specs.Promote as rule
 use Rattle.machine.specs.Steps as steps
 use Rattle.machine.specs.Causes.{Cause, Lengths, firstCause, jobCauses, short, startCauses, deliverCauses, promoteCauses, resultCauses}
 use Rattle.machine.proofs.Facts.{step-facts}
-use Rattle.writing.specs.Settled.{Settled}
+use Rattle.writing.specs.ValidArea.{ValidArea}
 use Rattle.writing.proofs.After.{machine-sound}
 use Rattle.calls.specs.Replies.{lengthsOf}
 use Rattle.calls.specs.Table.{Call, start, point, deliver, promote, result, crossTotal, check, Effect, leaves, becomes, promotionEffect, row, causesOf, effectOf, refusal, changed, Row, free, onJob}
@@ -26,8 +26,8 @@ use Rattle.calls.specs.Facts.{PastUnchanged}
 use Rattle.calls.proofs.Accepted.{missed, neither, startable, first-two, long-enough, promotable, deliverable}
 use Rattle.calls.proofs.Ranges.{readings-range}
 use Rattle.calls.proofs.Outcomes.{promoted-settings}
-use Rattle.calls.proofs.Settling.{sound-there, long-there}
-use Rattle.calls.proofs.Written.{written-past, written-settled, written-state, written-lengths}
+use Rattle.calls.proofs.Validity.{sound-there, long-there}
+use Rattle.calls.proofs.Written.{written-past, written-valid, written-state, written-lengths}
 
 -- ---- a call on a job: storage and area did not refuse it
 
@@ -41,7 +41,7 @@ job-clear z sound l (free r) j e = absurd j
 job-clear z sound l (onJob r) j e =
     let one = missed _ 2 _ e in
     let two = missed _ 3 _ (one .later) in
-    first-two z sound l (r .causes l) (neither (r .narrow (l .settings)) (short z (l .settings)) (one .here) .1) (two .here)
+    first-two z sound l (r .causes l) (neither (r .bufferShort (l .settings)) (short z (l .settings)) (one .here) .1) (two .here)
 
 -- ---- the next state
 
@@ -98,33 +98,33 @@ module _ (z : Lengths) (sound : Bool) (m : Machine) (known : firstCause (resultC
   allowed crossTotal none = tt
   allowed check none = tt
 
--- ---- on an area whose held records are formed
+-- ---- on an area whose held records are well-formed
 
-module _ (a : Area) (formed : Formed (heldOf a)) where
+module _ (a : Area) (well-formed : WellFormed (heldOf a)) where
   abbrev m : Machine
   m = machineOf a
 
-  pub settled : firstCause (resultCauses (lengthsOf a) (isSound a) (m .log)) ≡ 0 → Settled a
-  settled none = record { sound = sound-there a none; lent = long-there a none; formed = formed }
+  pub valid : firstCause (resultCauses (lengthsOf a) (isSound a) (m .log)) ≡ 0 → ValidArea a
+  valid none = record { sound = sound-there a none; lent = long-there a none; well-formed = well-formed }
 
   pub allowed-there : (c : Call) → refusalOn a c ≡ 0 → Allowed (lengthsOf a) (effectOf m (row c))
-  allowed-there c none = allowed (lengthsOf a) (isSound a) m (λ e. machine-sound a (settled e)) c none
+  allowed-there c none = allowed (lengthsOf a) (isSound a) m (λ e. machine-sound a (valid e)) c none
 
-  -- a call on a job finds the area settled
-  pub settled-before : (c : Call) → IsJob (row c) → refusalOn a c ≡ 0 → Settled a
+  -- a call on a job finds the area valid
+  pub valid-before : (c : Call) → IsJob (row c) → refusalOn a c ≡ 0 → ValidArea a
   unfolding refusal
-  settled-before c j none = settled (job-clear (lengthsOf a) (isSound a) (m .log) (row c) j none)
+  valid-before c j none = valid (job-clear (lengthsOf a) (isSound a) (m .log) (row c) j none)
 
 -- ---- the area that is left, whatever the call
 
-pub next-settled : (a : Area) (n : Machine) → Next (lengthsOf a) n → Settled (written a n)
-next-settled a n x = written-settled a n (x .sound) (x .records) (x .readings)
+pub next-valid : (a : Area) (n : Machine) → Next (lengthsOf a) n → ValidArea (written a n)
+next-valid a n x = written-valid a n (x .sound) (x .records) (x .readings)
 
 module _ (a : Area) where
-  pub after-settled : (e : Effect) → Settled a → Allowed (lengthsOf a) e → Settled (areaAfter a e)
+  pub after-valid : (e : Effect) → ValidArea a → Allowed (lengthsOf a) e → ValidArea (areaAfter a e)
   unfolding areaAfter
-  after-settled leaves s x = s
-  after-settled (becomes n) s x = next-settled a n x
+  after-valid leaves s x = s
+  after-valid (becomes n) s x = next-valid a n x
 
   pub after-state : (e : Effect) → Allowed (lengthsOf a) e → machineOf (areaAfter a e) ≡ changed (machineOf a) e
   unfolding areaAfter changed

@@ -19,8 +19,8 @@ use Rattle.machine.specs.Counts.{countsOf}
 use Rattle.machine.specs.Means.{crossOf}
 use Rattle.calls.specs.Replies.{refused, accepted, promotion, counts, total, lengthsOf}
 use Rattle.calls.specs.Table.{start, point, deliver, promote, result, crossTotal, answer, promotionEffect, row, causesOf, effectOf, acceptedAnswer, refusedAnswer, refusal}
-use Rattle.calls.specs.Calls.{Called, areaAfter, callOn}
-use Rattle.calls.proofs.Ways.{call-accepts, call-refuses}
+use Rattle.calls.specs.Calls.{CallResult, areaAfter, callOn}
+use Rattle.calls.proofs.CauseCases.{call-accepts, call-refuses}
 
 module _ (a : Area) (g : Settings) (n : ℕ) (is : n ≡ firstCause (startCauses (lengthsOf a) g)) where
   pub start-refuses : (n ≡ 0 → ⊥) → record { answer = answer (refused n); area = a } ≡ callOn a (start g)
@@ -63,26 +63,26 @@ module _ (a : Area) (n : ℕ) (is : n ≡ firstCause (promoteCauses (lengthsOf a
 module _ (a : Area) (n : ℕ) (buffer : List ℕ) (m : ℕ) (is : m ≡ firstCause (pointCauses (lengthsOf a) (isSound a) (machineOf a .log) n (length buffer))) where
   pub point-refuses : (m ≡ 0 → ⊥) → record { reply = refused m; buffer = buffer } ≡ callOn a (point n buffer) .answer
   unfolding row causesOf refusal refusedAnswer pointCauses
-  point-refuses f = ap (λ (x : Called). x .answer) (call-refuses a (point n buffer) m is f)
+  point-refuses f = ap (λ (x : CallResult). x .answer) (call-refuses a (point n buffer) m is f)
 
   pub point-accepts : m ≡ 0
       → record { reply = accepted; buffer = take (a .job .settings .axes) (pointOf (wantedIndex (entriesOf a)) n) ++ drop (a .job .settings .axes) buffer } ≡ callOn a (point n buffer) .answer
   unfolding row causesOf effectOf refusal acceptedAnswer pointCauses machineOf
-  point-accepts e = ap (λ (x : Called). x .answer) (call-accepts a (point n buffer) m is e)
+  point-accepts e = ap (λ (x : CallResult). x .answer) (call-accepts a (point n buffer) m is e)
 
 module _ (a : Area) (m : ℕ) (is : m ≡ firstCause (resultCauses (lengthsOf a) (isSound a) (machineOf a .log))) where
   pub result-refuses : (m ≡ 0 → ⊥) → answer (refused m) ≡ callOn a result .answer
   unfolding row causesOf refusal refusedAnswer resultCauses
-  result-refuses f = ap (λ (x : Called). x .answer) (call-refuses a result m is f)
+  result-refuses f = ap (λ (x : CallResult). x .answer) (call-refuses a result m is f)
 
   pub result-accepts : m ≡ 0 → answer (counts (countsOf (machineOf a))) ≡ callOn a result .answer
   unfolding row causesOf refusal acceptedAnswer resultCauses
-  result-accepts e = ap (λ (x : Called). x .answer) (call-accepts a result m is e)
+  result-accepts e = ap (λ (x : CallResult). x .answer) (call-accepts a result m is e)
 
   pub cross-refuses : (m ≡ 0 → ⊥) → answer (refused m) ≡ callOn a crossTotal .answer
   unfolding row causesOf refusal refusedAnswer resultCauses
-  cross-refuses f = ap (λ (x : Called). x .answer) (call-refuses a crossTotal m is f)
+  cross-refuses f = ap (λ (x : CallResult). x .answer) (call-refuses a crossTotal m is f)
 
   pub cross-accepts : m ≡ 0 → answer (total (crossOf (entriesOf a))) ≡ callOn a crossTotal .answer
   unfolding row causesOf refusal acceptedAnswer resultCauses machineOf
-  cross-accepts e = ap (λ (x : Called). x .answer) (call-accepts a crossTotal m is e)
+  cross-accepts e = ap (λ (x : CallResult). x .answer) (call-accepts a crossTotal m is e)

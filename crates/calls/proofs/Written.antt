@@ -1,4 +1,4 @@
--- An area with a state written into it: it is settled and holds that state, and what lies past its last record is as it was.
+-- An area with a state written into it: it is valid and holds that state, and what lies past its last record is as it was.
 -- The idea: a record made of an entry has the entry's eight levels, and sixteen links as two lists of eight.
 -- Assumes nothing.
 use mathlib.Core.Path.{_≡_, refl, sym, ap, ap₂, _∙_, subst}
@@ -11,20 +11,20 @@ use lib.Seq.{take-at, drop-at}
 use Rattle.area.specs.declared.Settings.{Settings}
 use Rattle.area.specs.Settings.{readingsFor, leastStore}
 use Rattle.area.proofs.Readings.{reading-facts}
-use Rattle.sums.specs.Lists.{tab}
-use Rattle.sums.proofs.Lists.{length-tab}
+use Rattle.sums.specs.Lists.{tabulate}
+use Rattle.sums.proofs.Lists.{length-tabulate}
 use Rattle.grid.specs.Index.{forward, backward}
 use Rattle.grid.specs.Block.{blockSize}
 use Rattle.area.specs.declared.IndexRecord.{IndexRecord}
 use Rattle.area.specs.Entry.{Entry, indicesOf, reservedBy}
 use Rattle.area.specs.Encoding.{Area, heldOf, placeOf, linksOf, encoded, recordsFor, storeFor, runWith, storeWith, jobWith, machineOf, written}
 use Rattle.encoding.specs.Entries.{entryAt}
-use Rattle.encoding.specs.Encodes.{Formed}
+use Rattle.encoding.specs.Encodes.{WellFormed}
 use Rattle.encoding.proofs.Places.{record-at, records-length}
 use Rattle.encoding.proofs.Store.{Blocks, AllWanted, blocks-of}
 use Rattle.area.specs.Log.{Machine}
 use Rattle.encoding.specs.Entries.{SoundMachine}
-use Rattle.writing.specs.Settled.{Settled}
+use Rattle.writing.specs.ValidArea.{ValidArea}
 use Rattle.writing.proofs.After.{written-sound, written-long, written-machine}
 use Rattle.calls.specs.Replies.{lengthsOf}
 use Rattle.calls.specs.Facts.{PastUnchanged}
@@ -32,8 +32,8 @@ use Rattle.calls.specs.Facts.{PastUnchanged}
 links-length : (ls : List (List ℕ)) (k : List ℕ) → length (linksOf ls k) ≡ 16
 unfolding linksOf
 links-length ls k =
-    length-append (tab 8 (λ a. placeOf ls (forward k a))) (tab 8 (λ a. placeOf ls (backward k a)))
-    ∙ ap₂ _+_ (length-tab 8 (λ a. placeOf ls (forward k a))) (length-tab 8 (λ a. placeOf ls (backward k a)))
+    length-append (tabulate 8 (λ a. placeOf ls (forward k a))) (tabulate 8 (λ a. placeOf ls (backward k a)))
+    ∙ ap₂ _+_ (length-tabulate 8 (λ a. placeOf ls (forward k a))) (length-tabulate 8 (λ a. placeOf ls (backward k a)))
 
 module _ (a : Area) (m : Machine) where
   abbrev es : List Entry
@@ -52,17 +52,17 @@ module _ (a : Area) (m : Machine) where
       }
 
   module _ (v : SoundMachine m) where
-    pub formed-records : Formed (recordsFor (m .log .settings) es)
+    pub well-formed-records : WellFormed (recordsFor (m .log .settings) es)
     unfolding encoded
-    formed-records p h =
+    well-formed-records p h =
         let l : p < length es = omega (arith, h, records-length (m .log .settings) es) in (
           ap (λ (r : IndexRecord). length (r .levels)) (record-at (m .log .settings) es p l) ∙ v .index p l .eight,
           ap (λ (r : IndexRecord). length (r .links)) (record-at (m .log .settings) es p l) ∙ links-length (indicesOf es) (entryAt es p .levels),
         )
 
-    pub written-settled : 512 ≤ length (a .run .records) → leastStore (m .log .settings) ≤ length (a .store) → Settled (written a m)
-    written-settled long room =
-        record { sound = written-sound a m v; lent = written-long a m v long room; formed = subst Formed (sym held-records) formed-records }
+    pub written-valid : 512 ≤ length (a .run .records) → leastStore (m .log .settings) ≤ length (a .store) → ValidArea (written a m)
+    written-valid long room =
+        record { sound = written-sound a m v; lent = written-long a m v long room; well-formed = subst WellFormed (sym held-records) well-formed-records }
 
     pub written-state : machineOf (written a m) ≡ m
     written-state = written-machine a m v

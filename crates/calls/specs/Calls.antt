@@ -9,12 +9,12 @@ use lib.IntN.{ℤ}
 use Rattle.area.specs.Encoding.{Area, areaOf, machineOf, written}
 use Rattle.soundness.specs.Clauses.{isSound}
 use Rattle.machine.specs.Causes.{firstCause, pointCauses, deliverCauses, promoteCauses, resultCauses}
-use Rattle.calls.specs.declared.Answered.{Answered}
+use Rattle.calls.specs.declared.CallOutput.{CallOutput}
 use Rattle.calls.specs.Replies.{replyOf, lengthsOf}
 use Rattle.calls.specs.Table.{Call, Effect, leaves, becomes, Answer, answer, row, effectOf, refusal, answerOf}
 
 -- What a call leaves: its answer, with the buffer, and the area.
-pub record Called : Type 0 where
+pub record CallResult : Type 0 where
   pub answer : Answer
   pub area : Area
 
@@ -27,7 +27,7 @@ areaAfter a (becomes m) = written a m
 abbrev pub refusalOn : Area → Call → ℕ
 refusalOn a c = refusal (lengthsOf a) (isSound a) (machineOf a .log) c
 
-unfoldable pub callOn : Area → Call → Called
+unfoldable pub callOn : Area → Call → CallResult
 callOn a c =
     record {
       answer = answerOf (lengthsOf a) (isSound a) (machineOf a) c;
@@ -35,8 +35,8 @@ callOn a c =
     }
 
 -- What start, deliver and promote leave, as the code hands it back: the answer with the job record, the cells and the store.
-abbrev pub calledOf : Answered → List ℕ → List ℤ → Called
-calledOf r c s = record { answer = answer (replyOf (r .answer)); area = areaOf (r .job) c s }
+abbrev pub callResultOf : CallOutput → List ℕ → List ℤ → CallResult
+callResultOf r c s = record { answer = answer (replyOf (r .answer)); area = areaOf (r .job) c s }
 
 -- ---- for the functions that look for a cause: the same numbers, from what each function is handed
 

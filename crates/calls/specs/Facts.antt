@@ -10,13 +10,13 @@ use Rattle.area.specs.declared.Settings.{Settings}
 use Rattle.area.specs.Encoding.{Area, heldOf, entriesOf, machineOf}
 use Rattle.quadrature.specs.Readings.{recordAt}
 use Rattle.soundness.specs.Clauses.{isSound, checked}
-use Rattle.encoding.specs.Encodes.{Formed}
+use Rattle.encoding.specs.Encodes.{WellFormed}
 use Rattle.machine.specs.Log.{firstWanted}
 use Rattle.machine.specs.Promote.{met, spent}
 use Rattle.machine.specs.Steps.{started}
 use Rattle.machine.specs.Counts.{Counts}
 use Rattle.machine.specs.Means.{meanOf}
-use Rattle.writing.specs.Settled.{Settled}
+use Rattle.writing.specs.ValidArea.{ValidArea}
 use Rattle.calls.specs.Replies.{refused, accepted, promotion, counts, total, verdict, lengthsOf}
 use Rattle.calls.specs.Table.{Call, start, point, deliver, promote, result, crossTotal, check, answer, row, refusedAnswer, stateAfter}
 use Rattle.calls.specs.Calls.{callOn}
@@ -45,29 +45,29 @@ pub record CallFacts : Type 0 where
   -- returned in its case is `firstCause`)
   pub refused-keeps : (a : Area) (c : Call) (n : ℕ) → callOn a c .answer .reply ≡ refused n
       → (callOn a c .area ≡ a) × (callOn a c .answer ≡ refusedAnswer n (row c)) × List·Memᴰ n (numbersOf c)
-  -- an accepted call leaves a settled area: sound, in storage that is long enough, its records formed; and what it holds is the machine's
+  -- an accepted call leaves a valid area: sound, in storage that is long enough, its records well-formed; and what it holds is the machine's
   -- next state. Start asks nothing of the area; check is accepted on any area and leaves it
-  pub start-settles : (a : Area) (g : Settings) → callOn a (start g) .answer .reply ≡ accepted → Settled (callOn a (start g) .area)
+  pub start-leaves-valid : (a : Area) (g : Settings) → callOn a (start g) .answer .reply ≡ accepted → ValidArea (callOn a (start g) .area)
   pub start-state : (a : Area) (g : Settings) → callOn a (start g) .answer .reply ≡ accepted → machineOf (callOn a (start g) .area) ≡ started g
-  pub settles : (a : Area) (c : Call) → Formed (heldOf a) → Accepted a c → (c ≡ check → ⊥) → Settled (callOn a c .area)
-  pub state : (a : Area) (c : Call) → Formed (heldOf a) → Accepted a c
+  pub leaves-valid : (a : Area) (c : Call) → WellFormed (heldOf a) → Accepted a c → (c ≡ check → ⊥) → ValidArea (callOn a c .area)
+  pub state : (a : Area) (c : Call) → WellFormed (heldOf a) → Accepted a c
       → machineOf (callOn a c .area) ≡ stateAfter (lengthsOf a) (isSound a) (machineOf a) c
   -- the lengths of the lent storage stay
   pub start-lengths : (a : Area) (g : Settings) → lengthsOf (callOn a (start g) .area) ≡ lengthsOf a
-  pub lengths : (a : Area) (c : Call) → Formed (heldOf a) → lengthsOf (callOn a c .area) ≡ lengthsOf a
+  pub lengths : (a : Area) (c : Call) → WellFormed (heldOf a) → lengthsOf (callOn a c .area) ≡ lengthsOf a
   -- no call writes a record past the last then held
   pub past : (a : Area) (c : Call) → PastUnchanged a (callOn a c .area)
   -- or a store element outside the block being delivered; start and promote write none
   pub start-store : (a : Area) (g : Settings) → callOn a (start g) .area .store ≡ a .store
-  pub promote-store : (a : Area) → Formed (heldOf a) → callOn a promote .area .store ≡ a .store
-  pub deliver-store : (a : Area) (rs : List ℤ) (i n : ℕ) → Formed (heldOf a)
+  pub promote-store : (a : Area) → WellFormed (heldOf a) → callOn a promote .area .store ≡ a .store
+  pub deliver-store : (a : Area) (rs : List ℤ) (i n : ℕ) → WellFormed (heldOf a)
       → (n < recordAt (heldOf a) (firstWanted (entriesOf a)) .first) ⊎ (recordAt (heldOf a) (firstWanted (entriesOf a)) .first + length rs ≤ n)
       → getD (callOn a (deliver rs i) .area .store) n (pos 0) ≡ getD (a .store) n (pos 0)
   -- the readings are stored from the block's first reading on
-  pub deliver-stored : (a : Area) (rs : List ℤ) (i n : ℕ) → Formed (heldOf a) → callOn a (deliver rs i) .answer .reply ≡ accepted → n < length rs
+  pub deliver-stored : (a : Area) (rs : List ℤ) (i n : ℕ) → WellFormed (heldOf a) → callOn a (deliver rs i) .answer .reply ≡ accepted → n < length rs
       → getD (callOn a (deliver rs i) .area .store) (recordAt (heldOf a) (firstWanted (entriesOf a)) .first + n) (pos 0) ≡ getD rs n (pos 0)
   -- met and spent change nothing
-  pub promote-idle : (a : Area) → (callOn a promote .answer .reply ≡ promotion met) ⊎ (callOn a promote .answer .reply ≡ promotion spent) → callOn a promote .area ≡ a
+  pub promote-unchanged : (a : Area) → (callOn a promote .answer .reply ≡ promotion met) ⊎ (callOn a promote .answer .reply ≡ promotion spent) → callOn a promote .area ≡ a
   -- point's buffer stays as long, and its later bytes are untouched
   pub point-length : (a : Area) (n : ℕ) (buffer : List ℕ) → length (callOn a (point n buffer) .answer .buffer) ≡ length buffer
   pub point-later : (a : Area) (n i : ℕ) (buffer : List ℕ) → a .job .settings .axes ≤ i → getD (callOn a (point n buffer) .answer .buffer) i 0 ≡ getD buffer i 0

@@ -10,10 +10,10 @@ use Rattle.machine.specs.Counts.{Counts}
 use Rattle.counting.specs.Answer.{countsIn}
 use Rattle.calls.specs.declared.Answer as code
 use Rattle.calls.specs.declared.Answer.the-variants as answers
-use Rattle.calls.specs.declared.Resulted as coded
-use Rattle.calls.specs.declared.Resulted.the-variants as results
-use Rattle.calls.specs.declared.Totalled as summed
-use Rattle.calls.specs.declared.Totalled.the-variants as totals
+use Rattle.calls.specs.declared.ResultAnswer as coded
+use Rattle.calls.specs.declared.ResultAnswer.the-variants as results
+use Rattle.calls.specs.declared.TotalAnswer as summed
+use Rattle.calls.specs.declared.TotalAnswer.the-variants as totals
 
 -- A refusal has the number of its cause. Start, point and deliver are otherwise accepted, promote has its outcome, result its counts,
 -- cross total its total; check says yes or no.
@@ -32,13 +32,13 @@ replyOf answers.Met = promotion met
 replyOf answers.Spent = promotion spent
 replyOf answers.Promoted = promotion promoted
 
-unfoldable pub resultedOf : coded.Resulted → Reply
-resultedOf (results.Refused n) = refused n
-resultedOf (results.Counted c) = counts (countsIn c)
+unfoldable pub replyOfResult : coded.ResultAnswer → Reply
+replyOfResult (results.Refused n) = refused n
+replyOfResult (results.Counted c) = counts (countsIn c)
 
-unfoldable pub totalledOf : summed.Totalled → Reply
-totalledOf (totals.Refused n) = refused n
-totalledOf (totals.Total z) = total z
+unfoldable pub replyOfTotal : summed.TotalAnswer → Reply
+replyOfTotal (totals.Refused n) = refused n
+replyOfTotal (totals.Total z) = total z
 
 -- The lengths of the storage that an area lies in.
 abbrev pub lengthsOf : Area → Lengths

@@ -13,7 +13,7 @@ use Rattle.area.specs.Log.{Log, Machine}
 use Rattle.machine.specs.Log.{wantedIndex}
 use Rattle.machine.specs.Promote as rule
 use Rattle.machine.specs.Steps as steps
-use Rattle.machine.specs.Causes.{Cause, Lengths, firstCause, short, jobCauses, startCauses, pointOwn, narrowFor, deliverOwn, promoteOwn}
+use Rattle.machine.specs.Causes.{Cause, Lengths, firstCause, short, jobCauses, startCauses, pointOwn, pointBufferShort, deliverOwn, promoteOwn}
 use Rattle.machine.specs.Counts.{countsOf}
 use Rattle.machine.specs.Means.{crossOf}
 use Rattle.calls.specs.Replies.{Reply, refused, accepted, promotion, counts, total, verdict}
@@ -42,7 +42,7 @@ promotionEffect rule.promoted m = becomes m
 -- The row of a call on a job, which asks for storage that is long enough and for a sound area before its own causes (`jobCauses`).
 pub record JobRow : Type 0 where
   -- whether the lent buffer is too short, by the settings; a call without a buffer says no
-  pub narrow : Settings → Bool
+  pub bufferShort : Settings → Bool
   -- the call's own causes
   pub causes : Log → List Cause
   pub effect : Machine → Effect
@@ -64,7 +64,7 @@ pub data Row : Type 0 where
 
 -- A call without a buffer.
 abbrev plain : (Log → List Cause) → (Machine → Effect) → (Machine → Reply) → Row
-plain causes effect reply = onJob (record { narrow = λ g. false; causes = causes; effect = effect; reply = reply; lent = []; left = λ l. [] })
+plain causes effect reply = onJob (record { bufferShort = λ g. false; causes = causes; effect = effect; reply = reply; lent = []; left = λ l. [] })
 
 -- ---- the rows
 
@@ -75,7 +75,7 @@ row (start g) = free (record { causes = λ z. startCauses z g; effect = becomes 
 row (point n buffer) =
     onJob
     (record {
-      narrow = λ g. narrowFor g (length buffer);
+      bufferShort = λ g. pointBufferShort g (length buffer);
       causes = λ l. pointOwn l n;
       effect = λ m. leaves;
       reply = λ m. accepted;
@@ -97,7 +97,7 @@ row check = free (record { causes = λ z. []; effect = leaves; reply = verdict }
 
 unfoldable pub causesOf : Lengths → Bool → Log → Row → List Cause
 causesOf z sound l (free r) = r .causes z
-causesOf z sound l (onJob r) = jobCauses z sound (l .settings) (r .narrow (l .settings)) (r .causes l)
+causesOf z sound l (onJob r) = jobCauses z sound (l .settings) (r .bufferShort (l .settings)) (r .causes l)
 
 unfoldable pub effectOf : Machine → Row → Effect
 effectOf m (free r) = r .effect

@@ -4,9 +4,9 @@ ghost use mathlib.Core.Path.{_≡_};
 ghost use Rattle.area.specs.Encoding.{areaOf};
 ghost use Rattle.machine.specs.Causes.{firstCause, inRange, startCauses};
 ghost use Rattle.promotion.specs.Outcomes.{outcomeOf};
-ghost use Rattle.calls.specs.Replies.{promotion as outcomeReply, replyOf, resultedOf, totalledOf};
+ghost use Rattle.calls.specs.Replies.{promotion as outcomeReply, replyOf, replyOfResult, replyOfTotal};
 ghost use Rattle.calls.specs.Table.{start, point, deliver, promote, result, crossTotal, answer};
-ghost use Rattle.calls.specs.Calls.{callOn, calledOf, pointCause, deliverCause, promoteCause, resultCause};
+ghost use Rattle.calls.specs.Calls.{callOn, callResultOf, pointCause, deliverCause, promoteCause, resultCause};
 
 // What a call answers; `Refused` carries the number of the cause.
 pub enum Answer {
@@ -18,19 +18,19 @@ pub enum Answer {
 }
 
 // An answer with the job record that the call leaves.
-pub struct Answered {
+pub struct CallOutput {
     pub answer: Answer,
     pub job: area::JobRecord,
 }
 
 // Result's answer.
-pub enum Resulted {
+pub enum ResultAnswer {
     Refused(u32),
     Counted(counting::Counts),
 }
 
 // Cross total's answer.
-pub enum Totalled {
+pub enum TotalAnswer {
     Refused(u32),
     Total(i64),
 }
@@ -153,18 +153,18 @@ pub fn start(
     settings: area::Settings,
     cells: &mut [u32],
     store: &[i32],
-) -> Answered
-    ensures { λ r. ⌜ calledOf r (now (cells .exit)) (now (store .entry)) ≡ callOn (areaOf job (now (cells .entry)) (now (store .entry))) (start settings) ⌝ }
+) -> CallOutput
+    ensures { λ r. ⌜ callResultOf r (now (cells .exit)) (now (store .entry)) ≡ callOn (areaOf job (now (cells .entry)) (now (store .entry))) (start settings) ⌝ }
 {
     let cause = start_cause(settings, cells.len() / 27, store.len());
     if cause != 0 {
-        return Answered {
+        return CallOutput {
             answer: Answer::Refused(cause),
             job,
         };
     }
     let started = delivery::start(settings, cells);
-    Answered {
+    CallOutput {
         answer: Answer::Accepted,
         job: started,
     }
@@ -197,31 +197,31 @@ pub fn deliver(
     indicator: u32,
     cells: &mut [u32],
     store: &mut [i32],
-) -> Answered
-    ensures { λ r. ⌜ calledOf r (now (cells .exit)) (now (store .exit)) ≡ callOn (areaOf job (now (cells .entry)) (now (store .entry))) (deliver (now (readings .entry)) indicator) ⌝ }
+) -> CallOutput
+    ensures { λ r. ⌜ callResultOf r (now (cells .exit)) (now (store .exit)) ≡ callOn (areaOf job (now (cells .entry)) (now (store .entry))) (deliver (now (readings .entry)) indicator) ⌝ }
 {
     let cause = deliver_cause(job, readings, cells, store);
     if cause != 0 {
-        return Answered {
+        return CallOutput {
             answer: Answer::Refused(cause),
             job,
         };
     }
     let place = delivery::first_wanted(job.held as usize, cells);
     let after = delivery::deliver(job, place, readings, indicator, cells, store);
-    Answered {
+    CallOutput {
         answer: Answer::Accepted,
         job: after,
     }
 }
 
 // Promotes: met, or the selected index refined, unless that is spent.
-pub fn promote(job: area::JobRecord, cells: &mut [u32], store: &[i32]) -> Answered
-    ensures { λ r. ⌜ calledOf r (now (cells .exit)) (now (store .entry)) ≡ callOn (areaOf job (now (cells .entry)) (now (store .entry))) promote ⌝ }
+pub fn promote(job: area::JobRecord, cells: &mut [u32], store: &[i32]) -> CallOutput
+    ensures { λ r. ⌜ callResultOf r (now (cells .exit)) (now (store .entry)) ≡ callOn (areaOf job (now (cells .entry)) (now (store .entry))) promote ⌝ }
 {
     let cause = promote_cause(job, cells, store);
     if cause != 0 {
-        return Answered {
+        return CallOutput {
             answer: Answer::Refused(cause),
             job,
         };
@@ -231,21 +231,21 @@ pub fn promote(job: area::JobRecord, cells: &mut [u32], store: &[i32]) -> Answer
 }
 
 // A promotion as an answer.
-fn as_answer(promotion: promotion::Promotion) -> Answered
+fn as_answer(promotion: promotion::Promotion) -> CallOutput
     ensures { λ r. ⌜ (replyOf (r .answer) ≡ outcomeReply (outcomeOf (promotion .outcome))) × (r .job ≡ promotion .job) ⌝ }
 {
     let outcome = promotion.outcome;
     let job = promotion.job;
     match outcome {
-        promotion::Outcome::Met => Answered {
+        promotion::Outcome::Met => CallOutput {
             answer: Answer::Met,
             job,
         },
-        promotion::Outcome::Spent => Answered {
+        promotion::Outcome::Spent => CallOutput {
             answer: Answer::Spent,
             job,
         },
-        promotion::Outcome::Promoted => Answered {
+        promotion::Outcome::Promoted => CallOutput {
             answer: Answer::Promoted,
             job,
         },
@@ -253,23 +253,23 @@ fn as_answer(promotion: promotion::Promotion) -> Answered
 }
 
 // The counts of the area.
-pub fn result(job: area::JobRecord, cells: &[u32], store: &[i32]) -> Resulted
-    ensures { λ r. ⌜ answer (resultedOf r) ≡ callOn (areaOf job (now (cells .entry)) (now (store .entry))) result .answer ⌝ }
+pub fn result(job: area::JobRecord, cells: &[u32], store: &[i32]) -> ResultAnswer
+    ensures { λ r. ⌜ answer (replyOfResult r) ≡ callOn (areaOf job (now (cells .entry)) (now (store .entry))) result .answer ⌝ }
 {
     let cause = area_cause(job, cells, store);
     if cause != 0 {
-        return Resulted::Refused(cause);
+        return ResultAnswer::Refused(cause);
     }
-    Resulted::Counted(counting::result(job, cells, store))
+    ResultAnswer::Counted(counting::result(job, cells, store))
 }
 
 // The scaled mean worked out from the readings, whatever mean is recorded.
-pub fn cross_total(job: area::JobRecord, cells: &[u32], store: &[i32]) -> Totalled
-    ensures { λ r. ⌜ answer (totalledOf r) ≡ callOn (areaOf job (now (cells .entry)) (now (store .entry))) crossTotal .answer ⌝ }
+pub fn cross_total(job: area::JobRecord, cells: &[u32], store: &[i32]) -> TotalAnswer
+    ensures { λ r. ⌜ answer (replyOfTotal r) ≡ callOn (areaOf job (now (cells .entry)) (now (store .entry))) crossTotal .answer ⌝ }
 {
     let cause = area_cause(job, cells, store);
     if cause != 0 {
-        return Totalled::Refused(cause);
+        return TotalAnswer::Refused(cause);
     }
-    Totalled::Total(counting::cross_total(job, cells, store))
+    TotalAnswer::Total(counting::cross_total(job, cells, store))
 }

@@ -13,7 +13,7 @@ use Rattle.grid.specs.Coefficient.{sameLevels}
 use Rattle.area.specs.declared.IndexRecord.{IndexRecord}
 use Rattle.area.specs.Encoding.{none}
 use Rattle.soundness.specs.Held.{levelsAt, stateAt, forwardLink, backwardLink}
-use Rattle.soundness.specs.Test.{rootTest, behindTest, backTest, aheadTest, axisTest}
+use Rattle.soundness.specs.Test.{rootTest, backwardNeighbourTest, backwardLinkTest, forwardLinkTest, axisTest}
 
 module _ (rs : List IndexRecord) (p : ℕ) where
   pub root-here : p ≡ 0 → rootTest rs p ≡ sameLevels (levelsAt rs p) root
@@ -25,47 +25,47 @@ module _ (rs : List IndexRecord) (p : ℕ) where
   root-elsewhere n = rw (ne-eqb p 0 n)
 
   module _ (a q : ℕ) where
-    pub behind-far : length rs ≤ q → behindTest rs p a q ≡ false
-    unfolding behindTest
+    pub behind-far : length rs ≤ q → backwardNeighbourTest rs p a q ≡ false
+    unfolding backwardNeighbourTest
     behind-far h = rw (le-ltb q (length rs) h)
 
-    pub behind-not-old : q < length rs → stateAt rs q ≢ 2 → behindTest rs p a q ≡ false
-    unfolding behindTest
+    pub behind-not-old : q < length rs → stateAt rs q ≢ 2 → backwardNeighbourTest rs p a q ≡ false
+    unfolding backwardNeighbourTest
     behind-not-old h n = rw (lt-ltb q (length rs) h, ne-eqb (stateAt rs q) 2 n)
 
-    pub behind-not-named : q < length rs → stateAt rs q ≡ 2 → forwardLink rs q a ≢ p → behindTest rs p a q ≡ false
-    unfolding behindTest
+    pub behind-not-named : q < length rs → stateAt rs q ≡ 2 → forwardLink rs q a ≢ p → backwardNeighbourTest rs p a q ≡ false
+    unfolding backwardNeighbourTest
     behind-not-named h e n = rw (lt-ltb q (length rs) h, eq-eqb (stateAt rs q) 2 e, ne-eqb (forwardLink rs q a) p n)
 
-    pub behind-levels : q < length rs → stateAt rs q ≡ 2 → forwardLink rs q a ≡ p → behindTest rs p a q ≡ sameLevels (levelsAt rs q) (backward (levelsAt rs p) a)
-    unfolding behindTest
+    pub behind-levels : q < length rs → stateAt rs q ≡ 2 → forwardLink rs q a ≡ p → backwardNeighbourTest rs p a q ≡ sameLevels (levelsAt rs q) (backward (levelsAt rs p) a)
+    unfolding backwardNeighbourTest
     behind-levels h e f = rw (lt-ltb q (length rs) h, eq-eqb (stateAt rs q) 2 e, eq-eqb (forwardLink rs q a) p f)
 
   module _ (a : ℕ) where
-    pub back-none : level (levelsAt rs p) a ≤ 1 → backTest rs p a ≡ eqb (backwardLink rs p a) none
-    unfolding backTest
+    pub back-none : level (levelsAt rs p) a ≤ 1 → backwardLinkTest rs p a ≡ eqb (backwardLink rs p a) none
+    unfolding backwardLinkTest
     back-none h = rw (le-leb (level (levelsAt rs p) a) 1 h)
 
-    pub back-behind : 1 < level (levelsAt rs p) a → backTest rs p a ≡ behindTest rs p a (backwardLink rs p a)
-    unfolding backTest
+    pub back-behind : 1 < level (levelsAt rs p) a → backwardLinkTest rs p a ≡ backwardNeighbourTest rs p a (backwardLink rs p a)
+    unfolding backwardLinkTest
     back-behind h = rw (lt-leb (level (levelsAt rs p) a) 1 h)
 
-    pub ahead-none : forwardLink rs p a ≡ none → aheadTest rs p a ≡ true
-    unfolding aheadTest
+    pub ahead-none : forwardLink rs p a ≡ none → forwardLinkTest rs p a ≡ true
+    unfolding forwardLinkTest
     ahead-none e = rw (eq-eqb (forwardLink rs p a) none e)
 
-    pub ahead-far : forwardLink rs p a ≢ none → length rs ≤ forwardLink rs p a → aheadTest rs p a ≡ false
-    unfolding aheadTest
+    pub ahead-far : forwardLink rs p a ≢ none → length rs ≤ forwardLink rs p a → forwardLinkTest rs p a ≡ false
+    unfolding forwardLinkTest
     ahead-far n h = rw (ne-eqb (forwardLink rs p a) none n, le-ltb (forwardLink rs p a) (length rs) h)
 
-    pub ahead-named : forwardLink rs p a ≢ none → forwardLink rs p a < length rs → aheadTest rs p a ≡ eqb (backwardLink rs (forwardLink rs p a) a) p
-    unfolding aheadTest
+    pub ahead-named : forwardLink rs p a ≢ none → forwardLink rs p a < length rs → forwardLinkTest rs p a ≡ eqb (backwardLink rs (forwardLink rs p a) a) p
+    unfolding forwardLinkTest
     ahead-named n h = rw (ne-eqb (forwardLink rs p a) none n, lt-ltb (forwardLink rs p a) (length rs) h)
 
-    pub axis-no-back : backTest rs p a ≡ false → axisTest rs p a ≡ false
+    pub axis-no-back : backwardLinkTest rs p a ≡ false → axisTest rs p a ≡ false
     unfolding axisTest
     axis-no-back e = rw e
 
-    pub axis-ahead : backTest rs p a ≡ true → axisTest rs p a ≡ aheadTest rs p a
+    pub axis-ahead : backwardLinkTest rs p a ≡ true → axisTest rs p a ≡ forwardLinkTest rs p a
     unfolding axisTest
     axis-ahead e = rw e

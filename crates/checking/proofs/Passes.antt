@@ -14,7 +14,7 @@ use Rattle.area.specs.declared.IndexRecord.{IndexRecord}
 use Rattle.area.specs.Records.{recordsOf}
 use Rattle.area.specs.Encoding.{none}
 use Rattle.soundness.specs.Held.{levelsAt, stateAt, forwardLink, backwardLink}
-use Rattle.soundness.specs.Test.{allFrom, anyFrom, indexTest, rootTest, axisTest, placeTest, placesTest, barsTest, openTest, completeTest}
+use Rattle.soundness.specs.Test.{allFrom, anyFrom, indexTest, rootTest, axisTest, placeTest, placesTest, barsTest, axisCompleteTest, placeCompleteTest}
 use Rattle.soundness.proofs.Tests.{Place, reads-places, back-held, ahead-held}
 use Rattle.checking.proofs.Cells.{formed}
 
@@ -84,26 +84,26 @@ module _ (rs : List IndexRecord) (p a c : ℕ) where
 
 module _ (d : ℕ) (rs : List IndexRecord) (p : ℕ) where
   module _ (a : ℕ) where
-    pub open-held : forwardLink rs p a ≢ none → openTest d rs p a ≡ true
-    unfolding openTest
+    pub open-held : forwardLink rs p a ≢ none → axisCompleteTest d rs p a ≡ true
+    unfolding axisCompleteTest
     open-held n = rw (ne-eqb (forwardLink rs p a) none n)
 
-    pub open-high : forwardLink rs p a ≡ none → 8 ≤ level (levelsAt rs p) a → openTest d rs p a ≡ true
-    unfolding openTest
+    pub open-high : forwardLink rs p a ≡ none → 8 ≤ level (levelsAt rs p) a → axisCompleteTest d rs p a ≡ true
+    unfolding axisCompleteTest
     open-high e h = rw (eq-eqb (forwardLink rs p a) none e, le-ltb (level (levelsAt rs p) a) 8 h)
 
-    pub open-barred : forwardLink rs p a ≡ none → level (levelsAt rs p) a < 8 → openTest d rs p a ≡ anyFrom d 0 (barsTest rs p a)
-    unfolding openTest
+    pub open-barred : forwardLink rs p a ≡ none → level (levelsAt rs p) a < 8 → axisCompleteTest d rs p a ≡ anyFrom d 0 (barsTest rs p a)
+    unfolding axisCompleteTest
     open-barred e h = rw (eq-eqb (forwardLink rs p a) none e, lt-ltb (level (levelsAt rs p) a) 8 h)
 
-  pub complete-not-old : stateAt rs p ≢ 2 → completeTest d rs p ≡ true
-  unfolding completeTest
+  pub complete-not-old : stateAt rs p ≢ 2 → placeCompleteTest d rs p ≡ true
+  unfolding placeCompleteTest
   complete-not-old n = rw (ne-eqb (stateAt rs p) 2 n)
 
-  pub complete-full : stateAt rs p ≡ 2 → 12 ≤ excess (levelsAt rs p) → completeTest d rs p ≡ true
-  unfolding completeTest
+  pub complete-full : stateAt rs p ≡ 2 → 12 ≤ excess (levelsAt rs p) → placeCompleteTest d rs p ≡ true
+  unfolding placeCompleteTest
   complete-full e h = rw (eq-eqb (stateAt rs p) 2 e, le-ltb (excess (levelsAt rs p)) 12 h)
 
-  pub complete-axes : stateAt rs p ≡ 2 → excess (levelsAt rs p) < 12 → completeTest d rs p ≡ allFrom d 0 (openTest d rs p)
-  unfolding completeTest
+  pub complete-axes : stateAt rs p ≡ 2 → excess (levelsAt rs p) < 12 → placeCompleteTest d rs p ≡ allFrom d 0 (axisCompleteTest d rs p)
+  unfolding placeCompleteTest
   complete-axes e h = rw (eq-eqb (stateAt rs p) 2 e, lt-ltb (excess (levelsAt rs p)) 12 h)

@@ -23,7 +23,7 @@ use Rattle.soundness.specs.Totals.{allWantedTest, blocksTest, pendingIn, delive
 use Rattle.soundness.proofs.Totals.{Job, reads-job}
 use Rattle.soundness.proofs.Exactly.{same-answer}
 use Rattle.soundness.proofs.Clauses.{clause-facts}
-use Rattle.soundness.proofs.Facts.{follow-facts}
+use Rattle.soundness.proofs.Facts.{link-check-facts}
 use Rattle.checking.proofs.Cells.{formed}
 
 -- ---- the held records
@@ -80,7 +80,7 @@ module _ (j : JobRecord) (c : List ℕ) (s : List ℤ) where
       ap (λ (r : IndexRecord). length (r .levels)) (getD-take (j .held) (recordsOf c) p blank (omega (arith, l, h))) ∙ formed c p (omega (arith, l, h))
 
   answer : areaTest whole ≡ checked whole
-  answer = same-answer (areaTest whole) (checked whole) (follow-facts .whole whole held-formed) (clause-facts .answer whole)
+  answer = same-answer (areaTest whole) (checked whole) (link-check-facts .whole whole held-formed) (clause-facts .answer whole)
 
   pub job-facts : jobTest j (length c / 27) (length s) ≡ true → Job j (length c / 27) (length s)
   job-facts = reads-job j (length c / 27) (length s) .sure

@@ -13,7 +13,7 @@ ghost use Rattle.area.specs.Records.{recordsOf};
 ghost use Rattle.area.specs.Encoding.{areaOf};
 ghost use Rattle.soundness.specs.Held.{levelsAt, backwardLink, countAt};
 ghost use Rattle.soundness.specs.Clauses.{checked};
-ghost use Rattle.soundness.specs.Test.{allFrom, anyFrom, indexTest, rootTest, behindTest, backTest, aheadTest, axisTest, placeTest, placesTest, barsTest, openTest, completeTest, allCompleteTest};
+ghost use Rattle.soundness.specs.Test.{allFrom, anyFrom, indexTest, rootTest, backwardNeighbourTest, backwardLinkTest, forwardLinkTest, axisTest, placeTest, placesTest, barsTest, axisCompleteTest, placeCompleteTest, allCompleteTest};
 ghost use Rattle.soundness.specs.Totals.{wantedTest, allWantedTest, readingTest, blockTest, blocksTest, pendingIn, deliveredCount, jobTest, heldTest};
 
 // Whether a level list is an index of a job with so many axes.
@@ -44,10 +44,16 @@ fn root_fits(place: usize, cells: &[u32]) -> bool
 }
 
 // Whether the backward link along an axis names a place behind: the lowered levels, old, and linked back.
-fn behind_fits(held: usize, place: usize, axis: usize, levels: [u32; 8], cells: &[u32]) -> bool
+fn backward_neighbour_fits(
+    held: usize,
+    place: usize,
+    axis: usize,
+    levels: [u32; 8],
+    cells: &[u32],
+) -> bool
     requires { ⌜ (length (recordsOf (now cells)) ≡ held) × (place < held) × (axis < 8) ⌝ }
     requires { ⌜ (levels ≡ levelsAt (recordsOf (now cells)) place) × (1 < level levels axis) ⌝ }
-    ensures { λ r. ⌜ r ≡ behindTest (recordsOf (now (cells .entry))) place axis (backwardLink (recordsOf (now (cells .entry))) place axis) ⌝ }
+    ensures { λ r. ⌜ r ≡ backwardNeighbourTest (recordsOf (now (cells .entry))) place axis (backwardLink (recordsOf (now (cells .entry))) place axis) ⌝ }
 {
     let behind = area::link_at(cells, place, 8 + axis) as usize;
     if held <= behind {
@@ -63,22 +69,28 @@ fn behind_fits(held: usize, place: usize, axis: usize, levels: [u32; 8], cells: 
 }
 
 // Whether the backward link along an axis is right: none at level 1, else to the place behind.
-fn back_fits(held: usize, place: usize, axis: usize, levels: [u32; 8], cells: &[u32]) -> bool
+fn backward_link_fits(
+    held: usize,
+    place: usize,
+    axis: usize,
+    levels: [u32; 8],
+    cells: &[u32],
+) -> bool
     requires { ⌜ (length (recordsOf (now cells)) ≡ held) × (place < held) × (axis < 8) ⌝ }
     requires { ⌜ levels ≡ levelsAt (recordsOf (now cells)) place ⌝ }
-    ensures { λ r. ⌜ r ≡ backTest (recordsOf (now (cells .entry))) place axis ⌝ }
+    ensures { λ r. ⌜ r ≡ backwardLinkTest (recordsOf (now (cells .entry))) place axis ⌝ }
 {
     if levels[axis] <= 1 {
         area::link_at(cells, place, 8 + axis) == area::NONE
     } else {
-        behind_fits(held, place, axis, levels, cells)
+        backward_neighbour_fits(held, place, axis, levels, cells)
     }
 }
 
 // Whether the forward link along an axis is none, or names a held place that names this one back.
-fn ahead_fits(held: usize, place: usize, axis: usize, cells: &[u32]) -> bool
+fn forward_link_fits(held: usize, place: usize, axis: usize, cells: &[u32]) -> bool
     requires { ⌜ (length (recordsOf (now cells)) ≡ held) × (place < held) × (axis < 8) ⌝ }
-    ensures { λ r. ⌜ r ≡ aheadTest (recordsOf (now (cells .entry))) place axis ⌝ }
+    ensures { λ r. ⌜ r ≡ forwardLinkTest (recordsOf (now (cells .entry))) place axis ⌝ }
 {
     let link = area::link_at(cells, place, axis);
     if link == area::NONE {
@@ -99,10 +111,10 @@ fn links_fit(held: usize, place: usize, levels: [u32; 8], cells: &[u32]) -> bool
 {
     let mut axis: usize = 0;
     while axis < 8 {
-        if !back_fits(held, place, axis, levels, cells) {
+        if !backward_link_fits(held, place, axis, levels, cells) {
             return false;
         }
-        if !ahead_fits(held, place, axis, cells) {
+        if !forward_link_fits(held, place, axis, cells) {
             return false;
         }
         axis += 1;
@@ -184,7 +196,7 @@ fn barred(axes: usize, place: usize, axis: usize, cells: &[u32]) -> bool
 fn axis_complete(axes: usize, place: usize, axis: usize, cells: &[u32]) -> bool
     requires { ⌜ (axes ≤ 8) × (placesTest axes (recordsOf (now cells)) ≡ true) ⌝ }
     requires { ⌜ (place < length (recordsOf (now cells))) × (axis < axes) ⌝ }
-    ensures { λ r. ⌜ r ≡ openTest axes (recordsOf (now (cells .entry))) place axis ⌝ }
+    ensures { λ r. ⌜ r ≡ axisCompleteTest axes (recordsOf (now (cells .entry))) place axis ⌝ }
 {
     if area::link_at(cells, place, axis) != area::NONE {
         return true;
@@ -199,7 +211,7 @@ fn axis_complete(axes: usize, place: usize, axis: usize, cells: &[u32]) -> bool
 fn place_complete(axes: usize, place: usize, cells: &[u32]) -> bool
     requires { ⌜ (axes ≤ 8) × (placesTest axes (recordsOf (now cells)) ≡ true) ⌝ }
     requires { ⌜ place < length (recordsOf (now cells)) ⌝ }
-    ensures { λ r. ⌜ r ≡ completeTest axes (recordsOf (now (cells .entry))) place ⌝ }
+    ensures { λ r. ⌜ r ≡ placeCompleteTest axes (recordsOf (now (cells .entry))) place ⌝ }
 {
     if area::state_at(cells, place) != area::OLD {
         return true;

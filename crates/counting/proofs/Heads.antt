@@ -1,4 +1,4 @@
--- What a settled area gives to the counts, which don't look at readings.
+-- What a valid area gives to the counts, which don't look at readings.
 -- Assumes nothing.
 use mathlib.Core.Path.{_≡_}
 use mathlib.Core.List.{List}
@@ -15,22 +15,22 @@ use Rattle.area.proofs.Records.{length-recordsOf}
 use Rattle.quadrature.specs.Readings.{recordAt}
 use Rattle.machine.specs.Counts.{countOf, ceilingCount}
 use Rattle.writing.specs.Heads.{headsOf}
-use Rattle.writing.specs.Settled.{Settled}
+use Rattle.writing.specs.ValidArea.{ValidArea}
 use Rattle.writing.proofs.Unread.{heads-are, alike-count, alike-ceiling}
 
-module _ (j : JobRecord) (c : List ℕ) (s : List ℤ) (settled : Settled (areaOf j c s)) where
+module _ (j : JobRecord) (c : List ℕ) (s : List ℤ) (valid : ValidArea (areaOf j c s)) where
   held-count : length (heldOf (areaOf j c s)) ≡ j .held
-  held-count = length-take-le (j .held) (recordsOf c) (settled .sound .held-lent)
+  held-count = length-take-le (j .held) (recordsOf c) (valid .sound .held-lent)
 
   pub held-there : j .held * 27 ≤ length c
-  held-there = omega (arith, settled .sound .held-lent, length-recordsOf c)
+  held-there = omega (arith, valid .sound .held-lent, length-recordsOf c)
 
   pub held-few : j .held ≤ 512
-  held-few = omega (arith, held-count, settled .sound .structure .count .1)
+  held-few = omega (arith, held-count, valid .sound .structure .count .1)
 
   pub held-within : (p : ℕ) → p < j .held → Within (recordAt (heldIn c (j .held)) p .levels)
   unfolding heldIn
-  held-within p h = settled .sound .structure .index p (omega (arith, held-count)) .ceilings
+  held-within p h = valid .sound .structure .index p (omega (arith, held-count)) .ceilings
 
   pub counted : (t : ℕ) → countOf t (headsOf (heldIn c (j .held))) ≡ countOf t (entriesOf (areaOf j c s))
   counted t = alike-count (headsOf (heldIn c (j .held))) (entriesOf (areaOf j c s)) (heads-are j c s) t

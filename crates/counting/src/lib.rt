@@ -9,7 +9,7 @@ ghost use Rattle.area.specs.Encoding.{areaOf, entriesOf, machineOf};
 ghost use Rattle.machine.specs.Counts.{countOf, ceilingCount, countsOf};
 ghost use Rattle.machine.specs.Means.{crossOf};
 ghost use Rattle.writing.specs.Heads.{headsOf};
-ghost use Rattle.writing.specs.Settled.{Settled};
+ghost use Rattle.writing.specs.ValidArea.{ValidArea};
 ghost use Rattle.counting.specs.Answer.{countsIn};
 
 pub struct Counts {
@@ -57,7 +57,7 @@ fn ceiling_count(axes: usize, held: usize, cells: &[u32]) -> u32
 
 // The counts of an area.
 pub fn result(job: area::JobRecord, cells: &[u32], store: &[i32]) -> Counts
-    requires { ⌜ Settled (areaOf job (now cells) (now store)) ⌝ }
+    requires { ⌜ ValidArea (areaOf job (now cells) (now store)) ⌝ }
     ensures { λ r. ⌜ countsIn r ≡ countsOf (machineOf (areaOf job (now (cells .entry)) (now (store .entry)))) ⌝ }
 {
     let axes = job.settings.axes as usize;
@@ -79,7 +79,7 @@ pub fn result(job: area::JobRecord, cells: &[u32], store: &[i32]) -> Counts
 
 // The cross total of an area: its mean as worked from the readings, whatever mean is recorded.
 pub fn cross_total(job: area::JobRecord, cells: &[u32], store: &[i32]) -> i64
-    requires { ⌜ Settled (areaOf job (now cells) (now store)) ⌝ }
+    requires { ⌜ ValidArea (areaOf job (now cells) (now store)) ⌝ }
     ensures { λ r. ⌜ r ≡ crossOf (entriesOf (areaOf job (now (cells .entry)) (now (store .entry)))) ⌝ }
 {
     quadrature::combination_sum(job.settings.axes as usize, job.held as usize, cells, store)

@@ -20,7 +20,7 @@ use Rattle.area.specs.Entry.{readingIn}
 use Rattle.area.specs.Log.{Machine}
 use Rattle.area.specs.Encoding.{Area, areaOf, heldOf, entriesOf, machineOf, written}
 use Rattle.area.proofs.Records.{length-recordsOf, indicator-in}
-use Rattle.quadrature.specs.Readings.{recordAt, fetched}
+use Rattle.quadrature.specs.Readings.{recordAt, storedReading}
 use Rattle.quadrature.specs.Ready.{Ready, AllReady}
 use Rattle.quadrature.proofs.Facts.{entry-facts}
 use Rattle.soundness.specs.Sound.{Sound}
@@ -35,10 +35,10 @@ use Rattle.machine.specs.Areas.{deliverOn}
 use Rattle.machine.specs.Causes.{inRange}
 use Rattle.machine.proofs.Facts.{step-facts}
 use Rattle.writing.specs.Changes.{restated}
-use Rattle.writing.specs.Settled.{Settled}
+use Rattle.writing.specs.ValidArea.{ValidArea}
 use Rattle.writing.proofs.Areas.{held-is, held-record, levels-is}
 use Rattle.writing.proofs.Facts.{write-facts}
-use Rattle.writing.proofs.After.{machine-sound, written-sound, written-long, written-machine, written-settled}
+use Rattle.writing.proofs.After.{machine-sound, written-sound, written-long, written-machine, written-valid}
 
 -- readings in range, one by one
 each-in-range : (xs : List ℤ) → inRange xs ≡ true → (n : ℕ) → n < length xs → IsReading (getD xs n (pos 0))
@@ -54,26 +54,26 @@ module _ (j : JobRecord) (c : List ℕ) (s : List ℤ) (rs : List ℤ) (i : ℕ)
   abbrev place : ℕ
   place = firstWanted (entriesOf a)
 
-  module _ (settled : Settled a) (wanted : place < j .held) (whole : length rs ≡ readingCount (j .settings) (wantedIndex (entriesOf a))) (range : inRange rs ≡ true) where
+  module _ (valid : ValidArea a) (wanted : place < j .held) (whole : length rs ≡ readingCount (j .settings) (wantedIndex (entriesOf a))) (range : inRange rs ≡ true) where
     pub held-there : j .held * 27 ≤ length c
-    held-there = omega (arith, settled .sound .held-lent, length-recordsOf c)
+    held-there = omega (arith, valid .sound .held-lent, length-recordsOf c)
 
     entries-count : length (entriesOf a) ≡ j .held
-    entries-count = sym (held-is a settled)
+    entries-count = sym (held-is a valid)
 
     wanted-there : place < length (entriesOf a)
     wanted-there = omega (arith, entries-count)
 
     levels-are : wantedIndex (entriesOf a) ≡ recordAt (recordsOf c) place .levels
-    levels-are = levels-is a settled place wanted-there
+    levels-are = levels-is a valid place wanted-there
 
     -- the block lies in the store
     pub block-there : recordAt (recordsOf c) place .first + length rs ≤ length s
     block-there =
-        let inside : place < length (heldOf a) = omega (arith, length-take-le (j .held) (recordsOf c) (settled .sound .held-lent)) in
-        let first = ap (λ (r : IndexRecord). r .first) (held-record a settled place wanted-there) in
-        let levels = ap (λ (r : IndexRecord). readingCount (j .settings) (r .levels)) (held-record a settled place wanted-there) in
-        omega (arith, range-facts .block a (settled .sound) place inside, first, levels, whole, ap (readingCount (j .settings)) levels-are, settled .lent .store)
+        let inside : place < length (heldOf a) = omega (arith, length-take-le (j .held) (recordsOf c) (valid .sound .held-lent)) in
+        let first = ap (λ (r : IndexRecord). r .first) (held-record a valid place wanted-there) in
+        let levels = ap (λ (r : IndexRecord). readingCount (j .settings) (r .levels)) (held-record a valid place wanted-there) in
+        omega (arith, range-facts .block a (valid .sound) place inside, first, levels, whole, ap (readingCount (j .settings)) levels-are, valid .lent .store)
 
     -- ---- after
     abbrev after : Machine
@@ -81,7 +81,7 @@ module _ (j : JobRecord) (c : List ℕ) (s : List ℤ) (rs : List ℤ) (i : ℕ)
 
     after-sound : SoundMachine after
     unfolding machineOf
-    after-sound = step-facts .deliver (machineOf a) rs i (machine-sound a settled) wanted-there whole (each-in-range rs range)
+    after-sound = step-facts .deliver (machineOf a) rs i (machine-sound a valid) wanted-there whole (each-in-range rs range)
 
     abbrev b : Area
     b = written a after
@@ -97,25 +97,25 @@ module _ (j : JobRecord) (c : List ℕ) (s : List ℤ) (rs : List ℤ) (i : ℕ)
       run = stored (runOf c) place (restated (recordAt (recordsOf c) place) 1 i);
       store = sets s (recordAt (recordsOf c) place .first) rs;
     }
-    changed = write-facts .deliver a rs i settled wanted-there whole
+    changed = write-facts .deliver a rs i valid wanted-there whole
 
     b-room : leastStore (b .job .settings) ≤ length (b .store)
-    b-room = written-long a after after-sound (settled .lent .records) deliver-room .store
+    b-room = written-long a after after-sound (valid .lent .records) deliver-room .store
       where
         deliver-room : leastStore (after .log .settings) ≤ length s
-        deliver-room = unfold deliver in unfold machineOf in settled .lent .store
+        deliver-room = unfold deliver in unfold machineOf in valid .lent .store
 
     -- the sums stay in their types
     pub pending-fits : ((n : ℕ) → getD c n 0 < 2 ^ 32) → i < 2 ^ 32 → j .pending + i < 2 ^ 64
     pending-fits words h =
-        let small = range-facts .pending a (settled .sound) (λ p l.
-        let e = length-take-le (j .held) (recordsOf c) (settled .sound .held-lent) in
+        let small = range-facts .pending a (valid .sound) (λ p l.
+        let e = length-take-le (j .held) (recordsOf c) (valid .sound .held-lent) in
         let here : p * 27 + 27 ≤ length c = omega (arith, e, held-there) in
         omega (arith, words (p * 27 + 9), indicator-in c p here, ap (λ (r : IndexRecord). r .indicator) (getD-take (j .held) (recordsOf c) p blank (omega (arith, e))))) in
         omega arith
 
     pub mean-fits : natAbs (j .mean) + 2 ^ 40 ≤ 2 ^ 62
-    mean-fits = omega (arith, range-facts .mean a (settled .sound))
+    mean-fits = omega (arith, range-facts .mean a (valid .sound))
 
     -- ---- what the code leaves
     module _ (c₁ : List ℕ) (s₁ : List ℤ) (run : runOf c₁ ≡ stored (runOf c) place (restated (recordAt (recordsOf c) place) 1 i)) (store : s₁ ≡ sets s (recordAt (recordsOf c) place .first) rs) where
@@ -132,7 +132,7 @@ module _ (j : JobRecord) (c : List ℕ) (s : List ℤ) (rs : List ℤ) (i : ℕ)
       here : recordAt (recordsOf c₁) place ≡ restated (recordAt (recordsOf c) place) 1 i
       here =
           ap (λ (u : Run). recordAt (u .records) place) run
-          ∙ getD-set-same (recordsOf c) place (restated (recordAt (recordsOf c) place) 1 i) blank (omega (arith, settled .sound .held-lent))
+          ∙ getD-set-same (recordsOf c) place (restated (recordAt (recordsOf c) place) 1 i) blank (omega (arith, valid .sound .held-lent))
 
       here-levels : recordAt (recordsOf c₁) place .levels ≡ wantedIndex (entriesOf a)
       unfolding restated
@@ -177,7 +177,7 @@ module _ (j : JobRecord) (c : List ℕ) (s : List ℤ) (rs : List ℤ) (i : ℕ)
       unfolding deliver machineOf
       entries₁ = ap entriesOf same-area ∙ ap (λ (x : Machine). x .log .entries) (written-machine a after after-sound)
 
-      pub difference-is : scaledDifference (recordAt (recordsOf c₁) place .levels) (fetched (recordsOf c₁) s₁)
+      pub difference-is : scaledDifference (recordAt (recordsOf c₁) place .levels) (storedReading (recordsOf c₁) s₁)
           ≡ scaledDifference (wantedIndex (entriesOf a)) (readingIn (deliverAt (entriesOf a) place rs i))
       difference-is =
           entry-facts (b .job) c₁ s₁ .difference (b .job .settings .axes) (recordAt (recordsOf c₁) place .levels) ready-held
@@ -197,9 +197,9 @@ module _ (j : JobRecord) (c : List ℕ) (s : List ℤ) (rs : List ℤ) (i : ℕ)
           })
           ∙ sym changed
 
-      pub settled-after : (j₁ : JobRecord) → areaOf j₁ c₁ s₁ ≡ deliverOn a rs i → Settled (areaOf j₁ c₁ s₁)
+      pub valid-after : (j₁ : JobRecord) → areaOf j₁ c₁ s₁ ≡ deliverOn a rs i → ValidArea (areaOf j₁ c₁ s₁)
       unfolding deliverOn
-      settled-after j₁ e = written-settled a after after-sound (settled .lent .records) room-there j₁ c₁ s₁ e
+      valid-after j₁ e = written-valid a after after-sound (valid .lent .records) room-there j₁ c₁ s₁ e
         where
           room-there : leastStore (after .log .settings) ≤ length s
-          room-there = unfold deliver in unfold machineOf in settled .lent .store
+          room-there = unfold deliver in unfold machineOf in valid .lent .store

@@ -1,4 +1,4 @@
-// Start, point and deliver as the calls do them once nothing refuses: deliver asks for a settled area, the others for room and ranges.
+// Start, point and deliver as the calls do them once nothing refuses: deliver asks for a valid area, the others for room and ranges.
 // The public calls are those of the crate `calls`.
 ghost use mathlib.Core.Path.{_≡_};
 ghost use mathlib.Core.Bool.{true};
@@ -18,7 +18,7 @@ ghost use Rattle.machine.specs.Areas.{deliverOn};
 ghost use Rattle.machine.specs.Causes.{inRange};
 ghost use Rattle.writing.specs.Changes.{rootRecord};
 ghost use Rattle.writing.specs.Heads.{headsOf};
-ghost use Rattle.writing.specs.Settled.{Settled};
+ghost use Rattle.writing.specs.ValidArea.{ValidArea};
 
 // Writes the root's record, wanted, and gives the job record of a job that was just started.
 pub fn start(settings: area::Settings, cells: &mut [u32]) -> area::JobRecord
@@ -105,10 +105,10 @@ pub fn deliver(
     cells: &mut [u32],
     store: &mut [i32],
 ) -> area::JobRecord
-    requires { ⌜ Settled (areaOf job (now cells) (now store)) × (place ≡ firstWanted (entriesOf (areaOf job (now cells) (now store)))) × (place < job .held) ⌝ }
+    requires { ⌜ ValidArea (areaOf job (now cells) (now store)) × (place ≡ firstWanted (entriesOf (areaOf job (now cells) (now store)))) × (place < job .held) ⌝ }
     requires { ⌜ (length (now readings) ≡ readingCount (job .settings) (wantedIndex (entriesOf (areaOf job (now cells) (now store))))) × (inRange (now readings) ≡ true) ⌝ }
     ensures is { λ r. ⌜ areaOf r (now (cells .exit)) (now (store .exit)) ≡ deliverOn (areaOf job (now (cells .entry)) (now (store .entry))) (now (readings .entry)) indicator ⌝ }
-    ensures settled { λ r. ⌜ Settled (areaOf r (now (cells .exit)) (now (store .exit))) ⌝ }
+    ensures valid { λ r. ⌜ ValidArea (areaOf r (now (cells .exit)) (now (store .exit))) ⌝ }
 {
     let axes = job.settings.axes as usize;
     let first = area::first_at(cells, place) as usize;

@@ -184,8 +184,8 @@ module _ (a : Area) (m : Machine) (e : Encodes a m) where
           structure = structure (a .job .settings) (a .job .mean) s rs of-area recorded;
           wanted-last = λ p q h hq z.
               sym (state-at (a .job .settings) s rs q) ∙ of-area .wanted-last p q h (omega (arith, entries-length (a .job .settings) s rs)) (state-at (a .job .settings) s rs p ∙ z);
-          wanted-idle = λ p h z.
-              sym (indicator-at (a .job .settings) s rs p) ∙ of-area .wanted-idle p (omega (arith, entries-length (a .job .settings) s rs)) (state-at (a .job .settings) s rs p ∙ z);
+          wanted-indicator-zero = λ p h z.
+              sym (indicator-at (a .job .settings) s rs p) ∙ of-area .wanted-indicator-zero p (omega (arith, entries-length (a .job .settings) s rs)) (state-at (a .job .settings) s rs p ∙ z);
           first-readings = recorded .first;
           readings = in-range;
           numbers = numbers;

@@ -2,7 +2,7 @@
 use mathlib.Core.Path.{sym}
 use Rattle.encoding.specs.Encodes.{encodedArea}
 use Rattle.encoding.specs.Facts.{EncodingFacts, RangeFacts}
-use Rattle.encoding.proofs.Cells.{held-formed}
+use Rattle.encoding.proofs.Cells.{held-well-formed}
 use Rattle.encoding.proofs.Store.{blocks-of}
 use Rattle.encoding.proofs.Ranges.{block-within, reserved-within, pending-within, mean-within}
 use Rattle.encoding.proofs.Forth.{sound-entries, sound-encodes}
@@ -11,7 +11,7 @@ use Rattle.encoding.proofs.Back.{machine-is, encodes-sound, area-encode
 pub encoding-facts : EncodingFacts
 encoding-facts =
     record {
-      formed = held-formed;
+      well-formed = held-well-formed;
       encodes = sound-encodes;
       clauses = sound-entries;
       only = λ a m v e. sym (machine-is a m e (blocks-of v));

@@ -21,7 +21,7 @@ use Rattle.quadrature.specs.Readings.{recordAt}
 use Rattle.soundness.specs.Held.{levelsAt, stateAt}
 use Rattle.soundness.specs.Sound.{Structure, Sound}
 use Rattle.encoding.specs.Entries.{entryAt, EnteredOld, SoundMachine}
-use Rattle.encoding.specs.Encodes.{Encodes, Formed}
+use Rattle.encoding.specs.Encodes.{Encodes, WellFormed}
 use Rattle.encoding.proofs.Places.{entry-at, levels-at, state-at, indicator-at, entries-length, has, entered-old, held-old, recorded-is}
 use Rattle.encoding.proofs.Links.{links-place}
 use Rattle.encoding.proofs.Store.{wanted-readings, delivered-readings, delivered-reading, blocks-of, written-back}
@@ -86,7 +86,7 @@ module _ (a : Area) (sound : Sound a) (room : leastStore (a .job .settings) ≤ 
             let h = held .admissible k i (λ c hc l. held-old g s rs (backward k c) (old c hc l)) in
             (h .0, has g s rs k (h .0) (h .1));
         wanted-last = λ p q h hq z. state-at g s rs q ∙ sound .wanted-last p q h (inside q hq) (sym (state-at g s rs p) ∙ z);
-        wanted-idle = λ p h z. indicator-at g s rs p ∙ sound .wanted-idle p (inside p h) (sym (state-at g s rs p) ∙ z);
+        wanted-indicator-zero = λ p h z. indicator-at g s rs p ∙ sound .wanted-indicator-zero p (inside p h) (sym (state-at g s rs p) ∙ z);
         wanted-empty = empty;
         within-budget = omega (arith, sound .numbers .reserved, sound .numbers .within-budget);
         whole = whole;
@@ -100,13 +100,13 @@ module _ (a : Area) (sound : Sound a) (room : leastStore (a .job .settings) ≤ 
   unfolding entriesOf
   entries-count = entries-length g s rs ∙ length-take-le (a .job .held) (a .run .records) (sound .held-lent)
 
-  module _ (formed : Formed rs) where
+  module _ (well-formed : WellFormed rs) where
     records-are : recordsFor g (entriesOf a) ≡ rs
     unfolding entriesOf
     records-are =
         recorded-is g s rs
         (record {
-          links = λ p h. links-place (g .axes) (sound .settings .axes .1) rs held p h (formed p h .1);
+          links = λ p h. links-place (g .axes) (sound .settings .axes .1) rs held p h (well-formed p h .1);
           first = sound .first-readings;
         })
 

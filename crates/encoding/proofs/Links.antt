@@ -9,8 +9,8 @@ use native.Mathlib.Decide.{decLt}
 use native.Mathlib.Omega.{arith}
 use lib.ListN.{length, getD, length-append, List·getD-append}
 use lib.Seq.{ext-getD, getD-append-add}
-use Rattle.sums.specs.Lists.{tab}
-use Rattle.sums.proofs.Lists.{length-tab, getD-tab}
+use Rattle.sums.specs.Lists.{tabulate}
+use Rattle.sums.proofs.Lists.{length-tabulate, getD-tabulate}
 use Rattle.grid.specs.Index.{level, Index, forward, backward}
 use Rattle.grid.proofs.Neighbours.{forward-level, backward-level}
 use Rattle.area.specs.declared.IndexRecord.{IndexRecord}
@@ -29,26 +29,26 @@ use Rattle.soundness.proofs.Gives.{structure-linked}
 
 module _ (ls : List (List ℕ)) (k : List ℕ) where
   abbrev ahead : List ℕ
-  ahead = tab 8 (λ a. placeOf ls (forward k a))
+  ahead = tabulate 8 (λ a. placeOf ls (forward k a))
 
   abbrev behind : List ℕ
-  behind = tab 8 (λ a. placeOf ls (backward k a))
+  behind = tabulate 8 (λ a. placeOf ls (backward k a))
 
   links-length : length (linksOf ls k) ≡ 16
   unfolding linksOf
-  links-length = length-append ahead behind ∙ ap₂ _+_ (length-tab 8 (λ a. placeOf ls (forward k a))) (length-tab 8 (λ a. placeOf ls (backward k a)))
+  links-length = length-append ahead behind ∙ ap₂ _+_ (length-tabulate 8 (λ a. placeOf ls (forward k a))) (length-tabulate 8 (λ a. placeOf ls (backward k a)))
 
   pub forward-at : (a : ℕ) → a < 8 → getD (linksOf ls k) a 0 ≡ placeOf ls (forward k a)
   unfolding linksOf
   forward-at a h =
-      List·getD-append ahead behind 0 a (omega (arith, length-tab 8 (λ a. placeOf ls (forward k a)))) ∙ getD-tab 8 (λ a. placeOf ls (forward k a)) a 0 h
+      List·getD-append ahead behind 0 a (omega (arith, length-tabulate 8 (λ a. placeOf ls (forward k a)))) ∙ getD-tabulate 8 (λ a. placeOf ls (forward k a)) a 0 h
 
   pub backward-at : (a : ℕ) → a < 8 → getD (linksOf ls k) (8 + a) 0 ≡ placeOf ls (backward k a)
   unfolding linksOf
   backward-at a h =
-      ap (λ n. getD (linksOf ls k) (n + a) 0) (sym (length-tab 8 (λ a. placeOf ls (forward k a))))
+      ap (λ n. getD (linksOf ls k) (n + a) 0) (sym (length-tabulate 8 (λ a. placeOf ls (forward k a))))
       ∙ getD-append-add ahead behind a 0
-      ∙ getD-tab 8 (λ a. placeOf ls (backward k a)) a 0 h
+      ∙ getD-tabulate 8 (λ a. placeOf ls (backward k a)) a 0 h
 
   -- sixteen links are an index's if they are its neighbours' places
   links-are : (m : List ℕ) → length m ≡ 16 → ((a : ℕ) → a < 8 → getD m a 0 ≡ placeOf ls (forward k a))

@@ -21,5 +21,5 @@ abbrev pub encodedArea : Machine → Run → List ℤ → Area
 encodedArea m u s = record { job = jobWith m; run = runWith u (m .log); store = storeWith s (m .log .entries) }
 
 -- Records of eight levels and sixteen links, as cells always hold.
-abbrev pub Formed : List IndexRecord → Type 0
-Formed rs = (p : ℕ) → p < length rs → (length (recordAt rs p .levels) ≡ 8) × (length (recordAt rs p .links) ≡ 16)
+abbrev pub WellFormed : List IndexRecord → Type 0
+WellFormed rs = (p : ℕ) → p < length rs → (length (recordAt rs p .levels) ≡ 8) × (length (recordAt rs p .links) ≡ 16)

@@ -55,7 +55,7 @@ module _ (m : Machine) where
     pub admissible : (k : List ℕ) → Index (g .axes) k → ((a : ℕ) → a < g .axes → 1 < level k a → EnteredOld es (backward k a)) → Entered es k
     -- wanted entries come last with indicator 0, and have no readings
     pub wanted-last : (p q : ℕ) → p ≤ q → q < length es → entryAt es p .state ≡ 0 → entryAt es q .state ≡ 0
-    pub wanted-idle : (p : ℕ) → p < length es → entryAt es p .state ≡ 0 → entryAt es p .indicator ≡ 0
+    pub wanted-indicator-zero : (p : ℕ) → p < length es → entryAt es p .state ≡ 0 → entryAt es p .indicator ≡ 0
     pub wanted-empty : (p : ℕ) → p < length es → entryAt es p .state ≡ 0 → entryAt es p .readings ≡ []
     -- the blocks' sizes are within the budget
     pub within-budget : reservedBy es ≤ g .budget

@@ -13,13 +13,13 @@ use Rattle.quadrature.specs.Readings.{recordAt}
 use Rattle.soundness.specs.Held.{levelsAt}
 use Rattle.soundness.specs.Sound.{Sound, LongEnough}
 use Rattle.encoding.specs.Entries.{SoundMachine}
-use Rattle.encoding.specs.Encodes.{Encodes, encodedArea, Formed}
+use Rattle.encoding.specs.Encodes.{Encodes, encodedArea, WellFormed}
 
 pub record EncodingFacts : Type 0 where
-  -- records read from cells are formed
-  pub formed : (j : JobRecord) (c : List ℕ) (s : List ℤ) → Formed (heldOf (areaOf j c s))
+  -- records read from cells are well-formed
+  pub well-formed : (j : JobRecord) (c : List ℕ) (s : List ℤ) → WellFormed (heldOf (areaOf j c s))
   -- a sound area whose store is long enough encodes the state that is read from it
-  pub encodes : (a : Area) → Sound a → leastStore (a .job .settings) ≤ length (a .store) → Formed (heldOf a) → Encodes a (machineOf a)
+  pub encodes : (a : Area) → Sound a → leastStore (a .job .settings) ≤ length (a .store) → WellFormed (heldOf a) → Encodes a (machineOf a)
   -- this satisfies the clauses
   pub clauses : (a : Area) → Sound a → leastStore (a .job .settings) ≤ length (a .store) → SoundMachine (machineOf a)
   -- and it encodes no other that does

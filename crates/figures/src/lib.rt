@@ -8,7 +8,7 @@ ghost use Rattle.grid.specs.Difference.{scaledDifference, scaledMean};
 ghost use Rattle.grid.specs.Tensor.{tensorRule};
 ghost use Rattle.grid.specs.Coefficient.{coefficient as coefficientOf};
 ghost use Rattle.area.specs.Records.{recordsOf, heldIn};
-ghost use Rattle.quadrature.specs.Readings.{recordAt, fetched};
+ghost use Rattle.quadrature.specs.Readings.{recordAt, storedReading};
 ghost use Rattle.quadrature.specs.Ready.{Ready, AllReady};
 ghost use Rattle.quadrature.specs.Linked.{deliveredIn, Linked};
 
@@ -16,7 +16,7 @@ ghost use Rattle.quadrature.specs.Linked.{deliveredIn, Linked};
 #[no_mangle]
 pub extern "C" fn figures_difference(axes: usize, place: usize, cells: &[u32], store: &[i32]) -> i64
     requires { ⌜ (place * 27 + 27 ≤ length (now cells)) × Ready axes (recordsOf (now cells)) (now store) (recordAt (recordsOf (now cells)) place .levels) ⌝ }
-    ensures { λ r. ⌜ r ≡ scaledDifference (recordAt (recordsOf (now (cells .entry))) place .levels) (fetched (recordsOf (now (cells .entry))) (now (store .entry))) ⌝ }
+    ensures { λ r. ⌜ r ≡ scaledDifference (recordAt (recordsOf (now (cells .entry))) place .levels) (storedReading (recordsOf (now (cells .entry))) (now (store .entry))) ⌝ }
 {
     quadrature::scaled_difference(axes, area::levels_at(cells, place), cells, store)
 }
@@ -30,7 +30,7 @@ pub extern "C" fn figures_tensor_rule(
     store: &[i32],
 ) -> i64
     requires { ⌜ (place * 27 + 27 ≤ length (now cells)) × Ready axes (recordsOf (now cells)) (now store) (recordAt (recordsOf (now cells)) place .levels) ⌝ }
-    ensures { λ r. ⌜ r ≡ tensorRule (recordAt (recordsOf (now (cells .entry))) place .levels) (fetched (recordsOf (now (cells .entry))) (now (store .entry))) ⌝ }
+    ensures { λ r. ⌜ r ≡ tensorRule (recordAt (recordsOf (now (cells .entry))) place .levels) (storedReading (recordsOf (now (cells .entry))) (now (store .entry))) ⌝ }
 {
     quadrature::tensor_rule(axes, area::levels_at(cells, place), cells, store)
 }
@@ -53,7 +53,7 @@ pub extern "C" fn figures_difference_total(
     store: &[i32],
 ) -> i64
     requires { ⌜ AllReady axes held (recordsOf (now cells)) (now store) ⌝ }
-    ensures { λ r. ⌜ r ≡ scaledMean (deliveredIn (heldIn (now (cells .entry)) held)) (fetched (recordsOf (now (cells .entry))) (now (store .entry))) ⌝ }
+    ensures { λ r. ⌜ r ≡ scaledMean (deliveredIn (heldIn (now (cells .entry)) held)) (storedReading (recordsOf (now (cells .entry))) (now (store .entry))) ⌝ }
 {
     quadrature::difference_total(axes, held, cells, store)
 }

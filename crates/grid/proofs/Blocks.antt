@@ -18,25 +18,25 @@ use Rattle.rule.specs.Points.{newPoints, newCount, newPoint, newAt, levelOf, ra
 use Rattle.rule.proofs.Points as Points
 use Rattle.rule.proofs.Tables.{level-is, rank-is, rank-below, point-is, new-at, new-range, rising}
 use Rattle.grid.specs.Index.{levelsWithin}
-use Rattle.grid.specs.Block.{times, block, blockSize, pointOf, rankIn, newOnEach}
+use Rattle.grid.specs.Block.{cartesian, block, blockSize, pointOf, rankIn, newOnEach}
 use Rattle.grid.specs.Terms.{Before}
 use Rattle.grid.proofs.Levels.{Levels, levels-sure, and-left, and-right, and-both}
 
 -- ---- the block as a list
 
-length-times : (xs : List ℕ) (ps : List (List ℕ)) → length (times xs ps) ≡ length xs * length ps
-unfolding times
-length-times [] ps = sym (NatL.zero-mul (length ps))
-length-times (x ∷ xs) ps =
-    length-append (map (λ (p : List ℕ). x ∷ p) ps) (times xs ps)
-    ∙ ap₂ _+_ (length-map ps (λ (p : List ℕ). x ∷ p)) (length-times xs ps)
+length-cartesian : (xs : List ℕ) (ps : List (List ℕ)) → length (cartesian xs ps) ≡ length xs * length ps
+unfolding cartesian
+length-cartesian [] ps = sym (NatL.zero-mul (length ps))
+length-cartesian (x ∷ xs) ps =
+    length-append (map (λ (p : List ℕ). x ∷ p) ps) (cartesian xs ps)
+    ∙ ap₂ _+_ (length-map ps (λ (p : List ℕ). x ∷ p)) (length-cartesian xs ps)
     ∙ NatL.add-comm (length ps) (length xs * length ps)
     ∙ sym (NatL.suc-mul (length xs) (length ps))
 
 pub size : (k : List ℕ) → length (block k) ≡ blockSize k
 unfolding block blockSize
 size [] = refl
-size (k ∷ ks) = length-times (newPoints k) (block ks) ∙ ap₂ _*_ (Points.new-count k) (size ks)
+size (k ∷ ks) = length-cartesian (newPoints k) (block ks) ∙ ap₂ _*_ (Points.new-count k) (size ks)
 
 -- the element with the digits q and r
 getD-front : (x : ℕ) (ps : List (List ℕ)) (r : ℕ) → r < length ps → getD (map (λ (p : List ℕ). x ∷ p) ps) r [] ≡ x ∷ getD ps r []
@@ -44,18 +44,18 @@ getD-front x [] r h = absurd (omega arith)
 getD-front x (p ∷ ps) zero h = refl
 getD-front x (p ∷ ps) (suc r) h = getD-front x ps r (omega arith)
 
-times-at : (xs : List ℕ) (ps : List (List ℕ)) (q r : ℕ) → q < length xs → r < length ps → getD (times xs ps) (q * length ps + r) [] ≡ getD xs q 0 ∷ getD ps r []
-unfolding times
-times-at [] ps q r a b = absurd (omega arith)
-times-at (x ∷ xs) ps zero r a b =
+cartesian-at : (xs : List ℕ) (ps : List (List ℕ)) (q r : ℕ) → q < length xs → r < length ps → getD (cartesian xs ps) (q * length ps + r) [] ≡ getD xs q 0 ∷ getD ps r []
+unfolding cartesian
+cartesian-at [] ps q r a b = absurd (omega arith)
+cartesian-at (x ∷ xs) ps zero r a b =
     rw (NatL.zero-mul (length ps), NatL.zero-add r)
-    (List·getD-append (map (λ (p : List ℕ). x ∷ p) ps) (times xs ps) [] r (rw (length-map ps (λ (p : List ℕ). x ∷ p)) b)
+    (List·getD-append (map (λ (p : List ℕ). x ∷ p) ps) (cartesian xs ps) [] r (rw (length-map ps (λ (p : List ℕ). x ∷ p)) b)
     ∙ getD-front x ps r b)
-times-at (x ∷ xs) ps (suc q) r a b =
-    ap (λ n. getD (map (λ (p : List ℕ). x ∷ p) ps ++ times xs ps) n [])
+cartesian-at (x ∷ xs) ps (suc q) r a b =
+    ap (λ n. getD (map (λ (p : List ℕ). x ∷ p) ps ++ cartesian xs ps) n [])
     (past (length ps) q r ∙ ap (λ n. n + (q * length ps + r)) (sym (length-map ps (λ (p : List ℕ). x ∷ p))))
-    ∙ getD-append-add (map (λ (p : List ℕ). x ∷ p) ps) (times xs ps) (q * length ps + r) []
-    ∙ times-at xs ps q r (omega arith) b
+    ∙ getD-append-add (map (λ (p : List ℕ). x ∷ p) ps) (cartesian xs ps) (q * length ps + r) []
+    ∙ cartesian-at xs ps q r (omega arith) b
   where
     past : (m q r : ℕ) → suc q * m + r ≡ m + (q * m + r)
     past m q r = omega arith
@@ -77,8 +77,8 @@ unfolding block blockSize pointOf
 nth [] zero h = refl
 nth [] (suc n) h = absurd (omega arith)
 nth (k ∷ ks) n h =
-    ap (λ m. getD (times (newPoints k) (block ks)) m []) (sym (div-add-mod' n (blockSize ks)) ∙ ap (λ s. n / blockSize ks * s + n % blockSize ks) (sym (size ks)))
-    ∙ times-at (newPoints k) (block ks) (n / blockSize ks) (n % blockSize ks)
+    ap (λ m. getD (cartesian (newPoints k) (block ks)) m []) (sym (div-add-mod' n (blockSize ks)) ∙ ap (λ s. n / blockSize ks * s + n % blockSize ks) (sym (size ks)))
+    ∙ cartesian-at (newPoints k) (block ks) (n / blockSize ks) (n % blockSize ks)
     (rw (Points.new-count k) (high-digit n (newCount k) (blockSize ks) h)) (rw (size ks) (low-digit n (newCount k) (blockSize ks) h))
     ∙ ap₂ (λ (p : ℕ) (ps : List ℕ). p ∷ ps) (Points.new-point k (n / blockSize ks) (high-digit n (newCount k) (blockSize ks) h))
     (nth ks (n % blockSize ks) (low-digit n (newCount k) (blockSize ks) h))

@@ -12,7 +12,7 @@ use lib.Dec.{T, leb, eqb}
 use lib.ListN.{length, replicate}
 use lib.IntN.{ℤ, pos, negsuc, negℤ, _+ℤ_, _*ℤ_, *ℤ-zero, zero-*ℤ, *ℤ-comm}
 use Rattle.sums.specs.Sums.{sumTo, sumOf}
-use Rattle.sums.specs.Lists.{tab}
+use Rattle.sums.specs.Lists.{tabulate}
 use Rattle.sums.proofs.Every.{every, every-at}
 use Rattle.sums.proofs.Ring.{products, mul-one}
 use Rattle.sums.proofs.Sums.{sumTo-cong, sumTo-mul}
@@ -21,7 +21,7 @@ use Rattle.rule.specs.Rules.{unit, isPoint, pointWeight, wholeAt, unitStep, dif
 use Rattle.rule.specs.Weights.{wholeWeight, endsOne, differenceWeight, endsMinusOne}
 use Rattle.rule.proofs.Weights.{difference-sum}
 use Rattle.grid.specs.Index.{level, excess, Within, levelsWithin, within, root, inFront, lower, backward}
-use Rattle.grid.specs.Block.{times, block, blockSize}
+use Rattle.grid.specs.Block.{cartesian, block, blockSize}
 use Rattle.grid.specs.Difference.{units, differenceProduct, differenceSum, scaledDifference, scaledMean, behind}
 use Rattle.grid.specs.Tensor.{tensorSum, tensorRule}
 use Rattle.grid.specs.Coefficient.{sameLevels, isIn, subsets, sign, raisedOn, coefficient}
@@ -147,33 +147,33 @@ file-set =
 -- ---- the rows
 
 p1 : map (differenceAt 2) (points 2) ≡ pos 1 ∷ negsuc 1 ∷ pos 1 ∷ []
-unfolding points tab differenceAt wholeAt isPoint pointWeight unitStep unit
+unfolding points tabulate differenceAt wholeAt isPoint pointWeight unitStep unit
 p1 = refl
 
 p2 : map (differenceAt 3) (points 3) ≡ negsuc 0 ∷ pos 2 ∷ negsuc 1 ∷ pos 2 ∷ negsuc 0 ∷ []
-unfolding points tab differenceAt wholeAt isPoint pointWeight unitStep unit
+unfolding points tabulate differenceAt wholeAt isPoint pointWeight unitStep unit
 p2 = refl
 
 p3 : newPoints 4 ≡ 16 ∷ 48 ∷ 80 ∷ 112 ∷ []
-unfolding newPoints tab
+unfolding newPoints tabulate
 p3 = refl
 
 p1-points : points 2 ≡ 0 ∷ 64 ∷ 128 ∷ []
-unfolding points tab
+unfolding points tabulate
 p1-points = refl
 
 p2-points : points 3 ≡ 0 ∷ 32 ∷ 64 ∷ 96 ∷ 128 ∷ []
-unfolding points tab
+unfolding points tabulate
 p2-points = refl
 
 p4 : length (block (3 ∷ 4 ∷ 1 ∷ [])) ≡ 8
-unfolding block times newPoints tab
+unfolding block cartesian newPoints tabulate
 p4 = refl
 
 p4-order : block (3 ∷ 4 ∷ 1 ∷ [])
     ≡ (32 ∷ 16 ∷ 64 ∷ []) ∷ (32 ∷ 48 ∷ 64 ∷ []) ∷ (32 ∷ 80 ∷ 64 ∷ []) ∷ (32 ∷ 112 ∷ 64 ∷ [])
     ∷ (96 ∷ 16 ∷ 64 ∷ []) ∷ (96 ∷ 48 ∷ 64 ∷ []) ∷ (96 ∷ 80 ∷ 64 ∷ []) ∷ (96 ∷ 112 ∷ 64 ∷ []) ∷ []
-unfolding block times newPoints tab
+unfolding block cartesian newPoints tabulate
 p4-order = refl
 
 file-counts : map (λ (e : Delivery). length (e .readings)) file ≡ map (λ (e : Delivery). blockSize (e .levels)) file

@@ -24,7 +24,7 @@ use Rattle.grid.specs.Terms.{NoDup, DownSet, blockSum}
 use Rattle.grid.proofs.Levels.{Levels, at-most, within-levels, units-small}
 use Rattle.grid.proofs.Rules.{rule}
 use Rattle.grid.proofs.Parts.{boxSum-only, nabla, nabla-zero, delta, by-parts}
-use Rattle.grid.proofs.Members.{member, standing, standing-in, standing-out, sumOf-box, coefficient-delta}
+use Rattle.grid.proofs.Members.{member, characteristic, characteristic-in, characteristic-out, sumOf-box, coefficient-delta}
 use Rattle.grid.proofs.Scales.{scaled, nabla-rule, rule-low, big, big-pos, rule-tensor, rule-difference}
 
 -- ---- for any function T of the index that is 0 where a level is 0
@@ -47,33 +47,33 @@ delta-out (suc k ∷ ks) χ n c w z =
 module _ (n d : ℕ) (J : List (List ℕ)) (T : List ℕ → ℤ)
     (good : (j : List ℕ) → List·Memᴰ j J → (length j ≡ d) × Levels n j)
     (unique : NoDup J) (closed : Closed J) (low : (p l : List ℕ) → T (p ++ (0 ∷ l)) ≡ pos 0) where
-  standing-closed : (p : List ℕ) (m : ℕ) (l : List ℕ) → standing J (p ++ (suc m ∷ l)) ≡ pos 0 → standing J (p ++ (suc (suc m) ∷ l)) ≡ pos 0
+  characteristic-closed : (p : List ℕ) (m : ℕ) (l : List ℕ) → characteristic J (p ++ (suc m ∷ l)) ≡ pos 0 → characteristic J (p ++ (suc (suc m) ∷ l)) ≡ pos 0
   unfolding Closed
-  standing-closed p m l z = step (member J (p ++ (suc (suc m) ∷ l)))
+  characteristic-closed p m l z = step (member J (p ++ (suc (suc m) ∷ l)))
     where
-      step : List·Memᴰ (p ++ (suc (suc m) ∷ l)) J ⊎ (List·Memᴰ (p ++ (suc (suc m) ∷ l)) J → ⊥) → standing J (p ++ (suc (suc m) ∷ l)) ≡ pos 0
-      step (inl q) = let e : standing J (p ++ (suc m ∷ l)) ≡ pos 1 = standing-in J (p ++ (suc m ∷ l)) (closed p m l q) in cc
-      step (inr f) = standing-out J (p ++ (suc (suc m) ∷ l)) f
+      step : List·Memᴰ (p ++ (suc (suc m) ∷ l)) J ⊎ (List·Memᴰ (p ++ (suc (suc m) ∷ l)) J → ⊥) → characteristic J (p ++ (suc (suc m) ∷ l)) ≡ pos 0
+      step (inl q) = let e : characteristic J (p ++ (suc m ∷ l)) ≡ pos 1 = characteristic-in J (p ++ (suc m ∷ l)) (closed p m l q) in cc
+      step (inr f) = characteristic-out J (p ++ (suc (suc m) ∷ l)) f
 
   too-high : (p l : List ℕ) → Levels n (p ++ (suc n ∷ l)) → ⊥
   too-high [] l w = omega arith
   too-high (x ∷ p) l w = too-high p l (w .2)
 
-  standing-high : (p l : List ℕ) → standing J (p ++ (suc n ∷ l)) ≡ pos 0
-  standing-high p l = standing-out J (p ++ (suc n ∷ l)) (λ m. too-high p l (good (p ++ (suc n ∷ l)) m .1))
+  characteristic-high : (p l : List ℕ) → characteristic J (p ++ (suc n ∷ l)) ≡ pos 0
+  characteristic-high p l = characteristic-out J (p ++ (suc n ∷ l)) (λ m. too-high p l (good (p ++ (suc n ∷ l)) m .1))
 
-  absorb : (k : List ℕ) → length k ≡ d → Levels n k → delta k (standing J) *ℤ T k ≡ standing J k *ℤ (coefficient J k *ℤ T k)
+  absorb : (k : List ℕ) → length k ≡ d → Levels n k → delta k (characteristic J) *ℤ T k ≡ characteristic J k *ℤ (coefficient J k *ℤ T k)
   absorb k e w = rw (coefficient-delta J k) (step (member J k))
     where
-      step : List·Memᴰ k J ⊎ (List·Memᴰ k J → ⊥) → delta k (standing J) *ℤ T k ≡ standing J k *ℤ (delta k (standing J) *ℤ T k)
-      step (inl m) = rw (standing-in J k m) (sym (one-*ℤ (delta k (standing J) *ℤ T k)))
-      step (inr f) = rw (standing-out J k f, delta-out k (standing J) n standing-closed w (standing-out J k f)) (simp zero-*ℤ)
+      step : List·Memᴰ k J ⊎ (List·Memᴰ k J → ⊥) → delta k (characteristic J) *ℤ T k ≡ characteristic J k *ℤ (delta k (characteristic J) *ℤ T k)
+      step (inl m) = rw (characteristic-in J k m) (sym (one-*ℤ (delta k (characteristic J) *ℤ T k)))
+      step (inr f) = rw (characteristic-out J k f, delta-out k (characteristic J) n characteristic-closed w (characteristic-out J k f)) (simp zero-*ℤ)
 
   combination : sumOf J (λ k. nabla k T) ≡ sumOf J (λ k. coefficient J k *ℤ T k)
   combination =
       sumOf-box n d J (λ k. nabla k T) good unique
-      ∙ by-parts n d (standing J) T low standing-high
-      ∙ boxSum-only n d (λ k. delta k (standing J) *ℤ T k) (λ k. standing J k *ℤ (coefficient J k *ℤ T k)) absorb
+      ∙ by-parts n d (characteristic J) T low characteristic-high
+      ∙ boxSum-only n d (λ k. delta k (characteristic J) *ℤ T k) (λ k. characteristic J k *ℤ (coefficient J k *ℤ T k)) absorb
       ∙ sym (sumOf-box n d J (λ k. coefficient J k *ℤ T k) good unique)
 
 -- ---- T at 1: the mixed difference of the constant 1 is 1 at the root and 0 elsewhere

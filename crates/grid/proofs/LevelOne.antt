@@ -24,7 +24,7 @@ use Rattle.grid.specs.Terms.{blockSum, padded, pad}
 use Rattle.grid.specs.Cross.{crossTotal}
 use Rattle.grid.proofs.Rules.{rule, rule-cong, tensor-is, difference-is}
 use Rattle.grid.proofs.Parts.{delta, delta-only, delta-zero}
-use Rattle.grid.proofs.Members.{standing, coefficient-delta}
+use Rattle.grid.proofs.Members.{characteristic, coefficient-delta}
 
 -- ---- excess, units, size
 
@@ -186,10 +186,10 @@ and-true true = refl
 and-true false = refl
 
 pub coefficient-same : (J : List (List ℕ)) (k : List ℕ) (m : ℕ) → coefficient (map (pad m) J) (pad m k) ≡ coefficient J k
-unfolding pad standing Ended
+unfolding pad characteristic Ended
 coefficient-same J k m =
     coefficient-delta (map (pad m) J) (k ++ replicate m 1)
-    ∙ delta-same k m (standing (map (pad m) J)) (λ l ys p e q. ap (λ t. cond t (pos 1) (pos 0)) (in-padded J l ys m e ∙ ap (λ t. isIn J l && t) q ∙ and-false (isIn J l)))
+    ∙ delta-same k m (characteristic (map (pad m) J)) (λ l ys p e q. ap (λ t. cond t (pos 1) (pos 0)) (in-padded J l ys m e ∙ ap (λ t. isIn J l && t) q ∙ and-false (isIn J l)))
     ∙ ap (delta k) (fun-ext (λ l. ap (λ t. cond t (pos 1) (pos 0)) (in-padded J l (replicate m 1) m (length-replicate m 1) ∙ ap (λ t. isIn J l && t) (same-ones m) ∙ and-true (isIn J l))))
     ∙ sym (coefficient-delta J k)
 

@@ -15,4 +15,4 @@ pub mod Masks
 pub mod Boundary
 pub mod Facts
 pub mod Ceilings
-pub mod Turns
+pub mod LoopSteps

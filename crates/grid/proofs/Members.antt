@@ -78,24 +78,24 @@ member J k = step (isIn J k) refl
 
 -- ---- one where an index stands in a list, and zero elsewhere
 
-unfoldable pub standing : List (List ℕ) → List ℕ → ℤ
-standing J k = cond (isIn J k) (pos 1) (pos 0)
+unfoldable pub characteristic : List (List ℕ) → List ℕ → ℤ
+characteristic J k = cond (isIn J k) (pos 1) (pos 0)
 
-pub standing-in : (J : List (List ℕ)) (k : List ℕ) → List·Memᴰ k J → standing J k ≡ pos 1
-unfolding standing
-standing-in J k m = rw (in-back J k m)
+pub characteristic-in : (J : List (List ℕ)) (k : List ℕ) → List·Memᴰ k J → characteristic J k ≡ pos 1
+unfolding characteristic
+characteristic-in J k m = rw (in-back J k m)
 
-pub standing-out : (J : List (List ℕ)) (k : List ℕ) → (List·Memᴰ k J → ⊥) → standing J k ≡ pos 0
-unfolding standing
-standing-out J k f = rw (in-no J k f)
+pub characteristic-out : (J : List (List ℕ)) (k : List ℕ) → (List·Memᴰ k J → ⊥) → characteristic J k ≡ pos 0
+unfolding characteristic
+characteristic-out J k f = rw (in-no J k f)
 
 -- of a list with no element twice, one element at a time
 same-one : List ℕ → List ℕ → ℤ
 same-one j k = cond (sameLevels j k) (pos 1) (pos 0)
 
-standing-cons : (j : List ℕ) (J : List (List ℕ)) (k : List ℕ) → (List·Memᴰ j J → ⊥) → standing (j ∷ J) k ≡ same-one j k +ℤ standing J k
-unfolding standing isIn same-one
-standing-cons j J k f = step (same-or j k)
+characteristic-cons : (j : List ℕ) (J : List (List ℕ)) (k : List ℕ) → (List·Memᴰ j J → ⊥) → characteristic (j ∷ J) k ≡ same-one j k +ℤ characteristic J k
+unfolding characteristic isIn same-one
+characteristic-cons j J k f = step (same-or j k)
   where
     step : (j ≡ k) ⊎ ((j ≢ k) × (sameLevels j k ≡ false))
         → cond (cond (sameLevels j k) true (isIn J k)) (pos 1) (pos 0) ≡ cond (sameLevels j k) (pos 1) (pos 0) +ℤ cond (isIn J k) (pos 1) (pos 0)
@@ -150,14 +150,14 @@ boxPick n (x ∷ xs) f w =
 
 -- a sum over a list with no element twice is a sum over the box
 pub sumOf-box : (n d : ℕ) (J : List (List ℕ)) (f : List ℕ → ℤ) → ((j : List ℕ) → List·Memᴰ j J → (length j ≡ d) × Levels n j) → NoDup J
-    → sumOf J f ≡ boxSum n d (λ k. standing J k *ℤ f k)
+    → sumOf J f ≡ boxSum n d (λ k. characteristic J k *ℤ f k)
 unfolding sumOf
-sumOf-box n d [] f h u = sym (boxSum-cong n d (λ k. ap (λ x. x *ℤ f k) (standing-out [] k List·Memᴰ·not-nil) ∙ zero-*ℤ (f k)) ∙ boxSum-zero n d)
+sumOf-box n d [] f h u = sym (boxSum-cong n d (λ k. ap (λ x. x *ℤ f k) (characteristic-out [] k List·Memᴰ·not-nil) ∙ zero-*ℤ (f k)) ∙ boxSum-zero n d)
 sumOf-box n d (j ∷ J) f h u =
     ap₂ _+ℤ_ (sym (rw (h j (List·Memᴰ·head refl) .0) at (boxPick n j f (h j (List·Memᴰ·head refl) .1))))
     (sumOf-box n d J f (λ k m. h k (List·Memᴰ·tail m)) (u .1))
-    ∙ sym (boxSum-add n d (λ k. same-one j k *ℤ f k) (λ k. standing J k *ℤ f k))
-    ∙ boxSum-cong n d (λ k. sym (ap (λ x. x *ℤ f k) (standing-cons j J k (u .0)) ∙ distr (same-one j k) (standing J k) (f k)))
+    ∙ sym (boxSum-add n d (λ k. same-one j k *ℤ f k) (λ k. characteristic J k *ℤ f k))
+    ∙ boxSum-cong n d (λ k. sym (ap (λ x. x *ℤ f k) (characteristic-cons j J k (u .0)) ∙ distr (same-one j k) (characteristic J k) (f k)))
 
 -- ---- subsets
 
@@ -179,7 +179,7 @@ pub signed : (t : Bool) (s : ℤ) → cond t s (pos 0) ≡ s *ℤ cond t (pos 1)
 signed true s = sym (mul-one s)
 signed false s = sym (*ℤ-zero s)
 
-pub coefficient-delta : (J : List (List ℕ)) (k : List ℕ) → coefficient J k ≡ delta k (standing J)
-unfolding coefficient standing
+pub coefficient-delta : (J : List (List ℕ)) (k : List ℕ) → coefficient J k ≡ delta k (characteristic J)
+unfolding coefficient characteristic
 coefficient-delta J k =
-    sumOf-cong (subsets (length k)) (λ S. signed (isIn J (raisedOn k S)) (sign S)) ∙ subset-delta k (standing J)
+    sumOf-cong (subsets (length k)) (λ S. signed (isIn J (raisedOn k S)) (sign S)) ∙ subset-delta k (characteristic J)

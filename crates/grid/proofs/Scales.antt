@@ -31,14 +31,14 @@ scaled w k l = pos (2 ^ (20 - unit k)) *ℤ w k l
 powers : (a b : ℕ) → a ≤ b → b ≤ 20 → 2 ^ (20 - b) * 2 ^ (b - a) ≡ 2 ^ (20 - a)
 powers a b h l = sym (pow-add 2 (20 - b) (b - a)) ∙ ap (λ x. 2 ^ x) (omega arith)
 
-spread : (p q c a b : ℤ) → p *ℤ c ≡ q → p *ℤ (a -ℤ c *ℤ b) ≡ p *ℤ a -ℤ q *ℤ b
-spread p q c a b e = rw (← e) (simp ring)
+distribute : (p q c a b : ℤ) → p *ℤ c ≡ q → p *ℤ (a -ℤ c *ℤ b) ≡ p *ℤ a -ℤ q *ℤ b
+distribute p q c a b e = rw (← e) (simp ring)
 
 scaled-step : (k l : ℕ) → k < 20 → scaled differenceWeight (suc k) l ≡ scaled wholeWeight (suc k) l -ℤ scaled wholeWeight k l
 unfolding scaled
 scaled-step k l h =
     ap (λ x. pos (2 ^ (20 - unit (suc k))) *ℤ x) (Weights.difference-is k l)
-    ∙ spread (pos (2 ^ (20 - unit (suc k)))) (pos (2 ^ (20 - unit k))) (pos (2 ^ (unit (suc k) - unit k))) (wholeWeight (suc k) l) (wholeWeight k l)
+    ∙ distribute (pos (2 ^ (20 - unit (suc k)))) (pos (2 ^ (20 - unit k))) (pos (2 ^ (unit (suc k) - unit k))) (wholeWeight (suc k) l) (wholeWeight k l)
     (ap pos (powers (unit k) (unit (suc k)) (unit-mono k) (omega (arith, unit-le (suc k)))))
 
 scaled-beyond : (k l : ℕ) → k < l → scaled wholeWeight k l ≡ pos 0

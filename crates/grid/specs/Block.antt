@@ -5,15 +5,15 @@ use Prim.Native.Nat.{ℕ, _+_, _*_, _/_, _%_}
 use Rattle.rule.specs.Points.{newPoints, newCount, newPoint, newAt, rankOf}
 
 -- Each of the points with each of the positions put in front, the positions slowest.
-unfoldable pub times : List ℕ → List (List ℕ) → List (List ℕ)
-times [] ps = []
-times (x ∷ xs) ps = map (λ (p : List ℕ). x ∷ p) ps ++ times xs ps
+unfoldable pub cartesian : List ℕ → List (List ℕ) → List (List ℕ)
+cartesian [] ps = []
+cartesian (x ∷ xs) ps = map (λ (p : List ℕ). x ∷ p) ps ++ cartesian xs ps
 
 -- The *block* of an index is the product of its axes' new points, axis 1 slowest and the last axis fastest, positions rising.
 -- A point is the list of its positions.
 unfoldable pub block : List ℕ → List (List ℕ)
 block [] = [] ∷ []
-block (k ∷ ks) = times (newPoints k) (block ks)
+block (k ∷ ks) = cartesian (newPoints k) (block ks)
 
 -- The block's size: the product of the counts of new points.
 unfoldable pub blockSize : List ℕ → ℕ

@@ -24,7 +24,7 @@ use Rattle.machine.specs.Causes.{Lengths, firstCause, short, inRange, deliverCa
 use Rattle.calls.specs.Replies.{accepted, promotion}
 use Rattle.calls.proofs.Causes.{common-none, wanted-yes, wanted-no, deliver-fits, promote-free}
 use Rattle.published.specs.Figure.{Problem}
-use Rattle.published.specs.Turns.{supply, Measured}
+use Rattle.published.specs.Turns.{supply, ReadingValued}
 use Rattle.calls.specs.Table.{Call, promote, answer, row, causesOf, effectOf, fitting, acceptedAnswer, refusal, answerOf, changed, stateAfter}
 use Rattle.history.specs.Calls.{LentCall, lengthsLent}
 use Rattle.history.specs.Logged.{stateOf, refusalBy, answerBy}
@@ -77,7 +77,7 @@ module _ (P : Problem) (z : Lengths) (l : Log) (enough : short z (l .settings) �
   none = common-none z true l enough refl
 
   -- the first wanted block's delivery
-  pub supply-clear : Measured P → firstWanted (l .entries) < length (l .entries) → refusalBy z l (supplyCall P l) ≡ 0
+  pub supply-clear : ReadingValued P → firstWanted (l .entries) < length (l .entries) → refusalBy z l (supplyCall P l) ≡ 0
   unfolding supplyCall refusal causesOf row deliverCauses
   supply-clear measured wanted =
       deliver-fits z true l (map (P .integrand) (block (wantedIndex (l .entries)))) none (wanted-yes l wanted)
@@ -88,7 +88,7 @@ module _ (P : Problem) (z : Lengths) (l : Log) (enough : short z (l .settings) �
   unfolding answerBy answerOf stateOf
   answer-clear c e = rw e refl
 
-  pub supply-answer : Measured P → firstWanted (l .entries) < length (l .entries) → answerBy z l (supplyCall P l) ≡ answer accepted
+  pub supply-answer : ReadingValued P → firstWanted (l .entries) < length (l .entries) → answerBy z l (supplyCall P l) ≡ answer accepted
   supply-answer measured wanted = answer-clear (supplyCall P l) (supply-clear measured wanted) ∙ unfold supplyCall acceptedAnswer row in refl
 
   -- a promotion
@@ -112,7 +112,7 @@ module _ (P : Problem) (x : LentCall) (m : Machine) (enough : short (lengthsLent
   step-clear c e is = ap (λ (d : Call). stateAfter z true m d) is ∙ rw e refl
 
   -- the first wanted block's delivery
-  pub supply-step : Measured P → firstWanted (l .entries) < length (l .entries) → x .call ≡ supplyCall P l → machineStep m x ≡ supply P m
+  pub supply-step : ReadingValued P → firstWanted (l .entries) < length (l .entries) → x .call ≡ supplyCall P l → machineStep m x ≡ supply P m
   supply-step measured wanted is = step-clear (supplyCall P l) (supply-clear P z l enough measured wanted) is ∙ unfold supplyCall effectOf row changed supply in refl
 
   -- a promotion

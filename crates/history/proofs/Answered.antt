@@ -16,7 +16,7 @@ use Rattle.encoding.specs.Entries.{SoundMachine}
 use Rattle.machine.proofs.Facts.{step-facts}
 use Rattle.calls.specs.Replies.{accepted, promotion}
 use Rattle.published.specs.Figure.{Problem}
-use Rattle.published.specs.Turns.{supply, Measured}
+use Rattle.published.specs.Turns.{supply, ReadingValued}
 use Rattle.calls.specs.Table.{Call, promote, Answer, answer}
 use Rattle.calls.proofs.Outcomes.{promoted-settings}
 use Rattle.history.specs.Calls.{Part, LentCall, lengthsLent}
@@ -47,7 +47,7 @@ unfolding answersBy logAfter
 both-taken l [] ys s t = t
 both-taken l (x ∷ xs) ys s t = (s .0, both-taken (logStep l x) xs ys (s .1) t)
 
-module _ (x : Part) (P : Problem) (g : Settings) (long : 512 * 27 ≤ x .cells) (room : leastStore g ≤ x .readings) (measured : Measured P) where
+module _ (x : Part) (P : Problem) (g : Settings) (long : 512 * 27 ≤ x .cells) (room : leastStore g ≤ x .readings) (measured : ReadingValued P) where
   abbrev lend : Call → LentCall
   lend c = record { call = c; part = x }
 

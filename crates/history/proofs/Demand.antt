@@ -32,15 +32,15 @@ use Rattle.soundness.proofs.Clauses.{clause-facts}
 use Rattle.area.proofs.Records.{length-recordsOf}
 use Rattle.history.specs.Calls.{Part, LentCall, lengthsLent}
 use Rattle.history.specs.Logged.{stateOf, answerBy, answersBy, logAfter}
-use Rattle.history.specs.Storage.{Storage, areaLent, Lent, AllLent, returned, calledIn, storageStep, storageAfter, answersOf}
+use Rattle.history.specs.Storage.{Storage, areaLent, Lent, AllLent, returned, callIn, storageStep, storageAfter, answersOf}
 use Rattle.history.specs.Found.{Neighbours, LinksAgree, Found, ThirdDemand}
 use Rattle.history.proofs.Holding.{Holds, Kept, front-small, run-over}
-use Rattle.history.proofs.Moves.{Fine, from-log}
+use Rattle.history.proofs.Moves.{MachineInvariant, from-log}
 use Rattle.history.proofs.Steps.{lengths, answered, first-holds}
 use Rattle.history.proofs.Shorts.{rowAnswer}
 use Rattle.history.proofs.Lists.{machineAfter, lent-too, after-log, after-keeps, after-answers}
 use Rattle.history.proofs.LinksBothWays.{links-agree}
-use Rattle.history.proofs.Never.{never-four}
+use Rattle.history.proofs.NeverUnsound.{never-four}
 
 -- ---- what storage that holds a state shows
 
@@ -101,7 +101,7 @@ module _ (w : Storage) (m : Machine) (h : Holds w m) where
   found =
       record {
         entries = entries-there;
-        idle = h .sound .wanted-idle;
+        wanted-indicator-zero = h .sound .wanted-indicator-zero;
         job = h .job ∙ ap jobWith (from-log m (record { sound = h .sound; mean = h .mean }));
         sound = checked-there;
         neighbours = neighbours;
@@ -126,11 +126,11 @@ module _ (w : Storage) (first : LentCall) (later : List LentCall) (g : Settings)
   clear = ap (λ z. firstCause (startCauses z g)) (sym (lengths w (first .part) (lent .0))) ∙ accepted-start (areaLent w (first .part)) g taken
 
   begins : Kept w (storageStep w first) m
-  unfolding storageStep calledIn
+  unfolding storageStep callIn
   begins = subst (λ c. Kept w (returned w (first .part) (callOn (areaLent w (first .part)) c .area)) m) (sym is) (first-holds w (first .part) (lent .0) g clear)
 
-  first-answer : calledIn w first .answer ≡ answer accepted
-  unfolding calledIn
+  first-answer : callIn w first .answer ≡ answer accepted
+  unfolding callIn
   first-answer = ap (λ c. callOn (areaLent w (first .part)) c .answer) is ∙ taken
 
   lent-later : AllLent (storageStep w first) later
@@ -149,7 +149,7 @@ module _ (w : Storage) (first : LentCall) (later : List LentCall) (g : Settings)
   unfolding steps.started
   log-there = after-log m later
 
-  pub state-fine : Fine (machineAfter m later)
+  pub state-fine : MachineInvariant (machineAfter m later)
   state-fine = record { sound = kept .holds .sound; mean = kept .holds .mean }
 
   after : Found (storageAfter w (first ∷ later)) (logAfter (steps.startLog g) later)

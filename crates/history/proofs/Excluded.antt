@@ -35,16 +35,16 @@ use Rattle.calls.specs.Table.{deliver, answer, promotionEffect, row, causesOf, 
 use Rattle.published.proofs.Outcomes.{promoted-log}
 use Rattle.soundness.specs.Clauses.{isSound}
 use Rattle.soundness.proofs.Clauses.{clause-facts}
-use Rattle.writing.specs.Settled.{Settled}
+use Rattle.writing.specs.ValidArea.{ValidArea}
 use Rattle.area.specs.Encoding.{Area, entriesOf, machineOf}
 use lib.IntN.{ℤ}
 use mathlib.Core.List.{List}
-use Rattle.calls.specs.Calls.{Called, callOn}
+use Rattle.calls.specs.Calls.{CallResult, callOn}
 use Rattle.calls.proofs.Tests as tests
 use Rattle.calls.proofs.Causes.{common-none, start-fits, deliver-fits}
 use Rattle.calls.proofs.Rows.{start-accepts, deliver-accepts}
 use Rattle.history.specs.Logged.{stateOf, logStep, answerBy, answersBy}
-use Rattle.history.specs.Excluded.{refined, Passes, Excluded, fileCalls, answersAfter, CallCases}
+use Rattle.history.specs.Excluded.{refined, ExceedsLimits, Excluded, fileCalls, answersAfter, CallCases}
 
 promoted-above : (l : Log) → (rule.isMet l ≡ true → ⊥) → rule.fits (l .settings .budget) (refined l) ≡ true
     → rule.promote l .outcome ≡ rule.promoted
@@ -61,7 +61,7 @@ promoted-above l n f = split (rule.isMet l) (rule.fits (l .settings .budget) (ru
     split false false g e = let y : _≡_ {A = ℕ} 0 1 = cc in absurd (omega arith)
 
 -- what fits neither passes 512 nor the budget
-fits-not : (l : Log) → Passes l → rule.fits (l .settings .budget) (refined l) ≡ false
+fits-not : (l : Log) → ExceedsLimits l → rule.fits (l .settings .budget) (refined l) ≡ false
 unfolding rule.fits
 fits-not l (inl h) = rw (lt-leb (length (refined l)) 512 h) refl
 fits-not l (inr h) = both (leb (length (refined l)) 512) (lt-leb (reservedBy (refined l)) (l .settings .budget) h)
@@ -70,11 +70,11 @@ fits-not l (inr h) = both (leb (length (refined l)) 512) (lt-leb (reservedBy (re
     both true e = e
     both false e = refl
 
-passes : (l : Log) → rule.fits (l .settings .budget) (refined l) ≡ false → Passes l
+passes : (l : Log) → rule.fits (l .settings .budget) (refined l) ≡ false → ExceedsLimits l
 unfolding rule.fits
 passes l = step (leb (length (refined l)) 512) refl
   where
-    step : (t : Bool) → leb (length (refined l)) 512 ≡ t → (t && leb (reservedBy (refined l)) (l .settings .budget)) ≡ false → Passes l
+    step : (t : Bool) → leb (length (refined l)) 512 ≡ t → (t && leb (reservedBy (refined l)) (l .settings .budget)) ≡ false → ExceedsLimits l
     step true e f = inr (leb-false (reservedBy (refined l)) (l .settings .budget) f)
     step false e f = inl (leb-false (length (refined l)) 512 e)
 
@@ -85,7 +85,7 @@ module _ (l : Log) where
   abbrev given : Bool → Bool → rule.Promotion
   given t u = cond t (record { outcome = rule.met; log = l }) (cond u more (record { outcome = rule.spent; log = l }))
 
-  spent-if : (rule.isMet l ≡ true → ⊥) → Passes l → rule.promote l .outcome ≡ rule.spent
+  spent-if : (rule.isMet l ≡ true → ⊥) → ExceedsLimits l → rule.promote l .outcome ≡ rule.spent
   unfolding rule.promote rule.promoteAt
   spent-if n h = step (rule.isMet l) (rule.fits (l .settings .budget) (refined l)) n (fits-not l h)
     where
@@ -94,11 +94,11 @@ module _ (l : Log) where
       step false true g e = let y : _≡_ {A = ℕ} 0 1 = cc in absurd (omega arith)
       step false false g e = refl
 
-  only-if : rule.promote l .outcome ≡ rule.spent → (rule.isMet l ≡ true → ⊥) × Passes l
+  only-if : rule.promote l .outcome ≡ rule.spent → (rule.isMet l ≡ true → ⊥) × ExceedsLimits l
   unfolding rule.promote rule.promoteAt
   only-if e = step (rule.isMet l) (rule.fits (l .settings .budget) (refined l)) refl e
     where
-      step : (t u : Bool) → rule.fits (l .settings .budget) (refined l) ≡ u → given t u .outcome ≡ rule.spent → (t ≡ true → ⊥) × Passes l
+      step : (t u : Bool) → rule.fits (l .settings .budget) (refined l) ≡ u → given t u .outcome ≡ rule.spent → (t ≡ true → ⊥) × ExceedsLimits l
       step true u f g = let y : _≡_ {A = ℕ} 0 1 = cc in absurd (omega arith)
       step false true f g = let y : _≡_ {A = ℕ} 0 1 = cc in absurd (omega arith)
       step false false f g = (λ h. let y : _≡_ {A = ℕ} 0 1 = cc in omega arith, passes l f)
@@ -116,12 +116,12 @@ module _ (l : Log) where
       step false true f g = let y : _≡_ {A = ℕ} 0 1 = cc in absurd (omega arith)
       step false false f g = let y : _≡_ {A = ℕ} 0 1 = cc in absurd (omega arith)
 
--- in a settled area no cause refuses a delivery that fits
-delivery-accepted : (a : Area) (rs : List ℤ) (i : ℕ) → Settled a → anyWanted (entriesOf a) ≡ true → length rs ≡ readingCount (a .job .settings) (wantedIndex (entriesOf a)) → inRange rs ≡ true
+-- in a valid area no cause refuses a delivery that fits
+delivery-accepted : (a : Area) (rs : List ℤ) (i : ℕ) → ValidArea a → anyWanted (entriesOf a) ≡ true → length rs ≡ readingCount (a .job .settings) (wantedIndex (entriesOf a)) → inRange rs ≡ true
     → callOn a (deliver rs i) .answer ≡ answer accepted
 unfolding machineOf
 delivery-accepted a rs i s some whole range =
-    ap (λ (y : Called). y .answer)
+    ap (λ (y : CallResult). y .answer)
     (sym (deliver-accepts a rs i _ refl
     (deliver-fits (lengthsOf a) (isSound a) (machineOf a .log) rs
     (common-none (lengthsOf a) (isSound a) (machineOf a .log) (tests.enough (lengthsOf a) (a .job .settings) (s .lent .records) (s .lent .store)) (clause-facts .agree a .back (s .sound))) some whole range)))
@@ -130,7 +130,7 @@ pub excluded : Excluded
 excluded =
     record {
       starts = λ a g fit long room.
-          ap (λ (y : Called). y .answer)
+          ap (λ (y : CallResult). y .answer)
           (sym (start-accepts a g _ refl (start-fits (lengthsOf a) g fit (tests.enough (lengthsOf a) g long room))));
       accepted-deliveries = delivery-accepted;
       deliveries = λ z l rs i long room some whole range. unfold refusal causesOf row deliverCauses in deliver-fits z true l rs (common-none z true l (tests.enough z (l .settings) long room) refl) some whole range;

@@ -16,12 +16,12 @@ use Rattle.area.specs.Entry.{Entry}
 use Rattle.area.specs.Encoding.{Area, recordsFor, storeFor, runWith, storeWith, jobWith, written}
 use Rattle.area.proofs.Records.{whole}
 use Rattle.area.proofs.Cells.{cells-length, cells-run, run-drop}
-use Rattle.encoding.specs.Encodes.{Formed}
+use Rattle.encoding.specs.Encodes.{WellFormed}
 use Rattle.encoding.proofs.Places.{records-length}
 use Rattle.area.specs.Log.{Machine}
 use Rattle.encoding.specs.Entries.{SoundMachine}
 use Rattle.machine.specs.Means.{meanOf}
-use Rattle.calls.proofs.Written.{formed-records, store-small}
+use Rattle.calls.proofs.Written.{well-formed-records, store-small}
 use Rattle.history.specs.Calls.{Part}
 use Rattle.history.specs.Storage.{Storage, areaLent, Lent, returned}
 use Rattle.history.proofs.Overlays.{over, over-part, over-whole, over-twice, over-length}
@@ -35,11 +35,11 @@ module _ (m : Machine) (v : SoundMachine m) where
   abbrev front : List ℕ
   front = cellsFor (recordsFor (m .log .settings) es)
 
-  formed : Formed (recordsFor (m .log .settings) es)
-  formed = formed-records (record { job = jobWith m; run = record { records = []; rest = [] }; store = [] }) m v
+  well-formed : WellFormed (recordsFor (m .log .settings) es)
+  well-formed = well-formed-records (record { job = jobWith m; run = record { records = []; rest = [] }; store = [] }) m v
 
   front-length : length front ≡ length es * 27
-  front-length = cells-length (recordsFor (m .log .settings) es) formed ∙ ap (λ n. n * 27) (records-length (m .log .settings) es)
+  front-length = cells-length (recordsFor (m .log .settings) es) well-formed ∙ ap (λ n. n * 27) (records-length (m .log .settings) es)
 
   pub front-small : length front ≤ 512 * 27
   front-small = omega (arith, front-length, v .count .1)
@@ -54,7 +54,7 @@ module _ (m : Machine) (v : SoundMachine m) where
     pub run-over : runOf (over front c) ≡ runWith (runOf c) (m .log)
     unfolding runWith
     run-over =
-        cells-run (recordsFor (m .log .settings) es) (drop (length front) c) formed
+        cells-run (recordsFor (m .log .settings) es) (drop (length front) c) well-formed
         ∙ ap (λ (u : Run). record { records = recordsFor (m .log .settings) es ++ u .records; rest = u .rest }) dropped
 
     pub cells-with : cellsOf (runWith (runOf c) (m .log)) ≡ over front c

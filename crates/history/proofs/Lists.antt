@@ -10,7 +10,7 @@ use Rattle.history.specs.Calls.{LentCall}
 use Rattle.history.specs.Logged.{logAfter, answersBy}
 use Rattle.history.specs.Storage.{Storage, AllLent, storageStep, storageAfter, answersOf}
 use Rattle.history.proofs.Holding.{Holds, Kept}
-use Rattle.history.proofs.Moves.{machineStep, step-log, Fine, step-fine}
+use Rattle.history.proofs.Moves.{machineStep, step-log, MachineInvariant, step-fine}
 use Rattle.history.proofs.Steps.{call-answer, call-keeps}
 
 -- the machine's state after the calls
@@ -45,7 +45,7 @@ after-answers w m h (x ∷ xs) l =
     (after-answers (storageStep w x) (machineStep m x) (k .holds) xs (lent-too w (storageStep w x) (k .cells) (k .store) xs (l .1))
     ∙ ap (λ (o : Log). answersBy o xs) (step-log m x))
 
-pub after-fine : (m : Machine) → Fine m → (xs : List LentCall) → Fine (machineAfter m xs)
+pub after-fine : (m : Machine) → MachineInvariant m → (xs : List LentCall) → MachineInvariant (machineAfter m xs)
 unfolding machineAfter
 after-fine m f [] = f
 after-fine m f (x ∷ xs) = after-fine (machineStep m x) (step-fine m f x) xs

@@ -19,18 +19,18 @@ use Rattle.machine.specs.Causes.{Lengths, deliverCauses, promoteCauses}
 use Rattle.machine.proofs.Wanted.{none-wanted, reads-wanted}
 use Rattle.calls.proofs.Accepted.{deliverable, promotable}
 use Rattle.published.proofs.Problems.{posed}
-use Rattle.published.proofs.Moments.{OnCourse, start-course, deliver-course, promote-course, course-stands}
+use Rattle.published.proofs.Moments.{OnCourse, start-course, deliver-course, promote-course, course-simulates}
 use Rattle.calls.specs.Table.{Call, start, point, deliver, promote, result, crossTotal, check, row, causesOf, effectOf, refusal, changed, stateAfter}
 use Rattle.history.specs.Calls.{LentCall, lengthsLent}
 use Rattle.history.specs.Source.{StepsFollow, StepsFollowAll}
-use Rattle.history.proofs.Moves.{moved, machineStep, promote-moved, Fine, moved-fine, step-fine}
+use Rattle.history.proofs.Moves.{moved, machineStep, promote-moved, MachineInvariant, moved-fine, step-fine}
 use Rattle.history.proofs.Lists.{machineAfter}
 use Rattle.history.proofs.Demand.{log-there, state-fine}
-use Rattle.history.proofs.Standing.{follows-at}
+use Rattle.history.proofs.Simulation.{follows-at}
 
 -- ---- the calls
 
-module _ (m : Machine) (f : Fine m) (c : OnCourse m) where
+module _ (m : Machine) (f : MachineInvariant m) (c : OnCourse m) where
   moved-course : (z : Lengths) (x : Call) → refusal z true (m .log) x ≡ 0 → OnCourse (moved m x)
   unfolding refusal causesOf effectOf row changed deliverCauses promoteCauses
   moved-course z (start g) e = start-course g
@@ -49,17 +49,17 @@ module _ (m : Machine) (f : Fine m) (c : OnCourse m) where
       split true e = moved-course (lengthsLent (x .part)) (x .call) (eqb-true (refusal (lengthsLent (x .part)) true (m .log) (x .call)) 0 e)
       split false e = c
 
-after-course : (m : Machine) → Fine m → OnCourse m → (xs : List LentCall) → OnCourse (machineAfter m xs)
+after-course : (m : Machine) → MachineInvariant m → OnCourse m → (xs : List LentCall) → OnCourse (machineAfter m xs)
 unfolding machineAfter
 after-course m f c [] = c
 after-course m f c (x ∷ xs) = after-course (machineStep m x) (step-fine m f x) (step-course m f c x) xs
 
 -- ---- the machine's log
 
-steps-of : (m : Machine) → Fine m → OnCourse m → StepsFollow (m .log)
+steps-of : (m : Machine) → MachineInvariant m → OnCourse m → StepsFollow (m .log)
 steps-of m f c =
     record {
-      every = λ P posing v. let x = course-stands P m c posing v in follows-at P m (countOf 2 (m .log .entries)) f (x .stands) (x .went-on);
+      every = λ P posing v. let x = course-simulates P m c posing v in follows-at P m (countOf 2 (m .log .entries)) f (x .simulates) (x .went-on);
       some = λ none. posed (f .sound) (all none);
     }
   where
@@ -77,5 +77,5 @@ steps-follow w first later g lent is taken =
     (after-course (steps.started g) begun (start-course g) later))
   where
     -- with no later call
-    begun : Fine (steps.started g)
+    begun : MachineInvariant (steps.started g)
     begun = unfold machineAfter in state-fine w first [] g (lent .0, tt) is taken

@@ -35,10 +35,10 @@ machineStep m x = stateAfter (lengthsLent (x .part)) true m (x .call)
 -- whatever its outcome, a promotion leaves the state of the promotion's step
 pub promote-moved : (m : Machine) → moved m promote ≡ steps.promoteStep m
 unfolding effectOf row changed promotionEffect
-promote-moved m = split (rule.promote (m .log) .outcome) idle
+promote-moved m = split (rule.promote (m .log) .outcome) wanted-indicator-zero
   where
-    idle : (rule.promote (m .log) .outcome ≡ rule.promoted → ⊥) → m ≡ steps.promoteStep m
-    idle n = unfold steps.promoteStep in sym (ap {B = Machine} (λ l. record { log = l; mean = m .mean }) (same-log (m .log) n))
+    wanted-indicator-zero : (rule.promote (m .log) .outcome ≡ rule.promoted → ⊥) → m ≡ steps.promoteStep m
+    wanted-indicator-zero n = unfold steps.promoteStep in sym (ap {B = Machine} (λ l. record { log = l; mean = m .mean }) (same-log (m .log) n))
 
     split : (o : rule.Outcome) → ((o ≡ rule.promoted → ⊥) → m ≡ steps.promoteStep m) → changed m (promotionEffect o (steps.promoteStep m)) ≡ steps.promoteStep m
     split rule.met f = f (λ e. let y : _≡_ {A = ℕ} 0 1 = cc in absurd (omega arith))
@@ -70,11 +70,11 @@ step-log m x = split (eqb (refusal (lengthsLent (x .part)) true (m .log) (x .cal
 
 -- ---- an accepted call
 
-pub record Fine (m : Machine) : Type 0 where
+pub record MachineInvariant (m : Machine) : Type 0 where
   pub sound : SoundMachine m
   pub mean : m .mean ≡ meanOf (m .log .entries)
 
-module _ (m : Machine) (f : Fine m) where
+module _ (m : Machine) (f : MachineInvariant m) where
   -- the mean is the combination sum, so the state is the one that its log stands for
   pub combined : m .mean ≡ crossOf (m .log .entries)
   combined = f .mean ∙ mean-facts .cross m (f .sound)
@@ -107,13 +107,13 @@ module _ (m : Machine) (f : Fine m) where
     mean-kept crossTotal e = f .mean
     mean-kept check e = f .mean
 
-    pub moved-fine : (c : Call) → refusal z true (m .log) c ≡ 0 → Fine (moved m c)
+    pub moved-fine : (c : Call) → refusal z true (m .log) c ≡ 0 → MachineInvariant (moved m c)
     moved-fine c e = record { sound = sound-kept (effectOf m (row c)) (allowed-here c e); mean = mean-kept c e }
 
-pub step-fine : (m : Machine) → Fine m → (x : LentCall) → Fine (machineStep m x)
+pub step-fine : (m : Machine) → MachineInvariant m → (x : LentCall) → MachineInvariant (machineStep m x)
 unfolding stateAfter
 step-fine m f x = split (eqb (refusal (lengthsLent (x .part)) true (m .log) (x .call)) 0) refl
   where
-    split : (t : Bool) → eqb (refusal (lengthsLent (x .part)) true (m .log) (x .call)) 0 ≡ t → Fine (cond t (moved m (x .call)) m)
+    split : (t : Bool) → eqb (refusal (lengthsLent (x .part)) true (m .log) (x .call)) 0 ≡ t → MachineInvariant (cond t (moved m (x .call)) m)
     split true e = moved-fine m f (lengthsLent (x .part)) (x .call) (eqb-true (refusal (lengthsLent (x .part)) true (m .log) (x .call)) 0 e)
     split false e = f

@@ -20,30 +20,30 @@ use Rattle.machine.proofs.Facts.{step-facts}
 use Rattle.machine.proofs.Means.{mean-facts}
 use Rattle.calls.specs.Replies.{accepted}
 use Rattle.calls.specs.Table.{Call, start, promote, Answer, answer, row, causesOf, acceptedAnswer, refusal, answerOf}
-use Rattle.calls.specs.Calls.{Called, callOn}
+use Rattle.calls.specs.Calls.{CallResult, callOn}
 use Rattle.calls.proofs.Tests as tests
 use Rattle.calls.proofs.Rows.{start-accepts}
-use Rattle.published.specs.Figure.{Problem, goesOn, turns}
-use Rattle.published.specs.Turns.{turnsOn, Poses, Measured}
+use Rattle.published.specs.Figure.{Problem, loopCondition, turns}
+use Rattle.published.specs.Turns.{turnsOn, SettingsMatch, ReadingValued}
 use Rattle.published.proofs.Outcomes.{promoted-goes-on}
 use Rattle.published.proofs.Sums.{sum-facts}
 use Rattle.history.specs.Calls.{Part, LentCall, lengthsLent}
 use Rattle.history.specs.Logged.{logStep, logAfter, answerBy, answersBy}
 use Rattle.history.specs.Storage.{Storage, areaLent, Lent, AllLent, storageAfter, answersOf}
 use Rattle.history.specs.Found.{Found, Demand}
-use Rattle.history.specs.Source.{MeanFollows, MeansFollow, supplyCall, turnCalls, lendAll, begun, logOf, callsOf, Follows, Run, RunsFollow}
-use Rattle.history.proofs.Moves.{Fine, step-log}
+use Rattle.history.specs.Source.{MeanFollows, MeansFollow, supplyCall, turnCalls, lendAll, begun, logOf, callsOf, Follows, RunFollows, RunsFollow}
+use Rattle.history.proofs.Moves.{MachineInvariant, step-log}
 use Rattle.history.proofs.Steps.{lengths}
 use Rattle.history.proofs.Lists.{machineAfter, after-log, after-fine}
 use Rattle.history.proofs.Demand.{third-demand, log-there, state-fine}
 use Rattle.history.proofs.Accepts.{supply-answer}
-use Rattle.history.proofs.Runs.{Ran, ran, start-clear, start-step}
-use Rattle.history.proofs.Standing.{follows-at}
+use Rattle.history.proofs.Runs.{AfterTurns, after-turns, start-clear, start-step}
+use Rattle.history.proofs.Simulation.{follows-at}
 use Rattle.history.proofs.Answered.{AllTaken, one-taken, both-taken, turn-taken}
 
 -- ---- the mean after every list
 
-mean-follows : (m : Machine) → Fine m → MeanFollows (m .log)
+mean-follows : (m : Machine) → MachineInvariant m → MeanFollows (m .log)
 mean-follows m f =
     record {
       difference = λ P r k n. sum-facts .difference m P (f .sound) r k n;
@@ -84,15 +84,15 @@ module _ (x : Part) (P : Problem) (g : Settings) where
   begins zero = refl
   begins (suc n) = ap (λ cs. cs ++ turnCalls P (logOf x P g n)) (begins n)
 
-  module _ (long : 512 * 27 ≤ x .cells) (room : leastStore g ≤ x .readings) (measured : Measured P) (fit : SettingsFit g) (posed : Poses g P) where
+  module _ (long : 512 * 27 ≤ x .cells) (room : leastStore g ≤ x .readings) (measured : ReadingValued P) (fit : SettingsFit g) (posed : SettingsMatch g P) where
     abbrev m₀ : Machine
     m₀ = steps.started g
 
     abbrev Each : ℕ → Type 0
     Each n = (i : ℕ) → i < n → rule.promote (logOf x P g i) .outcome ≡ rule.promoted
 
-    runs : (n : ℕ) → Each n → Ran x P g long room measured fit posed n
-    runs n each = ran x P g long room measured fit posed n each
+    runs : (n : ℕ) → Each n → AfterTurns x P g long room measured fit posed n
+    runs n each = after-turns x P g long room measured fit posed n each
 
     started-log : logStep l₀ first ≡ l₀
     unfolding steps.started
@@ -111,10 +111,10 @@ module _ (x : Part) (P : Problem) (g : Settings) where
       (inl (ap (λ (o : Log). answerBy (lengthsLent x) o (supplyCall P l₀)) started-log ∙ supply-answer P (lengthsLent x) l₀ (tests.enough (lengthsLent x) g (omega (arith, long)) room) measured (unfold firstWanted wanted in omega arith)), tt),
     )
 
-    free : (n : ℕ) (r : Ran x P g long room measured fit posed n) → length (turnsOn P g n .log .entries) ≤ firstWanted (turnsOn P g n .log .entries)
-    free n r = omega (arith, first-none (turnsOn P g n .log .entries) (r .stands .supplied .delivered))
+    free : (n : ℕ) (r : AfterTurns x P g long room measured fit posed n) → length (turnsOn P g n .log .entries) ≤ firstWanted (turnsOn P g n .log .entries)
+    free n r = omega (arith, first-none (turnsOn P g n .log .entries) (r .simulates .supplied .delivered))
 
-    log-after : (n : ℕ) (r : Ran x P g long room measured fit posed n) → logAfter l₀ (lendAll x (callsOf x P g n)) ≡ turnsOn P g n .log
+    log-after : (n : ℕ) (r : AfterTurns x P g long room measured fit posed n) → logAfter l₀ (lendAll x (callsOf x P g n)) ≡ turnsOn P g n .log
     unfolding steps.started
     log-after n r = sym (after-log m₀ (lendAll x (callsOf x P g n))) ∙ ap (λ (y : Machine). y .log) (r .machine)
 
@@ -132,29 +132,29 @@ module _ (x : Part) (P : Problem) (g : Settings) where
 
     -- ---- where it stands
 
-    went-on : (n : ℕ) → Each n → (i : ℕ) → i < n → goesOn P (turns P i) ≡ true
+    went-on : (n : ℕ) → Each n → (i : ℕ) → i < n → loopCondition P (turns P i) ≡ true
     went-on n each i h =
-        let there : Ran x P g long room measured fit posed i = runs i (λ j l. each j (omega (arith, l, h))) in
-        promoted-goes-on P (turnsOn P g i) (turns P i) (there .stands) (ap (λ (o : Log). rule.promote o .outcome) (sym (there .log)) ∙ each i h)
+        let there : AfterTurns x P g long room measured fit posed i = runs i (λ j l. each j (omega (arith, l, h))) in
+        promoted-goes-on P (turnsOn P g i) (turns P i) (there .simulates) (ap (λ (o : Log). rule.promote o .outcome) (sym (there .log)) ∙ each i h)
 
     module _ (n : ℕ) (each : Each n) where
-      r : Ran x P g long room measured fit posed n
+      r : AfterTurns x P g long room measured fit posed n
       r = runs n each
 
-      fine : Fine (turnsOn P g n)
-      fine = subst Fine (r .machine) (after-fine m₀ begun-fine (lendAll x (callsOf x P g n)))
+      invariant : MachineInvariant (turnsOn P g n)
+      invariant = subst MachineInvariant (r .machine) (after-fine m₀ begun-fine (lendAll x (callsOf x P g n)))
         where
-          begun-fine : Fine m₀
+          begun-fine : MachineInvariant m₀
           begun-fine = record { sound = step-facts .start g fit; mean = unfold steps.started in sym (mean-facts .start g) }
 
       pub follows : Follows P (logOf x P g n) n
-      follows = subst (λ (o : Log). Follows P o n) (sym (r .log)) (follows-at P (turnsOn P g n) n fine (r .stands) (went-on n each))
+      follows = subst (λ (o : Log). Follows P o n) (sym (r .log)) (follows-at P (turnsOn P g n) n invariant (r .simulates) (went-on n each))
 
       -- ---- the storage
       module _ (w : Storage) (lent : Lent w x) where
         taken : callOn (areaLent w x) (start g) .answer ≡ answer accepted
         taken =
-            ap (λ (y : Called). y .answer)
+            ap (λ (y : CallResult). y .answer)
             (sym (start-accepts (areaLent w x) g _ refl
             (ap (λ z. firstCause (startCauses z g)) (lengths w x lent) ∙ start-clear x P g long room measured fit posed)))
 
@@ -179,7 +179,7 @@ module _ (x : Part) (P : Problem) (g : Settings) where
             ∙ ap (λ (o : Log). answerBy (lengthsLent x) l₀ (start g) ∷ answersBy o (lendAll x (past n))) (sym started-log)
             ∙ ap (λ cs. answersBy l₀ (lendAll x cs)) (sym (begins n))
 
-        pub runs-there : Run w x P g n
+        pub runs-there : RunFollows w x P g n
         runs-there =
             record {
               answers = λ y m. one-taken (answersBy l₀ (lendAll x (callsOf x P g n))) (all-taken n each) y (subst (List·Memᴰ y) answers-are m);

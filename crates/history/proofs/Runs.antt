@@ -27,7 +27,7 @@ use Rattle.machine.proofs.Facts.{step-facts}
 use Rattle.calls.proofs.Tests as tests
 use Rattle.calls.proofs.Causes.{start-fits}
 use Rattle.published.specs.Figure.{Problem, turn, turns}
-use Rattle.published.specs.Turns.{supply, supplies, turnOn, turnsOn, Poses, Measured, StandsAt}
+use Rattle.published.specs.Turns.{supply, supplies, turnOn, turnsOn, SettingsMatch, ReadingValued, Simulates}
 use Rattle.published.proofs.Facts.{published-facts}
 use Rattle.published.proofs.Increments.{value-at}
 use Rattle.calls.specs.Table.{Call, start, deliver, promote, row, causesOf, effectOf, refusal, changed, stateAfter}
@@ -54,7 +54,7 @@ turn-settings : (P : Problem) (m : Machine) → turnOn P m .log .settings ≡ m 
 unfolding turnOn steps.promoteStep
 turn-settings P m = supplies-settings P (countOf 0 (steps.promoteStep m .log .entries)) (steps.promoteStep m) ∙ promoted-settings (m .log)
 
-module _ (P : Problem) (measured : Measured P) (m : Machine) (v : SoundMachine m) (h : firstWanted (m .log .entries) < length (m .log .entries)) where
+module _ (P : Problem) (measured : ReadingValued P) (m : Machine) (v : SoundMachine m) (h : firstWanted (m .log .entries) < length (m .log .entries)) where
   abbrev k : List ℕ
   k = wantedIndex (m .log .entries)
 
@@ -75,7 +75,7 @@ module _ (P : Problem) (measured : Measured P) (m : Machine) (v : SoundMachine m
 
 -- ---- the same part lent to each call
 
-module _ (x : Part) (P : Problem) (g : Settings) (long : 512 * 27 ≤ x .cells) (room : leastStore g ≤ x .readings) (measured : Measured P) where
+module _ (x : Part) (P : Problem) (g : Settings) (long : 512 * 27 ≤ x .cells) (room : leastStore g ≤ x .readings) (measured : ReadingValued P) where
   abbrev pub lend : Call → LentCall
   lend c = record { call = c; part = x }
 
@@ -103,7 +103,7 @@ module _ (x : Part) (P : Problem) (g : Settings) (long : 512 * 27 ≤ x .cells) 
       ∙ supplies-run (countOf 0 (rule.promote (m .log) .log .entries)) (steps.promoteStep m) (step-facts .promote m v free) (promoted-settings (m .log) ∙ e) refl
 
   -- ---- from the start
-  module _ (fit : SettingsFit g) (posed : Poses g P) where
+  module _ (fit : SettingsFit g) (posed : SettingsMatch g P) where
     abbrev m₀ : Machine
     m₀ = steps.started g
 
@@ -127,29 +127,29 @@ module _ (x : Part) (P : Problem) (g : Settings) (long : 512 * 27 ≤ x .cells) 
             (unfold steps.started firstWanted wanted in omega arith) refl
 
     -- the machine after n turns, as the calls leave it, and where it stands
-    pub record Ran (n : ℕ) : Type 0 where
+    pub record AfterTurns (n : ℕ) : Type 0 where
       pub log : logOf x P g n ≡ turnsOn P g n .log
       pub machine : machineAfter m₀ (lendAll x (callsOf x P g n)) ≡ turnsOn P g n
       pub sound : SoundMachine (turnsOn P g n)
-      pub stands : StandsAt P (turnsOn P g n) (turns P n)
+      pub simulates : Simulates P (turnsOn P g n) (turns P n)
       pub settings : turnsOn P g n .log .settings ≡ g
 
     none-left : (m : Machine) → ((p : ℕ) → p < length (m .log .entries) → 1 ≤ entryAt (m .log .entries) p .state) → length (m .log .entries) ≤ firstWanted (m .log .entries)
     none-left m f = omega (arith, first-none (m .log .entries) f)
 
-    ran-first : Ran 0
-    ran-first =
+    after-turns-first : AfterTurns 0
+    after-turns-first =
         let both = published-facts .any-turns P g 0 measured fit posed (λ i h. absurd (omega (arith, h))) in
         record {
           log = unfold logOf steps.started in sym (after-log m₀ (lendAll x (begun P g))) ∙ ap (λ (y : Machine). y .log) begun-run;
           machine = unfold callsOf in begun-run;
           sound = both .0;
-          stands = both .1;
+          simulates = both .1;
           settings = unfold turnsOn supply steps.deliver steps.started in refl;
         }
 
-    ran-next : (n : ℕ) → Ran n → rule.promote (logOf x P g n) .outcome ≡ rule.promoted → Ran (suc n)
-    ran-next n r e =
+    after-turns-next : (n : ℕ) → AfterTurns n → rule.promote (logOf x P g n) .outcome ≡ rule.promoted → AfterTurns (suc n)
+    after-turns-next n r e =
         record {
           log = unfold logOf in
               ap (λ (o : Log). logAfter o (lendAll x (turnCalls P o))) (r .log) ∙ sym (after-log m (lendAll x (turnCalls P (m .log)))) ∙ ap (λ (y : Machine). y .log) turned;
@@ -160,22 +160,22 @@ module _ (x : Part) (P : Problem) (g : Settings) (long : 512 * 27 ≤ x .cells) 
               ∙ ap (λ (o : Log). machineAfter m (lendAll x (turnCalls P o))) (r .log)
               ∙ turned;
           sound = unfold turnsOn in both .0;
-          stands = unfold turnsOn turns in both .1;
+          simulates = unfold turnsOn turns in both .1;
           settings = unfold turnsOn in turn-settings P m ∙ r .settings;
         }
       where
         m : Machine
         m = turnsOn P g n
 
-        both : SoundMachine (turnOn P (turnsOn P g n)) × StandsAt P (turnOn P (turnsOn P g n)) (turn P (turns P n))
-        both = published-facts .one-turn P (turnsOn P g n) (turns P n) measured (r .sound) (r .stands) (ap (λ (o : Log). rule.promote o .outcome) (sym (r .log)) ∙ e)
+        both : SoundMachine (turnOn P (turnsOn P g n)) × Simulates P (turnOn P (turnsOn P g n)) (turn P (turns P n))
+        both = published-facts .one-turn P (turnsOn P g n) (turns P n) measured (r .sound) (r .simulates) (ap (λ (o : Log). rule.promote o .outcome) (sym (r .log)) ∙ e)
 
         turned : machineAfter (turnsOn P g n) (lendAll x (turnCalls P (turnsOn P g n .log))) ≡ turnsOn P g (suc n)
-        turned = unfold turnsOn in turn-run (turnsOn P g n) (r .sound) (r .settings) (none-left (turnsOn P g n) (r .stands .supplied .delivered))
+        turned = unfold turnsOn in turn-run (turnsOn P g n) (r .sound) (r .settings) (none-left (turnsOn P g n) (r .simulates .supplied .delivered))
 
         lent-both : (cs ds : List Call) → lendAll x (cs ++ ds) ≡ lendAll x cs ++ lendAll x ds
         lent-both cs ds = unfold lendAll in map-append lend cs ds
 
-    pub ran : (n : ℕ) → ((i : ℕ) → i < n → rule.promote (logOf x P g i) .outcome ≡ rule.promoted) → Ran n
-    ran zero f = ran-first
-    ran (suc n) f = ran-next n (ran n (λ i h. f i (omega (arith, h)))) (f n (omega arith))
+    pub after-turns : (n : ℕ) → ((i : ℕ) → i < n → rule.promote (logOf x P g i) .outcome ≡ rule.promoted) → AfterTurns n
+    after-turns zero f = after-turns-first
+    after-turns (suc n) f = after-turns-next n (after-turns n (λ i h. f i (omega (arith, h)))) (f n (omega arith))

@@ -24,7 +24,7 @@ module _ (z : Lengths) where
   -- storage or buffer too short
   three : (s : Bool) (l : Log) (r : JobRow) → short z (l .settings) ≡ true → firstCause (causesOf z s l (onJob r)) ≡ 3
   unfolding causesOf
-  three s l r is = hit _ 3 _ (either (r .narrow (l .settings)))
+  three s l r is = hit _ 3 _ (either (r .bufferShort (l .settings)))
     where
       either : (t : Bool) → cond t true (short z (l .settings)) ≡ true
       either true = refl

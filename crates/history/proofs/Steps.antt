@@ -31,9 +31,9 @@ use Rattle.calls.proofs.Next.{Next, Allowed, next-start}
 use Rattle.calls.proofs.Written.{written-state}
 use Rattle.history.specs.Calls.{Part, LentCall, lengthsLent}
 use Rattle.history.specs.Logged.{answerBy}
-use Rattle.history.specs.Storage.{Storage, areaLent, Lent, returned, calledIn, storageStep}
+use Rattle.history.specs.Storage.{Storage, areaLent, Lent, returned, callIn, storageStep}
 use Rattle.history.proofs.Holding.{Holds, Kept, Enough, still, area-holds, returned-holds}
-use Rattle.history.proofs.Moves.{machineStep, Fine, from-log, allowed-here, moved-fine}
+use Rattle.history.proofs.Moves.{machineStep, MachineInvariant, from-log, allowed-here, moved-fine}
 use Rattle.history.proofs.Shorts.{rowAnswer, rowArea, short-answer, short-area}
 
 -- not too short is long enough
@@ -76,12 +76,12 @@ module _ (w : Storage) (x : Part) (lent : Lent w x) where
   put-back m e false h f = still w x m h
 
   module _ (m : Machine) (h : Holds w m) where
-    abbrev fine : Fine m
-    fine = record { sound = h .sound; mean = h .mean }
+    abbrev invariant : MachineInvariant m
+    invariant = record { sound = h .sound; mean = h .mean }
 
     ready : (c : Call) → refusal z true (m .log) c ≡ 0 → Ready (effectOf m (row c))
     unfolding changed
-    ready c none = by (effectOf m (row c)) (allowed-here m fine z c none) (moved-fine m fine z c none .mean)
+    ready c none = by (effectOf m (row c)) (allowed-here m invariant z c none) (moved-fine m invariant z c none .mean)
       where
         by : (e : Effect) → Allowed z e → changed m e .mean ≡ meanOf (changed m e .log .entries) → Ready e
         by leaves y q = tt
@@ -130,7 +130,7 @@ module _ (w : Storage) (x : Part) (lent : Lent w x) where
 
     pub answered : (c : Call) → callOn a c .answer ≡ answerBy z (m .log) c
     unfolding callOn answerOf refusal answerBy
-    answered c = same (row c) .0 ∙ ap (λ (y : Machine). rowAnswer z true y (row c)) (from-log m fine)
+    answered c = same (row c) .0 ∙ ap (λ (y : Machine). rowAnswer z true y (row c)) (from-log m invariant)
 
     pub kept : (c : Call) → Kept w (returned w x (callOn a c .area)) (stateAfter z true m c)
     unfolding callOn refusal stateAfter
@@ -147,10 +147,10 @@ module _ (w : Storage) (x : Part) (lent : Lent w x) where
       (returned-holds w x (steps.started g) (n .sound) (record { lent = lent; cells = omega (arith, n .records); readings = n .readings }) (unfold steps.started in sym (mean-facts .start g)))
 
 module _ (w : Storage) (x : LentCall) (lent : Lent w (x .part)) (m : Machine) (h : Holds w m) where
-  pub call-answer : calledIn w x .answer ≡ answerBy (lengthsLent (x .part)) (m .log) (x .call)
-  unfolding calledIn
+  pub call-answer : callIn w x .answer ≡ answerBy (lengthsLent (x .part)) (m .log) (x .call)
+  unfolding callIn
   call-answer = answered w (x .part) lent m h (x .call)
 
   pub call-keeps : Kept w (storageStep w x) (machineStep m x)
-  unfolding storageStep calledIn
+  unfolding storageStep callIn
   call-keeps = kept w (x .part) lent m h (x .call)

@@ -22,7 +22,7 @@ use Rattle.machine.specs.Steps.{startLog, deliverLog}
 use Rattle.machine.specs.Causes.{Lengths, inRange}
 use Rattle.machine.specs.Counts.{ceilingCount}
 use Rattle.machine.specs.Means.{crossOf}
-use Rattle.writing.specs.Settled.{Settled}
+use Rattle.writing.specs.ValidArea.{ValidArea}
 use Rattle.calls.specs.Replies.{refused, accepted, promotion, counts, total, verdict}
 use Rattle.calls.specs.Table.{Call, start, point, deliver, promote, result, crossTotal, check, Answer, answer}
 use Rattle.calls.specs.Calls.{callOn}
@@ -41,14 +41,14 @@ abbrev read : List ℕ → ℕ → List ℤ → Entry
 read k s rs = record { levels = k; state = s; indicator = 0; readings = rs }
 
 -- With the selected refined, the held would be above 512 or the reserved above the budget.
-abbrev pub Passes : Log → Type 0
-Passes l = (512 < length (refined l)) ⊎ (l .settings .budget < reservedBy (refined l))
+abbrev pub ExceedsLimits : Log → Type 0
+ExceedsLimits l = (512 < length (refined l)) ⊎ (l .settings .budget < reservedBy (refined l))
 
 pub record Excluded : Type 0 where
   -- "refuses all starts or deliveries": no cause but the table's
   pub starts : (a : Area) (g : Settings) → SettingsFit g → 512 ≤ length (a .run .records) → leastStore g ≤ length (a .store)
       → callOn a (start g) .answer ≡ answer accepted
-  pub accepted-deliveries : (a : Area) (rs : List ℤ) (i : ℕ) → Settled a → anyWanted (entriesOf a) ≡ true
+  pub accepted-deliveries : (a : Area) (rs : List ℤ) (i : ℕ) → ValidArea a → anyWanted (entriesOf a) ≡ true
       → length rs ≡ readingCount (a .job .settings) (wantedIndex (entriesOf a)) → inRange rs ≡ true → callOn a (deliver rs i) .answer ≡ answer accepted
   pub deliveries : (z : Lengths) (l : Log) (rs : List ℤ) (i : ℕ) → 512 ≤ z .records → leastStore (l .settings) ≤ z .readings → anyWanted (l .entries) ≡ true
       → length rs ≡ readingCount (l .settings) (wantedIndex (l .entries)) → inRange rs ≡ true → refusalBy z l (deliver rs i) ≡ 0
@@ -71,8 +71,8 @@ pub record Excluded : Type 0 where
   pub promoted : (l : Log) → (rule.isMet l ≡ true → ⊥) → rule.fits (l .settings .budget) (refined l) ≡ true
       → rule.promote l .outcome ≡ rule.promoted
   -- and spent exactly if the admitted would bring the held above 512 or the reserved above the budget
-  pub spent : (l : Log) → (rule.isMet l ≡ true → ⊥) → Passes l → rule.promote l .outcome ≡ rule.spent
-  pub spent-only : (l : Log) → rule.promote l .outcome ≡ rule.spent → (rule.isMet l ≡ true → ⊥) × Passes l
+  pub spent : (l : Log) → (rule.isMet l ≡ true → ⊥) → ExceedsLimits l → rule.promote l .outcome ≡ rule.spent
+  pub spent-only : (l : Log) → rule.promote l .outcome ≡ rule.spent → (rule.isMet l ≡ true → ⊥) × ExceedsLimits l
   -- (2,2) is not admitted when only (2,1) is old, and is when (1,2) is old too
   pub one-old : rule.admits 2 (entry (pair 1 1) 2 ∷ entry (pair 2 1) 2 ∷ entry (pair 1 2) 1 ∷ []) (pair 2 1) 1 ≡ false
   pub both-old : rule.admits 2 (entry (pair 1 1) 2 ∷ entry (pair 2 1) 2 ∷ entry (pair 1 2) 2 ∷ []) (pair 2 1) 1 ≡ true

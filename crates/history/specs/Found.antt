@@ -54,7 +54,7 @@ pub record Found (w : Storage) (l : Log) : Type 0 where
   -- the held records are the log's entries in order, with its states, indicators and readings
   pub entries : entriesOf (areaOf (w .job) (w .cells) (w .store)) ≡ l .entries
   -- the indicators are 0 while wanted
-  pub idle : (p : ℕ) → p < length (l .entries) → entryAt (l .entries) p .state ≡ 0 → entryAt (l .entries) p .indicator ≡ 0
+  pub wanted-indicator-zero : (p : ℕ) → p < length (l .entries) → entryAt (l .entries) p .state ≡ 0 → entryAt (l .entries) p .indicator ≡ 0
   -- the job record is worked from the log
   pub job : w .job ≡ jobWith (stateOf l)
   -- the area is sound

@@ -7,6 +7,6 @@ pub mod Calls
 pub mod Logged
 pub mod Storage
 pub mod Found
-pub mod Recorded
+pub mod OnRecords
 pub mod Source
 pub mod Excluded

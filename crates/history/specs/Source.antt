@@ -23,9 +23,9 @@ use Rattle.machine.specs.Means.{crossOf}
 use Rattle.calls.specs.Replies.{accepted, promotion}
 use Rattle.calls.specs.Table.{Call, start, deliver, promote, Answer, answer}
 use Rattle.calls.specs.Calls.{callOn}
-use Rattle.published.specs.Figure.{Problem, increment, goesOn, turns}
-use Rattle.published.specs.Turns.{activeOf, Poses, Measured, Supplied}
-use Rattle.published.specs.Sums.{Read}
+use Rattle.published.specs.Figure.{Problem, increment, loopCondition, turns}
+use Rattle.published.specs.Turns.{activeOf, SettingsMatch, ReadingValued, Supplied}
+use Rattle.published.specs.Sums.{SampledFrom}
 use Rattle.history.specs.Calls.{Part, LentCall}
 use Rattle.history.specs.Logged.{logAfter, answerBy}
 use Rattle.history.specs.Storage.{Storage, areaLent, Lent, AllLent, storageAfter, answersOf}
@@ -37,9 +37,9 @@ use Rattle.history.specs.Found.{Found}
 -- the mean is its r: the sum of the increments over the old and the active. Some integrand there always is, since a point is new in one
 -- block only.
 pub record MeanFollows (l : Log) : Type 0 where
-  pub difference : (P : Problem) → Read P (l .entries) → (k : List ℕ) → List·Memᴰ k (deliveredOf (l .entries)) → scaledDifference k (readingIn (l .entries)) ≡ increment P k
-  pub sum : (P : Problem) → Read P (l .entries) → crossOf (l .entries) ≡ sumOf (deliveredOf (l .entries)) (increment P)
-  pub some : (P : Problem) × (P .axes ≡ l .settings .axes) × Measured P × Read P (l .entries)
+  pub difference : (P : Problem) → SampledFrom P (l .entries) → (k : List ℕ) → List·Memᴰ k (deliveredOf (l .entries)) → scaledDifference k (readingIn (l .entries)) ≡ increment P k
+  pub sum : (P : Problem) → SampledFrom P (l .entries) → crossOf (l .entries) ≡ sumOf (deliveredOf (l .entries)) (increment P)
+  pub some : (P : Problem) × (P .axes ≡ l .settings .axes) × ReadingValued P × SampledFrom P (l .entries)
 
 abbrev pub MeansFollow : Type 0
 MeansFollow = (w : Storage) (first : LentCall) (later : List LentCall) (g : Settings) → AllLent w (first ∷ later)
@@ -58,16 +58,16 @@ pub record Follows (P : Problem) (l : Log) (n : ℕ) : Type 0 where
   pub result : crossOf (l .entries) ≡ turns P n .result
   pub pending : pendingOf (l .entries) ≡ turns P n .estimate
   -- the loop's test held before each of the turns, so Fig. 1 makes them
-  pub went-on : (i : ℕ) → i < n → goesOn P (turns P i) ≡ true
+  pub went-on : (i : ℕ) → i < n → loopCondition P (turns P i) ≡ true
   -- and promote, called next in storage that is long enough, answers *met* exactly if the test fails; then Fig. 1 returns this result
-  pub over : (z : Lengths) → 512 ≤ z .records → leastStore (l .settings) ≤ z .readings → (goesOn P (turns P n) ≡ true → ⊥) → answerBy z l promote ≡ answer (promotion rule.met)
-  pub goes-on : (z : Lengths) → goesOn P (turns P n) ≡ true → answerBy z l promote ≡ answer (promotion rule.met) → ⊥
+  pub over : (z : Lengths) → 512 ≤ z .records → leastStore (l .settings) ≤ z .readings → (loopCondition P (turns P n) ≡ true → ⊥) → answerBy z l promote ≡ answer (promotion rule.met)
+  pub goes-on : (z : Lengths) → loopCondition P (turns P n) ≡ true → answerBy z l promote ≡ answer (promotion rule.met) → ⊥
 
 -- After every list of the third demand with nothing left wanted, Fig. 1 stands where the log stands, after as many turns as there are old
 -- indices; and a problem that gives these readings and indicators there always is.
 pub record StepsFollow (l : Log) : Type 0 where
-  pub every : (P : Problem) → Poses (l .settings) P → Supplied P (l .entries) → Follows P l (countOf 2 (l .entries))
-  pub some : (anyWanted (l .entries) ≡ true → ⊥) → (P : Problem) × Poses (l .settings) P × Measured P × Supplied P (l .entries)
+  pub every : (P : Problem) → SettingsMatch (l .settings) P → Supplied P (l .entries) → Follows P l (countOf 2 (l .entries))
+  pub some : (anyWanted (l .entries) ≡ true → ⊥) → (P : Problem) × SettingsMatch (l .settings) P × ReadingValued P × Supplied P (l .entries)
 
 abbrev pub StepsFollowAll : Type 0
 StepsFollowAll = (w : Storage) (first : LentCall) (later : List LentCall) (g : Settings) → AllLent w (first ∷ later)
@@ -96,7 +96,7 @@ turnCalls P l = promote ∷ supplyCalls P (countOf 0 (rule.promote l .log .entri
 unfoldable pub lendAll : Part → List Call → List LentCall
 lendAll x cs = map (λ (c : Call). record { call = c; part = x }) cs
 
--- Start and the root's delivery. The settings are to pose the problem (`Poses`).
+-- Start and the root's delivery. The settings are to pose the problem (`SettingsMatch`).
 unfoldable pub begun : Problem → Settings → List Call
 begun P g = start g ∷ supplyCall P (startLog g) ∷ []
 
@@ -109,7 +109,7 @@ unfoldable pub callsOf : Part → Problem → Settings → (n : ℕ) → List Ca
 callsOf x P g zero = begun P g
 callsOf x P g (suc n) = callsOf x P g n ++ turnCalls P (logOf x P g n)
 
-pub record Run (w : Storage) (x : Part) (P : Problem) (g : Settings) (n : ℕ) : Type 0 where
+pub record RunFollows (w : Storage) (x : Part) (P : Problem) (g : Settings) (n : ℕ) : Type 0 where
   -- no call is refused, and every promotion is promoted
   pub answers : (y : Answer) → List·Memᴰ y (answersOf w (lendAll x (callsOf x P g n))) → (y ≡ answer accepted) ⊎ (y ≡ answer (promotion rule.promoted))
   pub found : Found (storageAfter w (lendAll x (callsOf x P g n))) (logOf x P g n)
@@ -118,5 +118,5 @@ pub record Run (w : Storage) (x : Part) (P : Problem) (g : Settings) (n : ℕ) :
 -- After n turns, as long as each promotion is *promoted* (it is *spent* where the budget or the 512 held end the run), in any storage of
 -- which enough is lent, for every integrand whose values are readings.
 abbrev pub RunsFollow : Type 0
-RunsFollow = (w : Storage) (x : Part) (P : Problem) (g : Settings) (n : ℕ) → Lent w x → 512 * 27 ≤ x .cells → leastStore g ≤ x .readings → Measured P → SettingsFit g → Poses g P
-    → ((i : ℕ) → i < n → rule.promote (logOf x P g i) .outcome ≡ rule.promoted) → Run w x P g n
+RunsFollow = (w : Storage) (x : Part) (P : Problem) (g : Settings) (n : ℕ) → Lent w x → 512 * 27 ≤ x .cells → leastStore g ≤ x .readings → ReadingValued P → SettingsFit g → SettingsMatch g P
+    → ((i : ℕ) → i < n → rule.promote (logOf x P g i) .outcome ≡ rule.promoted) → RunFollows w x P g n

@@ -8,7 +8,7 @@ use Rattle.area.specs.declared.JobRecord.{JobRecord}
 use Rattle.area.specs.Records.{cellsOf}
 use Rattle.area.specs.Encoding.{Area, areaOf}
 use Rattle.calls.specs.Table.{Answer}
-use Rattle.calls.specs.Calls.{Called, callOn}
+use Rattle.calls.specs.Calls.{CallResult, callOn}
 use Rattle.history.specs.Calls.{Part, LentCall}
 
 pub record Storage : Type 0 where
@@ -35,11 +35,11 @@ AllLent w (x ∷ xs) = Lent w (x .part) × AllLent w xs
 unfoldable pub returned : Storage → Part → Area → Storage
 returned w x a = record { job = a .job; cells = cellsOf (a .run) ++ drop (x .cells) (w .cells); store = a .store ++ drop (x .readings) (w .store) }
 
-unfoldable pub calledIn : Storage → LentCall → Called
-calledIn w x = callOn (areaLent w (x .part)) (x .call)
+unfoldable pub callIn : Storage → LentCall → CallResult
+callIn w x = callOn (areaLent w (x .part)) (x .call)
 
 unfoldable pub storageStep : Storage → LentCall → Storage
-storageStep w x = returned w (x .part) (calledIn w x .area)
+storageStep w x = returned w (x .part) (callIn w x .area)
 
 -- ---- a list of calls
 
@@ -49,4 +49,4 @@ storageAfter w (x ∷ xs) = storageAfter (storageStep w x) xs
 
 unfoldable pub answersOf : Storage → List LentCall → List Answer
 answersOf w [] = []
-answersOf w (x ∷ xs) = calledIn w x .answer ∷ answersOf (storageStep w x) xs
+answersOf w (x ∷ xs) = callIn w x .answer ∷ answersOf (storageStep w x) xs

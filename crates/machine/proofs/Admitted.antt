@@ -15,7 +15,7 @@ use Rattle.area.specs.Log.{Machine}
 use Rattle.soundness.proofs.Levels.{at-least}
 use Rattle.encoding.specs.Entries.{entryAt, Has, Entered, EnteredOld, SoundMachine}
 use Rattle.machine.specs.Promote.{retired, retire, admits, passing, admittedAxes}
-use Rattle.machine.proofs.Passing.{Stands, Rising, passing-is, passing-has, passing-rises}
+use Rattle.machine.proofs.Passing.{Occurs, Rising, passing-is, passing-has, passing-rises}
 use Rattle.machine.proofs.Old.{Admits, reads-admits}
 use Rattle.machine.proofs.Sets.{has-set, set-has, old-set, set-old}
 
@@ -28,7 +28,7 @@ module _ (d : ℕ) (es : List Entry) (k : List ℕ) where
       let x = passing-is (admits d es k) d 0 i h in
       (omega (arith, x .1), reads-admits d es k (getD (passing d 0 (admits d es k)) i 0) .sure (x .2))
 
-  pub axis-has : (a : ℕ) → a < d → Admits d es k a → Stands (admittedAxes d es k) a
+  pub axis-has : (a : ℕ) → a < d → Admits d es k a → Occurs (admittedAxes d es k) a
   unfolding admittedAxes
   axis-has a h w = passing-has (admits d es k) d 0 a (omega arith, omega arith, reads-admits d es k a .back w)
 

@@ -81,7 +81,7 @@ sound-at v p h =
     record {
       index = v .index p h;
       state = v .states p h;
-      idle = v .wanted-idle p h;
+      idle = v .wanted-indicator-zero p h;
       empty = v .wanted-empty p h;
       whole = v .whole p h;
       readings = λ n. v .readings p n h;
@@ -100,7 +100,7 @@ sound-from j r =
       behind = λ p a h. r p h .behind a;
       admissible = j .admissible;
       wanted-last = j .last;
-      wanted-idle = λ p h. r p h .idle;
+      wanted-indicator-zero = λ p h. r p h .idle;
       wanted-empty = λ p h. r p h .empty;
       within-budget = j .within-budget;
       whole = λ p h. r p h .whole;

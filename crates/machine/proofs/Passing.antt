@@ -11,8 +11,8 @@ use lib.ListN.{length, getD}
 use Rattle.machine.specs.Promote.{passing}
 
 -- a number stands at a place of a list
-abbrev pub Stands : List ℕ → ℕ → Type 0
-Stands l x = (i : ℕ) × (i < length l) × (getD l i 0 ≡ x)
+abbrev pub Occurs : List ℕ → ℕ → Type 0
+Occurs l x = (i : ℕ) × (i < length l) × (getD l i 0 ≡ x)
 
 abbrev pub Rising : List ℕ → Type 0
 Rising l = (i j : ℕ) → i < j → j < length l → getD l i 0 < getD l j 0
@@ -36,7 +36,7 @@ module _ (f : ℕ → Bool) where
       step true e (suc i) h ih = let x = ih i (omega arith) in (omega (arith, x .0), omega (arith, x .1), x .2)
       step false e i h ih = let x = ih i h in (omega (arith, x .0), omega (arith, x .1), x .2)
 
-  pub passing-has : (n a x : ℕ) → Passes n a x → Stands (passing n a f) x
+  pub passing-has : (n a x : ℕ) → Passes n a x → Occurs (passing n a f) x
   unfolding passing
   passing-has zero a x w = absurd (omega arith)
   passing-has (suc n) a x w = step (f a) refl (next (ℕ-discrete x a) (passing-has n (a + 1) x))
@@ -44,11 +44,11 @@ module _ (f : ℕ → Bool) where
       rest : List ℕ
       rest = passing n (a + 1) f
 
-      next : Dec (x ≡ a) → (Passes n (a + 1) x → Stands rest x) → (x ≡ a) ⊎ Stands rest x
+      next : Dec (x ≡ a) → (Passes n (a + 1) x → Occurs rest x) → (x ≡ a) ⊎ Occurs rest x
       next (yes e) ih = inl e
       next (no e) ih = inr (ih (omega arith, omega arith, w .2))
 
-      step : (t : Bool) → f a ≡ t → (x ≡ a) ⊎ Stands rest x → Stands (cond t (a ∷ rest) rest) x
+      step : (t : Bool) → f a ≡ t → (x ≡ a) ⊎ Occurs rest x → Occurs (cond t (a ∷ rest) rest) x
       step true e (inl q) = (0, omega arith, sym q)
       step true e (inr s) = (suc (s .0), omega (arith, s .1), s .2)
       step false e (inl q) = absurd (let z : _≡_ {A = ℕ} 0 1 = cc in omega arith)

@@ -17,7 +17,7 @@ use Rattle.grid.proofs.Neighbours.{forward-backward}
 use Rattle.grid.proofs.Members.{same-or}
 use Rattle.area.specs.declared.Settings.{Settings}
 use Rattle.area.specs.Entry.{Entry, deliveredOf, reservedBy}
-use Rattle.area.specs.Log.{Machine, holding}
+use Rattle.area.specs.Log.{Machine, machineWithEntries}
 use Rattle.soundness.proofs.Exactly.{reads-le, reads-and}
 use Rattle.soundness.proofs.Levels.{find}
 use Rattle.encoding.specs.Entries.{entryAt, Entered, EnteredOld, SoundMachine}
@@ -181,7 +181,7 @@ module _ {m : Machine} (v : SoundMachine m) (p : ℕ) (inside : p < length (m .l
   unfolding retire retired
   delivered-same = delivered-append kept new (ahead-wanted k axes) ∙ delivered-set es p (retired (entryAt es p)) inside refl (omega arith) (omega arith)
 
-  joint : length after ≤ 512 → reservedBy after ≤ g .budget → Joint (holding m after)
+  joint : length after ≤ 512 → reservedBy after ≤ g .budget → Joint (machineWithEntries m after)
   unfolding retire retired
   joint few within =
       record {
@@ -198,7 +198,7 @@ module _ {m : Machine} (v : SoundMachine m) (p : ℕ) (inside : p < length (m .l
         mean = subst (λ l. natAbs (m .mean) ≤ length l * 2 ^ 40) (sym delivered-same) (v .mean);
       }
 
-  pub refine-sound : fits (g .budget) (refine d es p) ≡ true → SoundMachine (holding m (refine d es p))
+  pub refine-sound : fits (g .budget) (refine d es p) ≡ true → SoundMachine (machineWithEntries m (refine d es p))
   unfolding refine fits
   refine-sound e =
       let x = reads-and _ _ (reads-le (length after) 512) (reads-le (reservedBy after) (g .budget)) .sure e in

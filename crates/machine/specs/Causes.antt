@@ -44,20 +44,20 @@ unfoldable pub startCauses : Lengths → Settings → List Cause
 startCauses z g = cause (not (axesFit g)) 1 ∷ cause (not (budgetFit g)) 2 ∷ cause (short z g) 3 ∷ []
 
 -- What every call but start and check asks before its own causes: storage that is not too short, nor, where it writes into a lent buffer, a
--- buffer that is (`narrow`), 3; a sound area, 4.
-abbrev pub jobCauses : Lengths → (sound : Bool) → Settings → (narrow : Bool) → (own : List Cause) → List Cause
-jobCauses z sound g narrow own = cause (cond narrow true (short z g)) 3 ∷ cause (not sound) 4 ∷ own
+-- buffer that is (`bufferShort`), 3; a sound area, 4.
+abbrev pub jobCauses : Lengths → (sound : Bool) → Settings → (bufferShort : Bool) → (own : List Cause) → List Cause
+jobCauses z sound g bufferShort own = cause (cond bufferShort true (short z g)) 3 ∷ cause (not sound) 4 ∷ own
 
 -- Point's own causes: no block wanted; the point's number n not below the block's size.
 abbrev pub pointOwn : Log → ℕ → List Cause
 pointOwn l n = cause (not (anyWanted (l .entries))) 5 ∷ cause (leb (blockSize (wantedIndex (l .entries))) n) 9 ∷ []
 
 -- Its buffer of w bytes is under d.
-abbrev pub narrowFor : Settings → ℕ → Bool
-narrowFor g w = not (leb (g .axes) w)
+abbrev pub pointBufferShort : Settings → ℕ → Bool
+pointBufferShort g w = not (leb (g .axes) w)
 
 unfoldable pub pointCauses : Lengths → Bool → Log → (n w : ℕ) → List Cause
-pointCauses z sound l n w = jobCauses z sound (l .settings) (narrowFor (l .settings) w) (pointOwn l n)
+pointCauses z sound l n w = jobCauses z sound (l .settings) (pointBufferShort (l .settings) w) (pointOwn l n)
 
 -- Deliver's: no block wanted; the reading count is not the block's; a reading out of range.
 abbrev pub deliverOwn : Log → List ℤ → List Cause

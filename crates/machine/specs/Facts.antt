@@ -8,7 +8,7 @@ use lib.ListN.{length, getD}
 use Rattle.grid.specs.Terms.{IsReading}
 use Rattle.area.specs.declared.Settings.{Settings}
 use Rattle.area.specs.Settings.{SettingsFit, readingCount}
-use Rattle.area.specs.Log.{Log, Machine, holding}
+use Rattle.area.specs.Log.{Log, Machine, machineWithEntries}
 use Rattle.encoding.specs.Entries.{entryAt, SoundMachine}
 use Rattle.machine.specs.Log.{firstWanted, wantedIndex}
 use Rattle.machine.specs.Promote.{selected, refine, fits, isMet}
@@ -22,7 +22,7 @@ pub record StepFacts : Type 0 where
   -- refining any active place when nothing is wanted and it fits
   pub refine : (m : Machine) (p : ℕ) → SoundMachine m → length (m .log .entries) ≤ firstWanted (m .log .entries)
       → p < length (m .log .entries) → entryAt (m .log .entries) p .state ≡ 1 → fits (m .log .settings .budget) (refine (m .log .settings .axes) (m .log .entries) p) ≡ true
-      → SoundMachine (holding m (refine (m .log .settings .axes) (m .log .entries) p))
+      → SoundMachine (machineWithEntries m (refine (m .log .settings .axes) (m .log .entries) p))
   -- where the pending error is above the threshold, what is selected is active
   pub selects : (l : Log) → (isMet l ≡ true → ⊥) → (selected (l .entries) < length (l .entries)) × (entryAt (l .entries) (selected (l .entries)) .state ≡ 1)
   -- with the largest indicator, at the lowest place among equals

@@ -11,8 +11,8 @@ use lib.Dec.{ltb, eqb}
 use lib.ListN.{length, getD, set, replicate, length-set}
 use lib.Seq.{ext-getD, getD-set-same, getD-set-other}
 use borrow.Author.Tests.{lt-ltb, le-ltb, eq-eqb, ne-eqb}
-use Rattle.sums.specs.Lists.{tab}
-use Rattle.sums.proofs.Lists.{length-tab, getD-tab}
+use Rattle.sums.specs.Lists.{tabulate}
+use Rattle.sums.proofs.Lists.{length-tabulate, getD-tabulate}
 use Rattle.machine.specs.Promote.{passing}
 use Rattle.promotion.specs.Marks.{marksOf, markedAxes}
 
@@ -61,8 +61,8 @@ module _ (f : ℕ → Bool) where
   pub so-far-end : (d : ℕ) (marks : List ℕ) → d ≤ 8 → SoFar f d marks → marks ≡ marksOf d f
   unfolding marksOf
   so-far-end d marks h s =
-      ext-getD 0 marks (tab 8 (λ a. cond (ltb a d && f a) 1 0)) (s .eight ∙ sym (length-tab 8 (λ a. cond (ltb a d && f a) 1 0)))
-      (λ a l. at a (omega (arith, s .eight)) (decLt a d) ∙ sym (getD-tab 8 (λ b. cond (ltb b d && f b) 1 0) a 0 (omega (arith, s .eight))))
+      ext-getD 0 marks (tabulate 8 (λ a. cond (ltb a d && f a) 1 0)) (s .eight ∙ sym (length-tabulate 8 (λ a. cond (ltb a d && f a) 1 0)))
+      (λ a l. at a (omega (arith, s .eight)) (decLt a d) ∙ sym (getD-tabulate 8 (λ b. cond (ltb b d && f b) 1 0) a 0 (omega (arith, s .eight))))
     where
       at : (a : ℕ) → a < 8 → Dec (a < d) → getD marks a 0 ≡ cond (ltb a d && f a) 1 0
       at a l (yes b) = rw (lt-ltb a d b) (s .passed a b)
@@ -112,7 +112,7 @@ passing-same f g (suc n) a e =
 module _ (d : ℕ) (f : ℕ → Bool) (few : d ≤ 8) where
   mark-at : (a : ℕ) → a < d → getD (marksOf d f) a 0 ≡ cond (f a) 1 0
   unfolding marksOf
-  mark-at a h = getD-tab 8 (λ b. cond (ltb b d && f b) 1 0) a 0 (omega arith) ∙ rw (lt-ltb a d h)
+  mark-at a h = getD-tabulate 8 (λ b. cond (ltb b d && f b) 1 0) a 0 (omega arith) ∙ rw (lt-ltb a d h)
 
   mark-says : (t : Bool) → eqb (cond t 1 0) 1 ≡ t
   mark-says true = refl

@@ -12,9 +12,9 @@ use lib.Dec.{eqb}
 use lib.ListN.{length, length-set}
 use lib.Seq.{getD-set-same, getD-set-other}
 use Rattle.area.specs.declared.IndexRecord.{IndexRecord}
-use Rattle.area.specs.declared.Found.the-variants.{At, Nothing}
+use Rattle.area.specs.declared.LookupResult.the-variants.{At, NotFound}
 use Rattle.area.specs.Records.{recordsOf, heldIn}
-use Rattle.area.specs.Lookup.{foundIn}
+use Rattle.area.specs.Lookup.{lookupIn}
 use Rattle.area.specs.Entry.{Entry}
 use Rattle.quadrature.specs.Readings.{recordAt, placeIn}
 use Rattle.quadrature.proofs.Raised.{found-at, found-none}
@@ -67,7 +67,7 @@ module _ (c : List ℕ) (held refined : ℕ) (k : List ℕ) (room : held * 27 �
   es-state-there p h n = ap (λ (x : Entry). x .state) (there p n) ∙ head-state c held room p h
 
   -- ---- found at a place
-  module _ (q : ℕ) (found : foundIn rs k ≡ At q) where
+  module _ (q : ℕ) (found : lookupIn rs k ≡ At q) where
     place : q ≡ placeIn rs k
     place = sym (found-at rs k (s .few) q found .0)
 
@@ -96,7 +96,7 @@ module _ (c : List ℕ) (held refined : ℕ) (k : List ℕ) (room : held * 27 �
         old-state : EnteredOld es k → recordAt (recordsOf c) q .state ≡ 2
         old-state x = sym (es-state-there q place-held n) ∙ subst (λ p. entryAt es p .state ≡ 2) (only (x .0) (x .1)) (x .2)
 
-  pub not-old : foundIn rs k ≡ Nothing → false ≡ isOld es k
+  pub not-old : lookupIn rs k ≡ NotFound → false ≡ isOld es k
   not-old found = answer (isOld es k) refl
     where
       answer : (b : Bool) → isOld es k ≡ b → false ≡ b

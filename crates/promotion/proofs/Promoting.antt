@@ -1,4 +1,4 @@
--- Promoting in a settled area: met by the recorded pending error, and else the selected place is an active one.
+-- Promoting in a valid area: met by the recorded pending error, and else the selected place is an active one.
 -- The idea: the recorded pending error is that of the entries, and the search sees entries without readings, which select alike.
 -- Assumes nothing.
 use mathlib.Core.Path.{_≡_, sym, ap, _∙_}
@@ -20,13 +20,13 @@ use Rattle.machine.specs.Areas.{refineOn, promoteOn}
 use Rattle.machine.proofs.Promotes.{promote-by}
 use Rattle.machine.proofs.Facts.{step-facts}
 use Rattle.writing.specs.Heads.{headsOf}
-use Rattle.writing.specs.Settled.{Settled}
+use Rattle.writing.specs.ValidArea.{ValidArea}
 use Rattle.writing.proofs.Unread.{heads-are, alike-selected}
 use Rattle.writing.proofs.Areas.{held-is, state-is}
 use Rattle.promotion.specs.Outcomes.{outcomeOf, promotionOf}
 use Rattle.promotion.specs.declared.Outcome.the-variants.{Met}
 
-module _ (job : JobRecord) (c : List ℕ) (store : List ℤ) (r : Settled (areaOf job c store)) where
+module _ (job : JobRecord) (c : List ℕ) (store : List ℤ) (r : ValidArea (areaOf job c store)) where
   abbrev area : Area
   area = areaOf job c store
 

@@ -1,4 +1,4 @@
--- Refining a place of a settled area: what the scans may ask, what they find, and what the change comes to.
+-- Refining a place of a valid area: what the scans may ask, what they find, and what the change comes to.
 -- The idea: the scans see entries without readings, and no search looks at those; the marked axes are the admitted ones, so the counts
 -- decide as the refined entries do, and the records written are theirs.
 -- Assumes nothing.
@@ -18,7 +18,7 @@ use Rattle.area.specs.Settings.{readingsFor}
 use Rattle.area.proofs.Readings.{reading-facts}
 use Rattle.area.specs.Records.{Run, recordsOf, runOf, stored, heldIn}
 use Rattle.area.specs.Entry.{Entry, reservedBy}
-use Rattle.area.specs.Log.{Machine, holding}
+use Rattle.area.specs.Log.{Machine, machineWithEntries}
 use Rattle.area.specs.Encoding.{Area, areaOf, entriesOf, machineOf, written}
 use Rattle.area.proofs.Records.{length-recordsOf}
 use Rattle.quadrature.specs.Readings.{recordAt}
@@ -32,24 +32,24 @@ use Rattle.machine.proofs.Old.{reads-admits}
 use Rattle.machine.proofs.Facts.{step-facts}
 use Rattle.writing.specs.Changes.{restated, appendedAll, sizesOf}
 use Rattle.writing.specs.Heads.{headsOf}
-use Rattle.writing.specs.Settled.{Settled}
+use Rattle.writing.specs.ValidArea.{ValidArea}
 use Rattle.writing.proofs.Unread.{heads-are, alike-retire, alike-axes}
 use Rattle.writing.proofs.Areas.{held-is, state-is}
 use Rattle.writing.proofs.Refine.{refined-held, refined-reserved, indicator-within}
 use Rattle.writing.proofs.Facts.{write-facts}
-use Rattle.writing.proofs.After.{machine-sound, written-settled}
+use Rattle.writing.proofs.After.{machine-sound, written-valid}
 use Rattle.promotion.specs.Marks.{marksOf, markedAxes, Searchable, MarkedWithin}
 use Rattle.promotion.specs.Outcomes.{outcomeOf, promotionOf}
 use Rattle.promotion.specs.declared.Outcome.the-variants.{Spent, Promoted}
 use Rattle.promotion.proofs.Marks.{marked-passes, marked-are}
 
--- ---- a settled area
+-- ---- a valid area
 
 -- the held entries as the scans see them
 abbrev headsIn : JobRecord → List ℕ → List Entry
 headsIn job c = headsOf (heldIn c (job .held))
 
-module _ (job : JobRecord) (c : List ℕ) (store : List ℤ) (r : Settled (areaOf job c store)) where
+module _ (job : JobRecord) (c : List ℕ) (store : List ℤ) (r : ValidArea (areaOf job c store)) where
   pub room : job .held * 27 ≤ length c
   room = omega (arith, r .sound .held-lent, length-recordsOf c)
 
@@ -73,16 +73,16 @@ module _ (job : JobRecord) (c : List ℕ) (store : List ℤ) (r : Settled (areaO
 -- ---- refining an active place, where nothing is wanted
 
 pub record Refinable (job : JobRecord) (c : List ℕ) (store : List ℤ) (p : ℕ) : Type 0 where
-  pub settled : Settled (areaOf job c store)
+  pub valid : ValidArea (areaOf job c store)
   pub idle : length (entriesOf (areaOf job c store)) ≤ firstWanted (entriesOf (areaOf job c store))
   pub place : p < job .held
   pub active : stateAt (recordsOf c) p ≡ 1
 
 pub refinable : (job : JobRecord) (c : List ℕ) (store : List ℤ) (p : ℕ)
-    → Settled (areaOf job c store) × (length (entriesOf (areaOf job c store)) ≤ firstWanted (entriesOf (areaOf job c store)))
+    → ValidArea (areaOf job c store) × (length (entriesOf (areaOf job c store)) ≤ firstWanted (entriesOf (areaOf job c store)))
     → (p < job .held) × (stateAt (recordsOf c) p ≡ 1)
     → Refinable job c store p
-refinable job c store p r h = record { settled = r .0; idle = r .1; place = h .0; active = h .1 }
+refinable job c store p r h = record { valid = r .0; idle = r .1; place = h .0; active = h .1 }
 
 -- its levels as they are read, and the marks that the scan answers with
 pub record Scanned (job : JobRecord) (c : List ℕ) (p : ℕ) (levels marks : List ℕ) : Type 0 where
@@ -120,15 +120,15 @@ module _ {job : JobRecord} {c : List ℕ} {store : List ℤ} {p : ℕ} (t : Refi
 
   -- the state after it
   abbrev after : Machine
-  after = holding (machineOf area) refined
+  after = machineWithEntries (machineOf area) refined
 
   -- ---- what the scans ask
 
   pub place-inside : p * 27 + 27 ≤ length c
-  place-inside = omega (arith, room job c store (t .settled), t .place)
+  place-inside = omega (arith, room job c store (t .valid), t .place)
 
   pub scan-asks : (job .settings .axes ≤ 8) × (job .held * 27 ≤ length c) × (p < job .held) × Searchable (heldIn c (job .held))
-  scan-asks = (few-axes job c store (t .settled), room job c store (t .settled), t .place, searchable job c store (t .settled))
+  scan-asks = (few-axes job c store (t .valid), room job c store (t .valid), t .place, searchable job c store (t .valid))
 
   -- ---- the answers
 
@@ -143,14 +143,14 @@ module _ {job : JobRecord} {c : List ℕ} {store : List ℤ} {p : ℕ} (t : Refi
   after-sound : fits (job .settings .budget) refined ≡ true → SoundMachine after
   unfolding machineOf
   after-sound e =
-      step-facts .refine (machineOf area) p (machine-sound area (t .settled)) (t .idle) inside (state-is area (t .settled) p inside ∙ t .active) e
+      step-facts .refine (machineOf area) p (machine-sound area (t .valid)) (t .idle) inside (state-is area (t .valid) p inside ∙ t .active) e
     where
       inside : p < length es
-      inside = omega (arith, held-is area (t .settled), t .place)
+      inside = omega (arith, held-is area (t .valid), t .place)
 
   -- the indicator is part of the pending error
   pub indicator-pending : (i : ℕ) → i ≡ recordAt (recordsOf c) p .indicator → i ≤ job .pending
-  indicator-pending i e = omega (arith, indicator-within area (t .settled) p (t .place) (t .active))
+  indicator-pending i e = omega (arith, indicator-within area (t .valid) p (t .place) (t .active))
 
   -- ---- what the scans find
 
@@ -160,18 +160,18 @@ module _ {job : JobRecord} {c : List ℕ} {store : List ℤ} {p : ℕ} (t : Refi
     scanned = admits (job .settings .axes) (retire (headsIn job c) p) (levelsAt (heldIn c (job .held)) p)
 
     levels-same : levelsAt (heldIn c (job .held)) p ≡ k
-    levels-same = ap (λ (x : IndexRecord). x .levels) (held-record c (job .held) (room job c store (t .settled)) p (t .place))
+    levels-same = ap (λ (x : IndexRecord). x .levels) (held-record c (job .held) (room job c store (t .valid)) p (t .place))
 
     levels-low : (a : ℕ) → a < 8 → level levels a ≤ 8
     levels-low a l =
         subst (λ x. level x a ≤ 8) (levels-same ∙ sym (u .levels-are))
-        (searchable job c store (t .settled) .low p a (omega (arith, t .place, held-length c (job .held) (room job c store (t .settled)))) l)
+        (searchable job c store (t .valid) .low p a (omega (arith, t .place, held-length c (job .held) (room job c store (t .valid)))) l)
 
     marked-axes : markedAxes (job .settings .axes) marks ≡ axes
     unfolding admittedAxes
     marked-axes =
         ap (markedAxes (job .settings .axes)) (u .marks-are)
-        ∙ marked-are (job .settings .axes) scanned (few-axes job c store (t .settled))
+        ∙ marked-are (job .settings .axes) scanned (few-axes job c store (t .valid))
         ∙ ap (admittedAxes (job .settings .axes) (retire (headsIn job c) p)) levels-same
         ∙ alike-axes (retire (headsIn job c) p) (retire es p) (alike-retire (headsIn job c) es (heads-are job c store) p) (job .settings .axes) k
 
@@ -179,10 +179,10 @@ module _ {job : JobRecord} {c : List ℕ} {store : List ℤ} {p : ℕ} (t : Refi
     marked-within a l e =
         subst (λ x. Within (forward x a)) (levels-same ∙ sym (u .levels-are))
         (reads-admits (job .settings .axes) (retire (headsIn job c) p) (levelsAt (heldIn c (job .held)) p) a .sure
-        (marked-passes (job .settings .axes) scanned (few-axes job c store (t .settled)) a l (ap (λ x. getD x a 0) (sym (u .marks-are)) ∙ e)) .ceilings)
+        (marked-passes (job .settings .axes) scanned (few-axes job c store (t .valid)) a l (ap (λ x. getD x a 0) (sym (u .marks-are)) ∙ e)) .ceilings)
 
     pub marks-ask : (job .settings .axes ≤ 8) × MarkedWithin (job .settings .axes) levels marks × ((a : ℕ) → a < 8 → level levels a ≤ 8)
-    marks-ask = (few-axes job c store (t .settled), marked-within, levels-low)
+    marks-ask = (few-axes job c store (t .valid), marked-within, levels-low)
 
     module _ {count sizes : ℕ} (v : Counted job levels marks count sizes) where
       count-admitted : count ≡ length axes
@@ -192,10 +192,10 @@ module _ {job : JobRecord} {c : List ℕ} {store : List ℤ} {p : ℕ} (t : Refi
       sizes-admitted = v .sizes-are ∙ ap₂ sizesOf (u .levels-are) marked-axes
 
       held-refined : length refined ≡ job .held + count
-      held-refined = refined-held area (t .settled) p (t .place) (t .active) ∙ ap (λ n. job .held + n) (sym count-admitted)
+      held-refined = refined-held area (t .valid) p (t .place) (t .active) ∙ ap (λ n. job .held + n) (sym count-admitted)
 
       reserved-refined : reservedBy refined ≡ job .reserved + sizes
-      reserved-refined = refined-reserved area (t .settled) p (t .place) (t .active) ∙ ap (λ n. job .reserved + n) (sym sizes-admitted)
+      reserved-refined = refined-reserved area (t .valid) p (t .place) (t .active) ∙ ap (λ n. job .reserved + n) (sym sizes-admitted)
 
       -- ---- spent
 
@@ -216,9 +216,9 @@ module _ {job : JobRecord} {c : List ℕ} {store : List ℤ} {p : ℕ} (t : Refi
           → ((job .held + length (markedAxes (job .settings .axes) marks)) * 27 ≤ n) × (job .held + length (markedAxes (job .settings .axes) marks) ≤ 512)
           × (first + readingsFor (job .settings) (sizesOf levels (markedAxes (job .settings .axes) marks)) ≤ 8192)
       append-asks n first e f few within = (
-        omega (arith, v .count-is, long job c store (t .settled)),
+        omega (arith, v .count-is, long job c store (t .valid)),
         omega (arith, v .count-is),
-        omega (arith, f, ap (readingsFor g) (sym (v .sizes-are)), reading-facts .sum g (job .reserved) sizes, most, reading-facts .least g, reading-facts .most g (t .settled .sound .settings)),
+        omega (arith, f, ap (readingsFor g) (sym (v .sizes-are)), reading-facts .sum g (job .reserved) sizes, most, reading-facts .least g, reading-facts .most g (t .valid .sound .settings)),
       )
         where
           g : Settings
@@ -268,13 +268,13 @@ module _ {job : JobRecord} {c : List ℕ} {store : List ℤ} {p : ℕ} (t : Refi
               run = run-is i;
               store = store;
             })
-            ∙ sym (write-facts .refine area p (t .settled) (t .idle) (t .place) (t .active) fit)
+            ∙ sym (write-facts .refine area p (t .valid) (t .idle) (t .place) (t .active) fit)
 
         pub promoted-is : promotionOf (record { outcome = Promoted; job = jobAfter }) c₂ store ≡ refineOn area p
         unfolding outcomeOf
         promoted-is = ap (λ (x : Area). record { outcome = promoted; area = x }) after-written ∙ sym (promoted-answer fit)
 
-        pub promoted-settled : Settled (areaOf jobAfter c₂ store)
+        pub promoted-valid : ValidArea (areaOf jobAfter c₂ store)
         unfolding machineOf
-        promoted-settled =
-            written-settled area after (after-sound fit) (t .settled .lent .records) (t .settled .lent .store) jobAfter c₂ store after-written
+        promoted-valid =
+            written-valid area after (after-sound fit) (t .valid .lent .records) (t .valid .lent .store) jobAfter c₂ store after-written

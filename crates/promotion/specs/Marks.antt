@@ -5,7 +5,7 @@ use mathlib.Core.List.{List}
 use Prim.Native.Nat.{ℕ, _<_, _≤_}
 use lib.Dec.{ltb, eqb}
 use lib.ListN.{length, getD}
-use Rattle.sums.specs.Lists.{tab}
+use Rattle.sums.specs.Lists.{tabulate}
 use Rattle.grid.specs.Index.{level, Within, forward}
 use Rattle.area.specs.declared.IndexRecord.{IndexRecord}
 use Rattle.machine.specs.Promote.{passing}
@@ -13,7 +13,7 @@ use Rattle.soundness.specs.Held.{levelsAt}
 
 -- 1 for an axis below d that passes, 0 for the others.
 unfoldable pub marksOf : ℕ → (ℕ → Bool) → List ℕ
-marksOf d f = tab 8 (λ a. cond (ltb a d && f a) 1 0)
+marksOf d f = tabulate 8 (λ a. cond (ltb a d && f a) 1 0)
 
 -- The marked axes below d, in order.
 unfoldable pub markedAxes : ℕ → List ℕ → List ℕ

@@ -12,7 +12,7 @@ ghost use Rattle.machine.specs.Areas.{refineOn, promoteOn};
 ghost use Rattle.machine.specs.Promote.{selected, retire, isOld, admits};
 ghost use Rattle.writing.specs.Changes.{appendedAll, sizesOf};
 ghost use Rattle.writing.specs.Heads.{headsOf};
-ghost use Rattle.writing.specs.Settled.{Settled};
+ghost use Rattle.writing.specs.ValidArea.{ValidArea};
 ghost use Rattle.promotion.specs.Outcomes.{promotionOf};
 ghost use Rattle.promotion.specs.Marks.{marksOf, markedAxes, Searchable, MarkedWithin};
 
@@ -55,14 +55,14 @@ fn is_old(held: usize, refined: usize, levels: [u32; 8], cells: &[u32]) -> bool
     ensures { λ r. ⌜ r ≡ isOld (retire (headsOf (heldIn (now (cells .entry)) held)) refined) levels ⌝ }
 {
     match area::lookup(cells, held, levels) {
-        area::Found::At(place) => {
+        area::LookupResult::At(place) => {
             if place == refined {
                 true
             } else {
                 area::state_at(cells, place) == area::OLD
             }
         }
-        area::Found::Nothing => false,
+        area::LookupResult::NotFound => false,
     }
 }
 
@@ -159,10 +159,10 @@ fn append_marked(
 
 // Refines an active place, unless that is spent.
 pub fn refine(job: area::JobRecord, place: usize, cells: &mut [u32], store: &[i32]) -> Promotion
-    requires { ⌜ Settled (areaOf job (now cells) (now store)) × (length (entriesOf (areaOf job (now cells) (now store))) ≤ firstWanted (entriesOf (areaOf job (now cells) (now store)))) ⌝ }
+    requires { ⌜ ValidArea (areaOf job (now cells) (now store)) × (length (entriesOf (areaOf job (now cells) (now store))) ≤ firstWanted (entriesOf (areaOf job (now cells) (now store)))) ⌝ }
     requires { ⌜ (place < job .held) × (recordAt (recordsOf (now cells)) place .state ≡ 1) ⌝ }
     ensures is { λ r. ⌜ promotionOf r (now (cells .exit)) (now (store .entry)) ≡ refineOn (areaOf job (now (cells .entry)) (now (store .entry))) place ⌝ }
-    ensures settled { λ r. ⌜ Settled (areaOf (r .job) (now (cells .exit)) (now (store .entry))) ⌝ }
+    ensures valid { λ r. ⌜ ValidArea (areaOf (r .job) (now (cells .exit)) (now (store .entry))) ⌝ }
 {
     let settings = job.settings;
     let axes = settings.axes as usize;
@@ -201,9 +201,9 @@ pub fn refine(job: area::JobRecord, place: usize, cells: &mut [u32], store: &[i3
 
 // Promotes: met, or the selected place refined, unless that is spent.
 pub fn promote(job: area::JobRecord, cells: &mut [u32], store: &[i32]) -> Promotion
-    requires { ⌜ Settled (areaOf job (now cells) (now store)) × (length (entriesOf (areaOf job (now cells) (now store))) ≤ firstWanted (entriesOf (areaOf job (now cells) (now store)))) ⌝ }
+    requires { ⌜ ValidArea (areaOf job (now cells) (now store)) × (length (entriesOf (areaOf job (now cells) (now store))) ≤ firstWanted (entriesOf (areaOf job (now cells) (now store)))) ⌝ }
     ensures is { λ r. ⌜ promotionOf r (now (cells .exit)) (now (store .entry)) ≡ promoteOn (areaOf job (now (cells .entry)) (now (store .entry))) ⌝ }
-    ensures settled { λ r. ⌜ Settled (areaOf (r .job) (now (cells .exit)) (now (store .entry))) ⌝ }
+    ensures valid { λ r. ⌜ ValidArea (areaOf (r .job) (now (cells .exit)) (now (store .entry))) ⌝ }
 {
     if job.pending <= job.settings.threshold {
         return Promotion {

@@ -14,8 +14,8 @@ use Rattle.encoding.specs.Entries.{SoundMachine}
 use Rattle.machine.specs.Promote.{promoted, promote}
 use Rattle.machine.specs.Steps.{started}
 use Rattle.machine.proofs.Facts.{step-facts}
-use Rattle.published.specs.Figure.{Problem, Figure, increment, before, joined, turns}
-use Rattle.published.specs.Turns.{supply, supplies, turnsOn, activeOf, Poses, Measured, StandsAt}
+use Rattle.published.specs.Figure.{Problem, Figure, increment, initial, joined, turns}
+use Rattle.published.specs.Turns.{supply, supplies, turnsOn, activeOf, SettingsMatch, ReadingValued, Simulates}
 use Rattle.published.specs.Facts.{PublishedFacts}
 use Rattle.published.proofs.Scans.{joinedAll}
 use Rattle.published.proofs.Joins.{Agrees, Waiting}
@@ -41,22 +41,22 @@ module _ (P : Problem) where
         pending = refl;
       }
 
-  pub started-waits : (g : Settings) → Poses g P → Waiting P (started g) [] (root ∷ []) nothing
+  pub started-waits : (g : Settings) → SettingsMatch g P → Waiting P (started g) [] (root ∷ []) nothing
   unfolding started nothing
   started-waits g posed = record { posed = posed; entries = refl; agrees = nothing-agrees; result = refl }
 
-  pub root-joined : joinedAll P (root ∷ []) nothing ≡ before P
-  unfolding joinedAll joined nothing before
+  pub root-joined : joinedAll P (root ∷ []) nothing ≡ initial P
+  unfolding joinedAll joined nothing initial
   root-joined = ap₂ {C = Figure} (λ r n. record { old = []; active = root ∷ []; result = r; estimate = n }) (+ℤ-idl (increment P root)) (zero-add (P .indicator root))
 
-  module _ (g : Settings) (measured : Measured P) (fit : SettingsFit g) (posed : Poses g P) where
-    begins-both : SoundMachine (turnsOn P g 0) × StandsAt P (turnsOn P g 0) (before P)
+  module _ (g : Settings) (measured : ReadingValued P) (fit : SettingsFit g) (posed : SettingsMatch g P) where
+    begins-both : SoundMachine (turnsOn P g 0) × Simulates P (turnsOn P g 0) (initial P)
     unfolding turnsOn supplies
     begins-both =
-        subst (λ s. SoundMachine (supply P (started g)) × StandsAt P (supply P (started g)) s) root-joined
+        subst (λ s. SoundMachine (supply P (started g)) × Simulates P (supply P (started g)) s) root-joined
         (supplies-join P measured (root ∷ []) (started g) [] nothing (step-facts .start g fit) (started-waits g posed))
 
-    any-turns : (n : ℕ) → ((i : ℕ) → i < n → promote (turnsOn P g i .log) .outcome ≡ promoted) → SoundMachine (turnsOn P g n) × StandsAt P (turnsOn P g n) (turns P n)
+    any-turns : (n : ℕ) → ((i : ℕ) → i < n → promote (turnsOn P g i .log) .outcome ≡ promoted) → SoundMachine (turnsOn P g n) × Simulates P (turnsOn P g n) (turns P n)
     unfolding turnsOn turns
     any-turns zero all = begins-both
     any-turns (suc n) all =

@@ -14,7 +14,7 @@ use Rattle.encoding.specs.Entries.{entryAt, EnteredOld}
 use Rattle.machine.specs.Log.{wanted}
 use Rattle.machine.proofs.Appends.{Split, append-left, append-right, append-split, append-each, old-left}
 use Rattle.published.specs.Figure.{Problem, Figure, joined}
-use Rattle.published.specs.Turns.{activeOf, Poses, Supplied, StandsAt}
+use Rattle.published.specs.Turns.{activeOf, SettingsMatch, Supplied, Simulates}
 use Rattle.published.proofs.Scans.{joinedAll}
 
 -- the delivered entry of an index
@@ -31,7 +31,7 @@ pub record Agrees (P : Problem) (es : List Entry) (s : Figure) : Type 0 where
 
 -- and those of the indices ks are wanted after them
 pub record Waiting (P : Problem) (m : Machine) (es : List Entry) (ks : List (List ℕ)) (s : Figure) : Type 0 where
-  pub posed : Poses (m .log .settings) P
+  pub posed : SettingsMatch (m .log .settings) P
   pub entries : m .log .entries ≡ es ++ map wanted ks
   pub agrees : Agrees P es s
   pub result : m .mean ≡ s .result
@@ -45,7 +45,7 @@ pub record Joining (P : Problem) (m : Machine) (s : Figure) : Type 0 where
   pub joins : joinedAll P awaited figure ≡ s
 
 -- where none is wanted, the machine stands there
-pub waiting-none : (P : Problem) (m : Machine) (es : List Entry) (s : Figure) → Waiting P m es [] s → StandsAt P m s
+pub waiting-none : (P : Problem) (m : Machine) (es : List Entry) (s : Figure) → Waiting P m es [] s → Simulates P m s
 waiting-none P m es s w =
     record {
       posed = w .posed;

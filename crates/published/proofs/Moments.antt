@@ -27,8 +27,8 @@ use Rattle.machine.proofs.Sets.{set-here, set-there}
 use Rattle.machine.proofs.Appends.{append-left}
 use Rattle.machine.proofs.Admitted.{retire-length}
 use Rattle.machine.proofs.Facts.{step-facts}
-use Rattle.published.specs.Figure.{Problem, Figure, goesOn, joined, turns}
-use Rattle.published.specs.Turns.{supply, Poses, Supplied, StandsAt}
+use Rattle.published.specs.Figure.{Problem, Figure, loopCondition, joined, turns}
+use Rattle.published.specs.Turns.{supply, SettingsMatch, Supplied, Simulates}
 use Rattle.published.proofs.Scans.{joinedAll}
 use Rattle.published.proofs.Joins.{entryFor, Waiting, Joining, waiting-none}
 use Rattle.published.proofs.Supplies.{some-wanted, supply-waits}
@@ -39,20 +39,20 @@ use Rattle.published.proofs.Facts.{nothing, started-waits, root-joined}
 -- ---- the invariant
 
 -- a delivered entry has the integrand's readings and the function's indicator; a wanted one is free
-abbrev Given : Problem → Entry → Type 0
-Given P e = 1 ≤ e .state → (e .readings ≡ map (P .integrand) (block (e .levels))) × (e .indicator ≡ P .indicator (e .levels))
+abbrev MatchesProblem : Problem → Entry → Type 0
+MatchesProblem P e = 1 ≤ e .state → (e .readings ≡ map (P .integrand) (block (e .levels))) × (e .indicator ≡ P .indicator (e .levels))
 
 abbrev pub Partly : Problem → List Entry → Type 0
-Partly P es = (p : ℕ) → p < length es → Given P (entryAt es p)
+Partly P es = (p : ℕ) → p < length es → MatchesProblem P (entryAt es p)
 
 -- with the wanted joined, Fig. 1 has made n turns; the loop's test held before each
 pub record AtTurn (P : Problem) (m : Machine) (n : ℕ) : Type 0 where
   pub joining : Joining P m (turns P n)
-  pub went-on : (i : ℕ) → i < n → goesOn P (turns P i) ≡ true
+  pub went-on : (i : ℕ) → i < n → loopCondition P (turns P i) ≡ true
 
 -- whatever problem gives what is delivered, as many turns as there are old indices
 abbrev pub OnCourse : Machine → Type 0
-OnCourse m = (P : Problem) → Poses (m .log .settings) P → Partly P (m .log .entries) → AtTurn P m (countOf 2 (m .log .entries))
+OnCourse m = (P : Problem) → SettingsMatch (m .log .settings) P → Partly P (m .log .entries) → AtTurn P m (countOf 2 (m .log .entries))
 
 -- ---- how many are old
 
@@ -99,11 +99,11 @@ joining-supply P m s j some v = step (j .given) (j .awaited) (j .figure) (j .wai
         record { given = es ++ entryFor P k ∷ []; awaited = ks; figure = joined P k r; waits = supply-waits P m es k ks r w v; joins = unfold joinedAll in q }
 
 -- where none is wanted, the machine stands there
-joining-none : (P : Problem) (m : Machine) (s : Figure) → Joining P m s → length (m .log .entries) ≤ firstWanted (m .log .entries) → StandsAt P m s
+joining-none : (P : Problem) (m : Machine) (s : Figure) → Joining P m s → length (m .log .entries) ≤ firstWanted (m .log .entries) → Simulates P m s
 joining-none P m s j free = step (j .given) (j .awaited) (j .figure) (j .waits) (j .joins)
   where
-    step : (es : List Entry) (ks : List (List ℕ)) (r : Figure) → Waiting P m es ks r → joinedAll P ks r ≡ s → StandsAt P m s
-    step es [] r w q = let e : r ≡ s = unfold joinedAll in q in subst (StandsAt P m) e (waiting-none P m es r w)
+    step : (es : List Entry) (ks : List (List ℕ)) (r : Figure) → Waiting P m es ks r → joinedAll P ks r ≡ s → Simulates P m s
+    step es [] r w q = let e : r ≡ s = unfold joinedAll in q in subst (Simulates P m) e (waiting-none P m es r w)
     step es (k ∷ ks) r w q = absurd (omega (arith, free, some-wanted P m es k ks r w))
 
 module _ (m : Machine) (rs : List ℤ) (i : ℕ) (some : firstWanted (m .log .entries) < length (m .log .entries)) where
@@ -124,14 +124,14 @@ module _ (m : Machine) (rs : List ℤ) (i : ℕ) (some : firstWanted (m .log .en
   partly-before : (P : Problem) → Partly P (deliver m rs i .log .entries) → Partly P es
   unfolding deliver deliverAt
   partly-before P g q h s =
-      subst (Given P) (set-there es p e some q (λ z. omega (arith, first-is es some, ap (λ r. entryAt es r .state) z)))
+      subst (MatchesProblem P) (set-there es p e some q (λ z. omega (arith, first-is es some, ap (λ r. entryAt es r .state) z)))
       (g q (omega (arith, length-set es p e))) s
 
   -- and what is delivered is the problem's
   deliver-is : (P : Problem) → Partly P (deliver m rs i .log .entries) → deliver m rs i ≡ supply P m
   unfolding deliver deliverAt delivered supply
   deliver-is P g =
-      let x = subst (Given P) (set-here es p e some) (g p (omega (arith, length-set es p e))) (omega arith) in
+      let x = subst (MatchesProblem P) (set-here es p e some) (g p (omega (arith, length-set es p e))) (omega arith) in
       ap₂ (deliver m) (x .0) (x .1)
 
   pub deliver-course : SoundMachine (deliver m rs i) → OnCourse m → OnCourse (deliver m rs i)
@@ -161,14 +161,14 @@ module _ (es : List Entry) (p : ℕ) (inside : p < length es) (d : ℕ) where
   unfolding refine retire retired
   partly-refined P g q h = step (ℕ-discrete q p)
     where
-      kept : (r : ℕ) → r < length es → Given P (entryAt (retire es p) r)
+      kept : (r : ℕ) → r < length es → MatchesProblem P (entryAt (retire es p) r)
       kept r l =
-          subst (Given P) (append-left (retire es p) new r (omega (arith, retire-length es p inside)))
+          subst (MatchesProblem P) (append-left (retire es p) new r (omega (arith, retire-length es p inside)))
           (g r (omega (arith, retire-length es p inside, length-append (retire es p) new)))
 
-      step : Dec (q ≡ p) → Given P (entryAt es q)
-      step (yes i) = subst (λ r. Given P (entryAt es r)) (sym i) (λ s. subst (Given P) (set-here es p (retired (entryAt es p)) inside) (kept p inside) (omega arith))
-      step (no n) = subst (Given P) (set-there es p (retired (entryAt es p)) inside q n) (kept q h)
+      step : Dec (q ≡ p) → MatchesProblem P (entryAt es q)
+      step (yes i) = subst (λ r. MatchesProblem P (entryAt es r)) (sym i) (λ s. subst (MatchesProblem P) (set-here es p (retired (entryAt es p)) inside) (kept p inside) (omega arith))
+      step (no n) = subst (MatchesProblem P) (set-there es p (retired (entryAt es p)) inside q n) (kept q h)
 
 module _ (m : Machine) (v : SoundMachine m) (free : length (m .log .entries) ≤ firstWanted (m .log .entries)) (c : OnCourse m) where
   abbrev now : List Entry
@@ -192,25 +192,25 @@ module _ (m : Machine) (v : SoundMachine m) (free : length (m .log .entries) ≤
     count-promoted : countOf 2 (promoteStep m .log .entries) ≡ suc n
     count-promoted = ap (λ (l : Log). countOf 2 (l .entries)) log-is ∙ count-refine now (selected now) (active .0) (m .log .settings .axes) (active .1)
 
-    module _ (P : Problem) (posed : Poses (promoteStep m .log .settings) P) (g : Partly P (promoteStep m .log .entries)) where
+    module _ (P : Problem) (posed : SettingsMatch (promoteStep m .log .settings) P) (g : Partly P (promoteStep m .log .entries)) where
       before : AtTurn P m n
       before =
-          c P (subst (λ (l : Log). Poses (l .settings) P) log-is posed)
+          c P (subst (λ (l : Log). SettingsMatch (l .settings) P) log-is posed)
           (partly-refined now (selected now) (active .0) (m .log .settings .axes) P (subst (λ (l : Log). Partly P (l .entries)) log-is g))
 
-      stands : StandsAt P m (turns P n)
-      stands = joining-none P m (turns P n) (before .joining) free
+      simulates : Simulates P m (turns P n)
+      simulates = joining-none P m (turns P n) (before .joining) free
 
-      went-on : (i : ℕ) → i < suc n → goesOn P (turns P i) ≡ true
+      went-on : (i : ℕ) → i < suc n → loopCondition P (turns P i) ≡ true
       went-on i h = step (ℕ-discrete i n)
         where
-          step : Dec (i ≡ n) → goesOn P (turns P i) ≡ true
-          step (yes q) = subst (λ j. goesOn P (turns P j) ≡ true) (sym q) (promoted-goes-on P m (turns P n) stands e)
+          step : Dec (i ≡ n) → loopCondition P (turns P i) ≡ true
+          step (yes q) = subst (λ j. loopCondition P (turns P j) ≡ true) (sym q) (promoted-goes-on P m (turns P n) simulates e)
           step (no q) = before .went-on i (omega arith)
 
       next : AtTurn P (promoteStep m) (suc n)
       unfolding turns
-      next = record { joining = turn-joining P m (turns P n) v stands e; went-on = went-on }
+      next = record { joining = turn-joining P m (turns P n) v simulates e; went-on = went-on }
 
     turned : OnCourse (promoteStep m)
     turned P posed g = subst (AtTurn P (promoteStep m)) (sym count-promoted) (next P posed g)
@@ -227,14 +227,14 @@ module _ (m : Machine) (v : SoundMachine m) (free : length (m .log .entries) ≤
 
 -- ---- where nothing is wanted
 
-pub record Stands (P : Problem) (m : Machine) : Type 0 where
-  pub stands : StandsAt P m (turns P (countOf 2 (m .log .entries)))
-  pub went-on : (i : ℕ) → i < countOf 2 (m .log .entries) → goesOn P (turns P i) ≡ true
+pub record SimulatesNow (P : Problem) (m : Machine) : Type 0 where
+  pub simulates : Simulates P m (turns P (countOf 2 (m .log .entries)))
+  pub went-on : (i : ℕ) → i < countOf 2 (m .log .entries) → loopCondition P (turns P i) ≡ true
 
-pub course-stands : (P : Problem) (m : Machine) → OnCourse m → Poses (m .log .settings) P → Supplied P (m .log .entries) → Stands P m
-course-stands P m c posed v =
+pub course-simulates : (P : Problem) (m : Machine) → OnCourse m → SettingsMatch (m .log .settings) P → Supplied P (m .log .entries) → SimulatesNow P m
+course-simulates P m c posed v =
     let x : AtTurn P m (countOf 2 (m .log .entries)) = c P posed (λ p h s. (v .readings p h, v .indicators p h)) in
     record {
-      stands = joining-none P m (turns P (countOf 2 (m .log .entries))) (x .joining) (omega (arith, first-none (m .log .entries) (v .delivered)));
+      simulates = joining-none P m (turns P (countOf 2 (m .log .entries))) (x .joining) (omega (arith, first-none (m .log .entries) (v .delivered)));
       went-on = x .went-on;
     }

@@ -20,7 +20,7 @@ use Rattle.machine.specs.Steps.{promoteStep}
 use Rattle.machine.proofs.Wanted.{first-none}
 use Rattle.machine.proofs.Facts.{step-facts}
 use Rattle.published.specs.Figure.{Problem, Figure, without, moved, scanned, turn}
-use Rattle.published.specs.Turns.{supplies, turnOn, Poses, Measured, StandsAt}
+use Rattle.published.specs.Turns.{supplies, turnOn, SettingsMatch, ReadingValued, Simulates}
 use Rattle.published.proofs.Selects.{select-same}
 use Rattle.published.proofs.Retires.{active-retire, pending-retire, retire-there, retire-here, retire-supplied}
 use Rattle.published.proofs.Scans.{joinedAll, scan-admits}
@@ -46,7 +46,7 @@ wanted-map : (k axes : List ℕ) → map (λ a. wanted (forward k a)) axes ≡ m
 wanted-map k [] = refl
 wanted-map k (a ∷ axes) = ap (λ es. wanted (forward k a) ∷ es) (wanted-map k axes)
 
-module _ (P : Problem) (m : Machine) (s : Figure) (v : SoundMachine m) (at : StandsAt P m s) (e : promote (m .log) .outcome ≡ promoted) where
+module _ (P : Problem) (m : Machine) (s : Figure) (v : SoundMachine m) (at : Simulates P m s) (e : promote (m .log) .outcome ≡ promoted) where
   abbrev es : List Entry
   es = m .log .entries
 
@@ -94,7 +94,7 @@ module _ (P : Problem) (m : Machine) (s : Figure) (v : SoundMachine m) (at : Sta
   unfolding promoteStep moved
   waits =
       record {
-        posed = subst (λ (l : Log). Poses (l .settings) P) (sym (promoted-log (m .log) e)) (at .posed);
+        posed = subst (λ (l : Log). SettingsMatch (l .settings) P) (sym (promoted-log (m .log) e)) (at .posed);
         entries = step-entries;
         agrees = agrees;
         result = at .result;
@@ -114,10 +114,10 @@ module _ (P : Problem) (m : Machine) (s : Figure) (v : SoundMachine m) (at : Sta
   pub turn-joining : Joining P (promoteStep m) (turn P s)
   turn-joining = record { given = retire es p; awaited = ks; figure = moved P k s; waits = waits; joins = sym turn-joins }
 
-  pub one-turn : Measured P → SoundMachine (turnOn P m) × StandsAt P (turnOn P m) (turn P s)
+  pub one-turn : ReadingValued P → SoundMachine (turnOn P m) × Simulates P (turnOn P m) (turn P s)
   unfolding turnOn
   one-turn measured =
-      subst (λ n. SoundMachine (supplies P n (promoteStep m)) × StandsAt P (supplies P n (promoteStep m)) (turn P s))
+      subst (λ n. SoundMachine (supplies P n (promoteStep m)) × Simulates P (supplies P n (promoteStep m)) (turn P s))
       (sym (ap (countOf 0) step-entries ∙ count-after (retire es p) ks (agrees .supplied .delivered)))
-      (subst (λ r. SoundMachine (supplies P (length ks) (promoteStep m)) × StandsAt P (supplies P (length ks) (promoteStep m)) r) (sym turn-joins)
+      (subst (λ r. SoundMachine (supplies P (length ks) (promoteStep m)) × Simulates P (supplies P (length ks) (promoteStep m)) r) (sym turn-joins)
       (supplies-join P measured ks (promoteStep m) (retire es p) (moved P k s) sound waits))

@@ -10,8 +10,8 @@ use borrow.Author.Tests.{ltb-true, lt-ltb, leb-true, le-leb}
 use Rattle.area.specs.Entry.{pendingOf}
 use Rattle.area.specs.Log.{Log, Machine, withEntries}
 use Rattle.machine.specs.Promote.{Promotion, met, spent, promoted, selected, refine, isMet, fits, promoteAt, promote}
-use Rattle.published.specs.Figure.{Problem, Figure, goesOn}
-use Rattle.published.specs.Turns.{StandsAt}
+use Rattle.published.specs.Figure.{Problem, Figure, loopCondition}
+use Rattle.published.specs.Turns.{Simulates}
 
 module _ (l : Log) where
   abbrev refined : Log
@@ -62,26 +62,26 @@ module _ (l : Log) where
 
 -- ---- the pending error against the tolerance
 
-module _ (P : Problem) (m : Machine) (s : Figure) (at : StandsAt P m s) where
-  pub over : (goesOn P s ≡ true → ⊥) → promote (m .log) .outcome ≡ met
-  unfolding goesOn isMet
+module _ (P : Problem) (m : Machine) (s : Figure) (at : Simulates P m s) where
+  pub over : (loopCondition P s ≡ true → ⊥) → promote (m .log) .outcome ≡ met
+  unfolding loopCondition isMet
   over n = test-met (m .log) (le-leb (pendingOf (m .log .entries)) (m .log .settings .threshold) (below (decLt (P .tolerance) (s .estimate))))
     where
       below : Dec (P .tolerance < s .estimate) → pendingOf (m .log .entries) ≤ m .log .settings .threshold
       below (yes h) = absurd (n (lt-ltb (P .tolerance) (s .estimate) h))
       below (no h) = omega (arith, at .pending, at .posed .tolerance)
 
-  pub goes-on : goesOn P s ≡ true → promote (m .log) .outcome ≡ met → ⊥
-  unfolding goesOn isMet
+  pub goes-on : loopCondition P s ≡ true → promote (m .log) .outcome ≡ met → ⊥
+  unfolding loopCondition isMet
   goes-on g e =
       omega
       (arith, ltb-true (P .tolerance) (s .estimate) g, leb-true (pendingOf (m .log .entries)) (m .log .settings .threshold) (met-test (m .log) e), at .pending, at .posed .tolerance)
 
   -- a promotion that is promoted is not met, so the test held
-  pub promoted-goes-on : promote (m .log) .outcome ≡ promoted → goesOn P s ≡ true
-  promoted-goes-on e = step (goesOn P s) refl
+  pub promoted-goes-on : promote (m .log) .outcome ≡ promoted → loopCondition P s ≡ true
+  promoted-goes-on e = step (loopCondition P s) refl
     where
-      step : (t : Bool) → goesOn P s ≡ t → goesOn P s ≡ true
+      step : (t : Bool) → loopCondition P s ≡ t → loopCondition P s ≡ true
       step true q = q
       step false q =
           let is-met : promote (m .log) .outcome ≡ met = over (λ f. let z : _≡_ {A = ℕ} 0 1 = cc in omega arith) in

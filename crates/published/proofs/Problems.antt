@@ -15,7 +15,7 @@ use Rattle.area.specs.Log.{Machine}
 use Rattle.encoding.specs.Entries.{entryAt, SoundMachine}
 use Rattle.machine.proofs.Sets.{Different}
 use Rattle.published.specs.Figure.{Problem}
-use Rattle.published.specs.Turns.{Poses, Measured, Supplied}
+use Rattle.published.specs.Turns.{SettingsMatch, ReadingValued, Supplied}
 use Rattle.published.proofs.Retires.{same-no}
 use Rattle.published.proofs.Sampling.{sampling}
 
@@ -39,7 +39,7 @@ module _ {m : Machine} (v : SoundMachine m) (all : (p : ℕ) → p < length (m .
   abbrev es : List Entry
   es = m .log .entries
 
-  pub posed : (P : Problem) × Poses g P × Measured P × Supplied P es
+  pub posed : (P : Problem) × SettingsMatch g P × ReadingValued P × Supplied P es
   posed =
       let x = sampling v in (
         record { axes = g .axes; tolerance = g .threshold; integrand = x .0 .integrand; indicator = indicatorOf es },

@@ -28,8 +28,8 @@ use Rattle.area.specs.Entry.{Entry, readingsOf, readingIn}
 use Rattle.area.specs.Log.{Machine}
 use Rattle.encoding.specs.Entries.{entryAt, Has, SoundMachine}
 use Rattle.published.specs.Figure.{Problem}
-use Rattle.published.specs.Turns.{Measured}
-use Rattle.published.specs.Sums.{Read}
+use Rattle.published.specs.Turns.{ReadingValued}
+use Rattle.published.specs.Sums.{SampledFrom}
 use Rattle.published.proofs.Increments.{value-at, readings-at}
 
 -- ---- the block of a point
@@ -128,7 +128,7 @@ module _ {m : Machine} (v : SoundMachine m) where
         value n h = value-at (taken es) (block k) n (omega (arith, block-facts .size k)) ∙ ap (taken es) (block-facts .nth k n h) ∙ taken-at n h
 
   -- its tolerance and indicators say nothing of the readings
-  pub sampling : (P : Problem) × (P .axes ≡ g .axes) × Measured P × Read P es
+  pub sampling : (P : Problem) × (P .axes ≡ g .axes) × ReadingValued P × SampledFrom P es
   unfolding taken
   sampling = (
     record { axes = g .axes; tolerance = 0; integrand = taken es; indicator = λ k. 0 },

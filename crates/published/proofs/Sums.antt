@@ -18,7 +18,7 @@ use Rattle.area.specs.Log.{Machine}
 use Rattle.encoding.specs.Entries.{entryAt, Has, SoundMachine}
 use Rattle.machine.specs.Means.{meanOf}
 use Rattle.published.specs.Figure.{Problem, increment}
-use Rattle.published.specs.Sums.{Read, SumFacts}
+use Rattle.published.specs.Sums.{SampledFrom, SumFacts}
 use Rattle.published.proofs.Increments.{increment-is}
 use Rattle.published.proofs.Sampling.{sampling}
 
@@ -40,7 +40,7 @@ delivered-place (e ∷ es) k m = step (leb 1 (e .state)) refl m (delivered-place
         ⊎-elim (λ q. (0, record { place = omega arith; same = sym q }, leb-true 1 (e .state) i)) (λ q. later (ih q)) (List·Memᴰ·cases-cons m)
     step false i m ih = later (ih m)
 
-module _ {m : Machine} (P : Problem) (v : SoundMachine m) (read : Read P (m .log .entries)) where
+module _ {m : Machine} (P : Problem) (v : SoundMachine m) (read : SampledFrom P (m .log .entries)) where
   abbrev es : List Entry
   es = m .log .entries
 

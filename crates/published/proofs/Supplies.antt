@@ -15,7 +15,7 @@ use Rattle.grid.specs.Difference.{scaledDifference}
 use Rattle.grid.specs.Terms.{IsReading}
 use Rattle.grid.proofs.Facts.{block-facts}
 use Rattle.area.specs.Entry.{Entry, readingIn}
-use Rattle.area.specs.Log.{Machine, holding}
+use Rattle.area.specs.Log.{Machine, machineWithEntries}
 use Rattle.area.proofs.Readings.{reading-facts}
 use Rattle.encoding.specs.Entries.{noEntry, entryAt, Has, SoundMachine}
 use Rattle.machine.specs.Log.{wanted, firstWanted, wantedIndex}
@@ -24,7 +24,7 @@ use Rattle.machine.proofs.Wanted.{first-only}
 use Rattle.machine.proofs.Appends.{append-left, append-each}
 use Rattle.machine.proofs.Facts.{step-facts}
 use Rattle.published.specs.Figure.{Problem, Figure, increment, joined}
-use Rattle.published.specs.Turns.{supply, supplies, Measured, StandsAt}
+use Rattle.published.specs.Turns.{supply, supplies, ReadingValued, Simulates}
 use Rattle.published.proofs.Scans.{joinedAll}
 use Rattle.published.proofs.Increments.{value-at, increment-is}
 use Rattle.published.proofs.Joins.{entryFor, Waiting, waiting-none, more-supplied, more-agrees}
@@ -103,8 +103,8 @@ module _ (P : Problem) where
     -- ---- the difference that is added
 
     module _ (v : SoundMachine (supply P m)) where
-      sound-after : SoundMachine (holding (supply P m) (more ++ ws))
-      sound-after = subst (λ xs. SoundMachine (holding (supply P m) xs)) supply-entries v
+      sound-after : SoundMachine (machineWithEntries (supply P m) (more ++ ws))
+      sound-after = subst (λ xs. SoundMachine (machineWithEntries (supply P m) xs)) supply-entries v
 
       given : (p : ℕ) → p < length (more ++ ws) → 1 ≤ entryAt (more ++ ws) p .state → entryAt (more ++ ws) p .readings ≡ map f (block (entryAt (more ++ ws) p .levels))
       given =
@@ -143,7 +143,7 @@ module _ (P : Problem) where
 
   -- ---- all of them, where every value is a reading
 
-  module _ (measured : Measured P) where
+  module _ (measured : ReadingValued P) where
     -- the values at a block's points are as many as its size, and readings
     values-full : (k : List ℕ) → length (map f (block k)) ≡ blockSize k
     values-full k = length-map (block k) f ∙ block-facts .size k
@@ -159,7 +159,7 @@ module _ (P : Problem) where
         (values-range (wantedIndex (m .log .entries)))
 
     pub supplies-join : (ks : List (List ℕ)) (m : Machine) (es : List Entry) (s : Figure) → SoundMachine m → Waiting P m es ks s
-        → SoundMachine (supplies P (length ks) m) × StandsAt P (supplies P (length ks) m) (joinedAll P ks s)
+        → SoundMachine (supplies P (length ks) m) × Simulates P (supplies P (length ks) m) (joinedAll P ks s)
     unfolding supplies joinedAll
     supplies-join [] m es s v w = (v, waiting-none P m es s w)
     supplies-join (k ∷ ks) m es s v w =

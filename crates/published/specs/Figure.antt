@@ -44,12 +44,12 @@ pub record Figure : Type 0 where
   pub estimate : ℕ
 
 -- i := (1,…,1); 𝒪 := ∅; 𝒜 := {i}; r := Δ_i f; η := g_i
-unfoldable pub before : Problem → Figure
-before P = record { old = []; active = root ∷ []; result = increment P root; estimate = P .indicator root }
+unfoldable pub initial : Problem → Figure
+initial P = record { old = []; active = root ∷ []; result = increment P root; estimate = P .indicator root }
 
 -- while (η > TOL)
-unfoldable pub goesOn : Problem → Figure → Bool
-goesOn P s = ltb (P .tolerance) (s .estimate)
+unfoldable pub loopCondition : Problem → Figure → Bool
+loopCondition P s = ltb (P .tolerance) (s .estimate)
 
 -- select i from 𝒜 with largest g_i; *tie*: the first that has it
 unfoldable pub largestOf : (List ℕ → ℕ) → List (List ℕ) → ℕ
@@ -91,5 +91,5 @@ turn P s = scanned P (select P s) (P .axes) 0 (moved P (select P s) s)
 
 -- The variables after n turns.
 unfoldable pub turns : Problem → ℕ → Figure
-turns P zero = before P
+turns P zero = initial P
 turns P (suc n) = turn P (turns P n)

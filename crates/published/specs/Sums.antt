@@ -11,17 +11,17 @@ use Rattle.area.specs.Log.{Machine}
 use Rattle.encoding.specs.Entries.{entryAt, SoundMachine}
 use Rattle.machine.specs.Means.{meanOf}
 use Rattle.published.specs.Figure.{Problem, increment}
-use Rattle.published.specs.Turns.{Measured}
+use Rattle.published.specs.Turns.{ReadingValued}
 
 -- Every delivered entry has the integrand's readings, in the block's order.
-abbrev pub Read : Problem → List Entry → Type 0
-Read P es = (p : ℕ) → p < length es → 1 ≤ entryAt es p .state → entryAt es p .readings ≡ map (P .integrand) (block (entryAt es p .levels))
+abbrev pub SampledFrom : Problem → List Entry → Type 0
+SampledFrom P es = (p : ℕ) → p < length es → 1 ≤ entryAt es p .state → entryAt es p .readings ≡ map (P .integrand) (block (entryAt es p .levels))
 
 pub record SumFacts : Type 0 where
   -- the difference of each delivered index is the integrand's increment
-  pub difference : (m : Machine) (P : Problem) → SoundMachine m → Read P (m .log .entries) → (k : List ℕ) → List·Memᴰ k (deliveredOf (m .log .entries))
+  pub difference : (m : Machine) (P : Problem) → SoundMachine m → SampledFrom P (m .log .entries) → (k : List ℕ) → List·Memᴰ k (deliveredOf (m .log .entries))
       → scaledDifference k (readingIn (m .log .entries)) ≡ increment P k
   -- so the scaled mean is the sum of the increments over the delivered indices, old and active
-  pub sum : (m : Machine) (P : Problem) → SoundMachine m → Read P (m .log .entries) → meanOf (m .log .entries) ≡ sumOf (deliveredOf (m .log .entries)) (increment P)
+  pub sum : (m : Machine) (P : Problem) → SoundMachine m → SampledFrom P (m .log .entries) → meanOf (m .log .entries) ≡ sumOf (deliveredOf (m .log .entries)) (increment P)
   -- a point is new in one block only, so whatever the readings are, they are some integrand's
-  pub some : (m : Machine) → SoundMachine m → (P : Problem) × (P .axes ≡ m .log .settings .axes) × Measured P × Read P (m .log .entries)
+  pub some : (m : Machine) → SoundMachine m → (P : Problem) × (P .axes ≡ m .log .settings .axes) × ReadingValued P × SampledFrom P (m .log .entries)

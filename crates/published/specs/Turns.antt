@@ -30,13 +30,13 @@ supplies P (suc n) m = supplies P n (supply P m)
 unfoldable pub turnOn : Problem → Machine → Machine
 turnOn P m = supplies P (countOf 0 (promoteStep m .log .entries)) (promoteStep m)
 
--- Start and the root's delivery, and then n such turns. The settings are to pose the problem (`Poses`).
+-- Start and the root's delivery, and then n such turns. The settings are to pose the problem (`SettingsMatch`).
 unfoldable pub turnsOn : Problem → Settings → ℕ → Machine
 turnsOn P g zero = supply P (started g)
 turnsOn P g (suc n) = turnOn P (turnsOn P g n)
 
 -- Settings pose a problem that has their number of axes, and their threshold as its tolerance.
-pub record Poses (g : Settings) (P : Problem) : Type 0 where
+pub record SettingsMatch (g : Settings) (P : Problem) : Type 0 where
   pub axes : P .axes ≡ g .axes
   pub tolerance : P .tolerance ≡ g .threshold
 
@@ -46,8 +46,8 @@ activeOf [] = []
 activeOf (e ∷ es) = cond (eqb (e .state) 1) (e .levels ∷ activeOf es) (activeOf es)
 
 -- Every value of the integrand is a reading.
-abbrev pub Measured : Problem → Type 0
-Measured P = (x : List ℕ) → IsReading (P .integrand x)
+abbrev pub ReadingValued : Problem → Type 0
+ReadingValued P = (x : List ℕ) → IsReading (P .integrand x)
 
 -- Every entry is delivered, with the integrand's readings and the function's indicator.
 pub record Supplied (P : Problem) (es : List Entry) : Type 0 where
@@ -57,8 +57,8 @@ pub record Supplied (P : Problem) (es : List Entry) : Type 0 where
 
 -- The machine stands where Fig. 1 stands: the same old set, the same active set (also in the same order), the same result, the same
 -- pending error.
-pub record StandsAt (P : Problem) (m : Machine) (s : Figure) : Type 0 where
-  pub posed : Poses (m .log .settings) P
+pub record Simulates (P : Problem) (m : Machine) (s : Figure) : Type 0 where
+  pub posed : SettingsMatch (m .log .settings) P
   pub supplied : Supplied P (m .log .entries)
   pub old-there : (k : List ℕ) → EnteredOld (m .log .entries) k → List·Memᴰ k (s .old)
   pub old-here : (k : List ℕ) → List·Memᴰ k (s .old) → EnteredOld (m .log .entries) k

@@ -23,7 +23,7 @@ use Rattle.area.specs.Entry.{Entry, deliveredOf, readingsOf, readingIn}
 use Rattle.area.specs.Encoding.{none, placeFrom, placeOf, entryOf}
 use Rattle.area.specs.Settings.{readingCount}
 use Rattle.area.proofs.Readings.{reading-facts}
-use Rattle.quadrature.specs.Readings.{recordAt, placeIn, fetched}
+use Rattle.quadrature.specs.Readings.{recordAt, placeIn, storedReading}
 use Rattle.quadrature.specs.Ready.{Ready}
 use Rattle.quadrature.specs.Linked.{deliveredIn}
 use Rattle.quadrature.proofs.Places.{place-inside, place-levels, below-none}
@@ -54,8 +54,8 @@ module _ (h : ℕ) (rs : List IndexRecord) (k : List ℕ) (found : placeIn (take
       inside : placeIn (take h rs) k < h
       inside = omega (arith, place-inside (take h rs) k found, length-take h rs)
 
-  fetched-same : (s : List ℤ) (n : ℕ) → fetched rs s k n ≡ fetched (take h rs) s k n
-  unfolding fetched
+  fetched-same : (s : List ℤ) (n : ℕ) → storedReading rs s k n ≡ storedReading (take h rs) s k n
+  unfolding storedReading
   fetched-same s n = ap (λ (r : IndexRecord). getD s (r .first + n) (pos 0)) record-same
 
 -- an index that is ready among the held is ready among all records
@@ -63,7 +63,7 @@ module _ {d : ℕ} (h : ℕ) (rs : List IndexRecord) {s : List ℤ} {k : List �
   some : (l : List ℕ) → NowhereHigher l k → placeIn (take h rs) l < none
   some l w = below-none (ready .found l w)
 
-  pub held-agree : Agree k (fetched rs s) (fetched (take h rs) s)
+  pub held-agree : Agree k (storedReading rs s) (storedReading (take h rs) s)
   held-agree l n w q = fetched-same h rs l (some l w) s n
 
   pub held-ready : Ready d rs s k
@@ -125,8 +125,8 @@ module _ (g : Settings) (s : List ℤ) where
 
 -- the readings of an index that is ready, and those of the entries
 module _ (g : Settings) {d : ℕ} {rs : List IndexRecord} {s : List ℤ} {k : List ℕ} (ready : Ready d rs s k) where
-  pub entries-agree : Agree k (fetched rs s) (readingIn (map (entryOf g s) rs))
-  unfolding fetched readingIn
+  pub entries-agree : Agree k (storedReading rs s) (readingIn (map (entryOf g s) rs))
+  unfolding storedReading readingIn
   entries-agree l n w q =
       let found = below-none (ready .found l w) in
       sym

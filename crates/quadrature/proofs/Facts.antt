@@ -16,7 +16,7 @@ use Rattle.area.specs.declared.JobRecord.{JobRecord}
 use Rattle.area.specs.Records.{recordsOf, heldIn}
 use Rattle.area.specs.Entry.{deliveredOf, readingIn}
 use Rattle.area.specs.Encoding.{areaOf, entriesOf}
-use Rattle.quadrature.specs.Readings.{fetched}
+use Rattle.quadrature.specs.Readings.{storedReading}
 use Rattle.quadrature.specs.Ready.{Ready}
 use Rattle.quadrature.specs.Linked.{deliveredIn}
 use Rattle.quadrature.specs.Facts.{EntryFacts}
@@ -28,7 +28,7 @@ module _ (j : JobRecord) (c : List ℕ) (s : List ℤ) where
   ready-all d k w = held-ready (j .held) (recordsOf c) w
 
   -- readings that are found in the cells are those of the entries
-  agree : (d : ℕ) (k : List ℕ) → Ready d (heldIn c (j .held)) s k → Agree k (fetched (recordsOf c) s) (readingIn (entriesOf (areaOf j c s)))
+  agree : (d : ℕ) (k : List ℕ) → Ready d (heldIn c (j .held)) s k → Agree k (storedReading (recordsOf c) s) (readingIn (entriesOf (areaOf j c s)))
   unfolding heldIn entriesOf
   agree d k w l n h q = held-agree (j .held) (recordsOf c) w l n h q ∙ entries-agree (j .settings) w l n h q
 
@@ -37,28 +37,28 @@ module _ (j : JobRecord) (c : List ℕ) (s : List ℤ) where
   delivered-entries = delivered-same (j .settings) s (take (j .held) (recordsOf c))
 
   difference-same : (d : ℕ) (k : List ℕ) → Ready d (heldIn c (j .held)) s k
-      → scaledDifference k (fetched (recordsOf c) s) ≡ scaledDifference k (readingIn (entriesOf (areaOf j c s)))
-  difference-same d k w = difference-facts .difference-only k (fetched (recordsOf c) s) (readingIn (entriesOf (areaOf j c s))) (agree d k w)
+      → scaledDifference k (storedReading (recordsOf c) s) ≡ scaledDifference k (readingIn (entriesOf (areaOf j c s)))
+  difference-same d k w = difference-facts .difference-only k (storedReading (recordsOf c) s) (readingIn (entriesOf (areaOf j c s))) (agree d k w)
 
   mean-same : (d : ℕ) → ((k : List ℕ) → List·Memᴰ k (deliveredIn (heldIn c (j .held))) → Ready d (heldIn c (j .held)) s k)
-      → scaledMean (deliveredIn (heldIn c (j .held))) (fetched (recordsOf c) s)
+      → scaledMean (deliveredIn (heldIn c (j .held))) (storedReading (recordsOf c) s)
       ≡ scaledMean (deliveredOf (entriesOf (areaOf j c s))) (readingIn (entriesOf (areaOf j c s)))
   unfolding scaledMean
   mean-same d w =
-      sumOf-cong-in (deliveredIn (heldIn c (j .held))) (λ k. scaledDifference k (fetched (recordsOf c) s)) (λ k. scaledDifference k (readingIn (entriesOf (areaOf j c s)))) (λ k m. difference-same d k (w k m))
+      sumOf-cong-in (deliveredIn (heldIn c (j .held))) (λ k. scaledDifference k (storedReading (recordsOf c) s)) (λ k. scaledDifference k (readingIn (entriesOf (areaOf j c s)))) (λ k m. difference-same d k (w k m))
       ∙ ap (λ J. scaledMean J (readingIn (entriesOf (areaOf j c s)))) delivered-entries
 
   tensor-same : (d : ℕ) (k : List ℕ) → Ready d (heldIn c (j .held)) s k
-      → tensorRule k (fetched (recordsOf c) s) ≡ tensorRule k (readingIn (entriesOf (areaOf j c s)))
-  tensor-same d k w = difference-facts .tensor-only k (fetched (recordsOf c) s) (readingIn (entriesOf (areaOf j c s))) (agree d k w)
+      → tensorRule k (storedReading (recordsOf c) s) ≡ tensorRule k (readingIn (entriesOf (areaOf j c s)))
+  tensor-same d k w = difference-facts .tensor-only k (storedReading (recordsOf c) s) (readingIn (entriesOf (areaOf j c s))) (agree d k w)
 
   cross-same : (d : ℕ) → ((k : List ℕ) → List·Memᴰ k (deliveredIn (heldIn c (j .held))) → Ready d (heldIn c (j .held)) s k)
-      → crossTotal (deliveredIn (heldIn c (j .held))) (fetched (recordsOf c) s)
+      → crossTotal (deliveredIn (heldIn c (j .held))) (storedReading (recordsOf c) s)
       ≡ crossTotal (deliveredOf (entriesOf (areaOf j c s))) (readingIn (entriesOf (areaOf j c s)))
   unfolding crossTotal
   cross-same d w =
       let J = deliveredIn (heldIn c (j .held)) in
-      sumOf-cong-in J (λ k. coefficient J k *ℤ tensorRule k (fetched (recordsOf c) s)) (λ k. coefficient J k *ℤ tensorRule k (readingIn (entriesOf (areaOf j c s)))) (λ k m. ap (λ x. coefficient J k *ℤ x) (tensor-same d k (w k m)))
+      sumOf-cong-in J (λ k. coefficient J k *ℤ tensorRule k (storedReading (recordsOf c) s)) (λ k. coefficient J k *ℤ tensorRule k (readingIn (entriesOf (areaOf j c s)))) (λ k m. ap (λ x. coefficient J k *ℤ x) (tensor-same d k (w k m)))
       ∙ ap (λ K. crossTotal K (readingIn (entriesOf (areaOf j c s)))) delivered-entries
 
   pub entry-facts : EntryFacts j c s

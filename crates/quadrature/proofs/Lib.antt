@@ -1,7 +1,7 @@
 -- The laws, lowest first.
 pub mod Places
 pub mod Walks
-pub mod Standing
+pub mod WalkInvariants
 pub mod Steps
 pub mod Shifts
 pub mod Tensors

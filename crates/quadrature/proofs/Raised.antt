@@ -14,13 +14,13 @@ use lib.ListN.{length, getD, take, drop, set, take-append-drop}
 use Rattle.grid.specs.Index.{level, forward, NowhereHigher}
 use Rattle.grid.specs.Coefficient.{raisedOn, marks}
 use Rattle.grid.proofs.Levels.{higher-cons, higher-empty}
-use Rattle.grid.proofs.Turns.{raising, raising-in}
+use Rattle.grid.proofs.LoopSteps.{raising, raising-in}
 use Rattle.area.specs.declared.IndexRecord.{IndexRecord}
-use Rattle.area.specs.declared.Found.the-variants.{At, Nothing}
+use Rattle.area.specs.declared.LookupResult.the-variants.{At, NotFound}
 use Rattle.area.specs.Records.{levelsOf}
-use Rattle.area.specs.Lookup.{foundIn}
+use Rattle.area.specs.Lookup.{lookupIn}
 use Rattle.area.specs.Encoding.{none, placeFrom, placeOf}
-use Rattle.area.proofs.Founds.{found-from, place-le}
+use Rattle.area.proofs.LookupPlaces.{found-from, place-le}
 use Rattle.quadrature.specs.Readings.{recordAt, placeIn}
 use Rattle.quadrature.specs.Linked.{Linked}
 use Rattle.quadrature.proofs.Places.{place-levels, place-inside, below-none, higher-append}
@@ -68,8 +68,8 @@ module _ (rs : List IndexRecord) (k : List ℕ) (few : length rs ≤ 512) where
   unfolding none
   room = omega arith
 
-  pub found-place : placeIn rs k < length rs → foundIn rs k ≡ At (placeIn rs k)
-  unfolding foundIn placeOf none
+  pub found-place : placeIn rs k < length rs → lookupIn rs k ≡ At (placeIn rs k)
+  unfolding lookupIn placeOf none
   found-place h = found-from 0 rs k room ∙ rw (lt-leb 4294967295 (placeFrom 0 (levelsOf rs) k) (omega arith))
 
   -- a place is that of a record or none
@@ -81,12 +81,12 @@ module _ (rs : List IndexRecord) (k : List ℕ) (few : length rs ≤ 512) where
       step (yes h) = absurd (f (place-inside rs k h))
       step (no h) = omega (arith, place-le 0 rs k room)
 
-  pub found-nothing : (placeIn rs k < length rs → ⊥) → foundIn rs k ≡ Nothing
-  unfolding foundIn placeOf
+  pub found-nothing : (placeIn rs k < length rs → ⊥) → lookupIn rs k ≡ NotFound
+  unfolding lookupIn placeOf
   found-nothing f = found-from 0 rs k room ∙ rw (not-held f, le-leb none none (NatL.le-refl none))
 
   -- what an answer of the lookup says
-  pub found-at : (q : ℕ) → foundIn rs k ≡ At q → (placeIn rs k ≡ q) × (q < length rs)
+  pub found-at : (q : ℕ) → lookupIn rs k ≡ At q → (placeIn rs k ≡ q) × (q < length rs)
   found-at q e = step (decLt (placeIn rs k) (length rs))
     where
       step : Dec (placeIn rs k < length rs) → (placeIn rs k ≡ q) × (q < length rs)
@@ -95,13 +95,13 @@ module _ (rs : List IndexRecord) (k : List ℕ) (few : length rs ≤ 512) where
           let z : placeIn rs k ≡ q = cc in
           (z, subst (λ x. x < length rs) z h)
       step (no h) =
-          let f : Nothing ≡ At q = sym (found-nothing h) ∙ e in
+          let f : NotFound ≡ At q = sym (found-nothing h) ∙ e in
           let z : _≡_ {A = ℕ} 0 1 = cc in
           absurd (omega arith)
 
-  pub found-none : foundIn rs k ≡ Nothing → placeIn rs k < length rs → ⊥
+  pub found-none : lookupIn rs k ≡ NotFound → placeIn rs k < length rs → ⊥
   found-none e h =
-      let f : At (placeIn rs k) ≡ Nothing = sym (found-place h) ∙ e in
+      let f : At (placeIn rs k) ≡ NotFound = sym (found-place h) ∙ e in
       let z : _≡_ {A = ℕ} 0 1 = cc in
       omega arith
 
@@ -162,7 +162,7 @@ module _ {d : ℕ} {rs : List IndexRecord} (linked : Linked d rs) (p : ℕ) (ins
         at-512 h e = subst (λ x. x < 512) (sym e ∙ linked .ahead p a inside b) (NatL.lt-of-lt-of-le h (linked .few))
 
     -- it names none: nothing above is held
-    pub step-none : (q : ℕ) → getD (recordAt rs p .links) a 0 ≡ q → length rs ≤ q → foundIn rs (raising levels m a) ≡ Nothing
+    pub step-none : (q : ℕ) → getD (recordAt rs p .links) a 0 ≡ q → length rs ≤ q → lookupIn rs (raising levels m a) ≡ NotFound
     step-none q e h = found-nothing rs (raising levels m a) (linked .few) (λ held. not-held-here (below held))
       where
         not-held-here : placeIn rs raised < length rs → ⊥

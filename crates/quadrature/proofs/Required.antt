@@ -8,7 +8,7 @@ use Prim.Native.Nat.{ℕ, zero, suc, _+_, _<_, _≤_}
 use native.Mathlib.Omega.{arith}
 use lib.IntN.{ℤ}
 use lib.ListN.{length, getD}
-use Rattle.sums.specs.Lists.{tab}
+use Rattle.sums.specs.Lists.{tabulate}
 use Rattle.grid.specs.Index.{level, root, forward, lower, inFront, NowhereHigher}
 use Rattle.grid.specs.Block.{blockSize}
 use Rattle.grid.specs.Coefficient.{sameLevels}
@@ -21,7 +21,7 @@ use Rattle.area.specs.declared.Settings.{Settings}
 use Rattle.area.specs.Records.{levelsOf}
 use Rattle.area.specs.Entry.{indicesOf}
 use Rattle.area.specs.Encoding.{placeFrom, placeOf, linksOf, encoded, encodedFrom, recordsFor, storeFor}
-use Rattle.quadrature.specs.Readings.{recordAt, placeIn, fetched}
+use Rattle.quadrature.specs.Readings.{recordAt, placeIn, storedReading}
 use Rattle.quadrature.specs.Ready.{Ready, AllReady}
 use Rattle.quadrature.specs.Linked.{Linked}
 use Rattle.quadrature.specs.Facts.{rootAlone, RequiredFacts}
@@ -51,7 +51,7 @@ module _ (g : Settings) (d : ℕ) (few : d ≤ 8) (x : ℤ) where
 
   -- no forward neighbour is held, and the links say so
   ahead-at : (a : ℕ) → a < 8 → getD (recordAt rs 0 .links) a 0 ≡ placeIn rs (forward root a)
-  unfolding recordsFor encodedFrom encoded rootAlone levelsOf placeOf placeFrom root sameLevels linksOf tab forward indicesOf
+  unfolding recordsFor encodedFrom encoded rootAlone levelsOf placeOf placeFrom root sameLevels linksOf tabulate forward indicesOf
   ahead-at zero h = refl
   ahead-at (suc zero) h = refl
   ahead-at (suc (suc zero)) h = refl
@@ -65,8 +65,8 @@ module _ (g : Settings) (d : ℕ) (few : d ≤ 8) (x : ℤ) where
   at-root : (C : List ℕ → Type 0) → C root → (l : List ℕ) → NowhereHigher l root → C l
   at-root C y l h = subst C (sym (only-root l h)) y
 
-  read : fetched rs s root 0 ≡ x
-  unfolding fetched recordsFor encodedFrom encoded rootAlone levelsOf placeOf placeFrom root sameLevels storeFor
+  read : storedReading rs s root 0 ≡ x
+  unfolding storedReading recordsFor encodedFrom encoded rootAlone levelsOf placeOf placeFrom root sameLevels storeFor
   read = refl
 
   room-at : recordAt rs (placeIn rs root) .first + blockSize root ≤ length s
@@ -85,8 +85,8 @@ module _ (g : Settings) (d : ℕ) (few : d ≤ 8) (x : ℤ) where
   unfolding root
   eight-root = refl
 
-  in-range : IsReading x → (n : ℕ) → n < blockSize root → IsReading (fetched rs s root n)
-  in-range small n h = subst (λ m. IsReading (fetched rs s root m)) (sym zero-is) (subst IsReading (sym read) small)
+  in-range : IsReading x → (n : ℕ) → n < blockSize root → IsReading (storedReading rs s root n)
+  in-range small n h = subst (λ m. IsReading (storedReading rs s root m)) (sym zero-is) (subst IsReading (sym read) small)
     where
       zero-is : n ≡ 0
       zero-is = omega (arith, size-one)
@@ -102,7 +102,7 @@ module _ (g : Settings) (d : ℕ) (few : d ≤ 8) (x : ℤ) where
         found = at-root (λ l. placeIn rs l < 512) (omega (arith, root-at));
         delivered = at-root (λ l. 1 ≤ recordAt rs (placeIn rs l) .state) state-at;
         room = at-root (λ l. recordAt rs (placeIn rs l) .first + blockSize l ≤ length s) room-at;
-        range = λ l n h q. at-root (λ m. (i : ℕ) → i < blockSize m → IsReading (fetched rs s m i)) (in-range small) l h n q;
+        range = λ l n h q. at-root (λ m. (i : ℕ) → i < blockSize m → IsReading (storedReading rs s m i)) (in-range small) l h n q;
         ahead = λ l a b h f.
             at-root (λ m. getD (recordAt rs (placeIn rs m) .links) a 0 ≡ placeIn rs (forward m a)) (ap (λ p. getD (recordAt rs p .links) a 0) root-at ∙ ahead-at a b) l h;
       }

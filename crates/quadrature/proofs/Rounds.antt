@@ -16,19 +16,19 @@ use Rattle.grid.specs.Difference.{Readings, units, behind}
 use Rattle.grid.specs.Tensor.{tensorSum}
 use Rattle.grid.specs.Terms.{InRange}
 use Rattle.grid.proofs.Levels.{Levels, within-levels}
-use Rattle.grid.proofs.Turns.{levels-drop}
+use Rattle.grid.proofs.LoopSteps.{levels-drop}
 use Rattle.area.specs.declared.IndexRecord.{IndexRecord}
-use Rattle.quadrature.specs.Readings.{recordAt, placeIn, fetched}
-use Rattle.quadrature.specs.Ready.{Ready, Stands}
+use Rattle.quadrature.specs.Readings.{recordAt, placeIn, storedReading}
+use Rattle.quadrature.specs.Ready.{Ready, WalkInvariant}
 use Rattle.quadrature.specs.Parts.{left, leftAt, tensorDone}
 use Rattle.quadrature.proofs.Walks.{behind-left}
-use Rattle.quadrature.proofs.Standing.{link-is, stands-higher, level-higher, left-higher, take-next, stands-further, left-range, rank-in}
+use Rattle.quadrature.proofs.WalkInvariants.{link-is, invariant-higher, level-higher, left-higher, take-next, invariant-further, left-range, rank-in}
 use Rattle.quadrature.proofs.Steps.{axis-of, count-small}
 use Rattle.quadrature.proofs.Tensors.{done-start, done-point, done-level, done-all, done-size, next-size, units-room}
 
 -- at a level: the record at `at` stands there, before the same readings as the one at which the loop began
 pub record At (rs : List IndexRecord) (s : List ℤ) (k : List ℕ) (axis place rank l point at : ℕ) : Type 0 where
-  pub stands : Stands rs k axis at rank
+  pub invariant : WalkInvariant rs k axis at rank
   pub here : level (recordAt rs at .levels) axis ≡ l
   pub same : leftAt rs s axis at rank ≡ leftAt rs s axis place rank
   pub points : point ≤ newCount l
@@ -49,19 +49,19 @@ module _ {d : ℕ} {rs : List IndexRecord} {s : List ℤ} {k : List ℕ} (ready 
   inside : axis < length k
   inside = omega (arith, ready .axes, ready .eight)
 
-  pub round-start : {place rank top total : ℕ} → Stands rs k axis place rank → level (recordAt rs place .levels) axis ≡ 1 → top ≡ level k axis → toZ w64 total ≡ pos 0
+  pub round-start : {place rank top total : ℕ} → WalkInvariant rs k axis place rank → level (recordAt rs place .levels) axis ≡ 1 → top ≡ level k axis → toZ w64 total ≡ pos 0
       → Round rs s k axis place rank top total 1 0 place
   round-start {place} {rank} {top} st e t z =
       record {
         low = omega arith;
         high = omega arith;
         is-top = t;
-        on = λ h. record { stands = st; here = e; same = refl; points = zero-le };
+        on = λ h. record { invariant = st; here = e; same = refl; points = zero-le };
         past = λ h. refl;
         sum = z ∙ sym (done-start top (drop (axis + 1) k) (leftAt rs s axis place rank));
       }
 
-  module _ {place rank top total l point at : ℕ} (st : Stands rs k axis place rank) (round : Round rs s k axis place rank top total l point at) where
+  module _ {place rank top total l point at : ℕ} (st : WalkInvariant rs k axis place rank) (round : Round rs s k axis place rank top total l point at) where
     abbrev Q : Readings
     Q = leftAt rs s axis place rank
 
@@ -93,8 +93,8 @@ module _ {d : ℕ} {rs : List IndexRecord} {s : List ℤ} {k : List ℕ} (ready 
       abbrev levels : List ℕ
       levels = recordAt rs at .levels
 
-      stands-at : Stands rs k axis at rank
-      stands-at = round .on up .stands
+      invariant-at : WalkInvariant rs k axis at rank
+      invariant-at = round .on up .invariant
 
       level-at : level levels axis ≡ l
       level-at = round .on up .here
@@ -108,22 +108,22 @@ module _ {d : ℕ} {rs : List IndexRecord} {s : List ℤ} {k : List ℕ} (ready 
       -- ---- at a point
 
       module _ (more : point < newCount l) where
-        pub further : Stands rs k (axis + 1) at (rank * newCount l + point)
+        pub further : WalkInvariant rs k (axis + 1) at (rank * newCount l + point)
         further =
-            subst (λ x. Stands rs k (axis + 1) at (rank * newCount x + point)) level-at
-            (stands-further ready stands-at below-eight point (subst (λ x. point < newCount x) (sym level-at) more))
+            subst (λ x. WalkInvariant rs k (axis + 1) at (rank * newCount x + point)) level-at
+            (invariant-further ready invariant-at below-eight point (subst (λ x. point < newCount x) (sym level-at) more))
 
         pub rank-small : rank * newCount l + point < length s
         rank-small = rank-in ready further
 
         pub next-one : axis + 1 < d → level levels (axis + 1) ≡ 1
-        next-one h = stands-at .ones (axis + 1) (omega arith) (omega (arith, ready .axes))
+        next-one h = invariant-at .ones (axis + 1) (omega arith) (omega (arith, ready .axes))
 
         -- the readings left below the point
         pub further-left : leftAt rs s (axis + 1) at (rank * newCount l + point) ≡ behind Q l point
         further-left =
-            sym (ap (λ q. behind q l point) (sym (round .on up .same)) ∙ behind-left (fetched rs s) (take axis levels) rank l point
-            ∙ ap (λ m. left (fetched rs s) m (rank * newCount l + point)) (ap (λ x. take axis levels ++ (x ∷ [])) (sym level-at) ∙ sym (take-next ready stands-at below-eight)))
+            sym (ap (λ q. behind q l point) (sym (round .on up .same)) ∙ behind-left (storedReading rs s) (take axis levels) rank l point
+            ∙ ap (λ m. left (storedReading rs s) m (rank * newCount l + point)) (ap (λ x. take axis levels ++ (x ∷ [])) (sym level-at) ∙ sym (take-next ready invariant-at below-eight)))
 
         abbrev term : ℤ
         term = wholeWeight top l *ℤ tensorSum ks (behind Q l point)
@@ -143,7 +143,7 @@ module _ {d : ℕ} {rs : List IndexRecord} {s : List ℤ} {k : List ℕ} (ready 
               low = round .low;
               high = round .high;
               is-top = round .is-top;
-              on = λ h. record { stands = stands-at; here = level-at; same = round .on up .same; points = omega arith };
+              on = λ h. record { invariant = invariant-at; here = level-at; same = round .on up .same; points = omega arith };
               past = λ h. absurd (omega arith);
               sum = e;
             }
@@ -163,7 +163,7 @@ module _ {d : ℕ} {rs : List IndexRecord} {s : List ℤ} {k : List ℕ} (ready 
               low = omega arith;
               high = omega arith;
               is-top = round .is-top;
-              on = λ q. subst (λ p. At rs s k axis place rank (l + 1) 0 p) (sym (e ∙ link-is ready stands-at below-eight under)) higher;
+              on = λ q. subst (λ p. At rs s k axis place rank (l + 1) 0 p) (sym (e ∙ link-is ready invariant-at below-eight under)) higher;
               past = λ q. refl;
               sum = sum-full;
             }
@@ -174,9 +174,9 @@ module _ {d : ℕ} {rs : List IndexRecord} {s : List ℤ} {k : List ℕ} (ready 
             higher : At rs s k axis place rank (l + 1) 0 (placeIn rs (forward levels axis))
             higher =
                 record {
-                  stands = stands-higher ready stands-at below-eight under;
-                  here = level-higher ready stands-at below-eight under ∙ ap (λ x. x + 1) level-at;
-                  same = left-higher ready stands-at below-eight under ∙ round .on up .same;
+                  invariant = invariant-higher ready invariant-at below-eight under;
+                  here = level-higher ready invariant-at below-eight under ∙ ap (λ x. x + 1) level-at;
+                  same = left-higher ready invariant-at below-eight under ∙ round .on up .same;
                   points = zero-le;
                 }
 

@@ -23,7 +23,7 @@ use Rattle.grid.specs.Index.{level}
 use Rattle.grid.specs.Difference.{Readings, units, behind, differenceWalk}
 use Rattle.grid.specs.Terms.{InRange}
 use Rattle.grid.proofs.Levels.{Levels}
-use Rattle.grid.proofs.Turns.{count-pos, levels-drop}
+use Rattle.grid.proofs.LoopSteps.{count-pos, levels-drop}
 use Rattle.quadrature.specs.Parts.{pointsLeft, levelsLeft, walkLeft}
 use Rattle.quadrature.proofs.Walks.{points-step, points-none, levels-step, levels-none, walk-here, some-sizes, points-size, levels-size}
 

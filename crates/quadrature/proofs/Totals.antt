@@ -20,7 +20,7 @@ use Rattle.grid.specs.Cross.{crossTotal}
 use Rattle.grid.proofs.Differences.{difference-size, tensor-size}
 use Rattle.area.specs.declared.IndexRecord.{IndexRecord}
 use Rattle.area.specs.Records.{blank}
-use Rattle.quadrature.specs.Readings.{recordAt, fetched}
+use Rattle.quadrature.specs.Readings.{recordAt, storedReading}
 use Rattle.quadrature.specs.Ready.{Ready, AllReady}
 use Rattle.quadrature.specs.Linked.{deliveredIn}
 use Rattle.quadrature.specs.Parts.{deliveredDifference, combinedRule}
@@ -44,14 +44,14 @@ sum-places g (suc n) (r ∷ rs) h =
     step false {later} e = e ∙ sym (+ℤ-idl later)
 
 pub mean-places : (n : ℕ) (rs : List IndexRecord) (s : List ℤ) → n ≤ length rs
-    → scaledMean (deliveredIn (take n rs)) (fetched rs s) ≡ sumTo n (deliveredDifference rs s)
+    → scaledMean (deliveredIn (take n rs)) (storedReading rs s) ≡ sumTo n (deliveredDifference rs s)
 unfolding scaledMean deliveredDifference
-mean-places n rs s h = sum-places (λ k. scaledDifference k (fetched rs s)) n rs h
+mean-places n rs s h = sum-places (λ k. scaledDifference k (storedReading rs s)) n rs h
 
 pub cross-places : (n : ℕ) (rs : List IndexRecord) (s : List ℤ) → n ≤ length rs
-    → crossTotal (deliveredIn (take n rs)) (fetched rs s) ≡ sumTo n (combinedRule (take n rs) rs s)
+    → crossTotal (deliveredIn (take n rs)) (storedReading rs s) ≡ sumTo n (combinedRule (take n rs) rs s)
 unfolding crossTotal combinedRule
-cross-places n rs s h = sum-places (λ k. coefficient (deliveredIn (take n rs)) k *ℤ tensorRule k (fetched rs s)) n rs h
+cross-places n rs s h = sum-places (λ k. coefficient (deliveredIn (take n rs)) k *ℤ tensorRule k (storedReading rs s)) n rs h
 
 -- a coefficient is of size at most 2^8, a full tensor rule of size at most 2^40
 pub product-size : (a b : ℤ) → natAbs a ≤ 256 → natAbs b ≤ 2 ^ 40 → natAbs (a *ℤ b) ≤ 2 ^ 48
@@ -66,22 +66,22 @@ module _ (d n : ℕ) (rs : List IndexRecord) (s : List ℤ) (all : AllReady d n 
       subst (Ready d rs s) (ap (λ (r : IndexRecord). r .levels) (sym e) ∙ x .levels) (all .ready (x .place) inside (subst (λ (r : IndexRecord). 1 ≤ r .state) e (x .delivered)))
 
   -- in size at most 2^40 for each delivered index
-  pub mean-size : natAbs (scaledMean (deliveredIn (take n rs)) (fetched rs s)) ≤ length (deliveredIn (take n rs)) * 2 ^ 40
+  pub mean-size : natAbs (scaledMean (deliveredIn (take n rs)) (storedReading rs s)) ≤ length (deliveredIn (take n rs)) * 2 ^ 40
   unfolding scaledMean
-  mean-size = abs-sumOf (deliveredIn (take n rs)) (λ k. scaledDifference k (fetched rs s)) (2 ^ 40) each
+  mean-size = abs-sumOf (deliveredIn (take n rs)) (λ k. scaledDifference k (storedReading rs s)) (2 ^ 40) each
     where
-      each : (k : List ℕ) → List·Memᴰ k (deliveredIn (take n rs)) → natAbs (scaledDifference k (fetched rs s)) ≤ 2 ^ 40
+      each : (k : List ℕ) → List·Memᴰ k (deliveredIn (take n rs)) → natAbs (scaledDifference k (storedReading rs s)) ≤ 2 ^ 40
       each k m =
           let ready = ready-at k m in
-          difference-size k (fetched rs s) (ready .eight) (ready .ceilings) (ready .range)
+          difference-size k (storedReading rs s) (ready .eight) (ready .ceilings) (ready .range)
 
   -- and at most 2^48
-  pub cross-size : natAbs (crossTotal (deliveredIn (take n rs)) (fetched rs s)) ≤ length (deliveredIn (take n rs)) * 2 ^ 48
+  pub cross-size : natAbs (crossTotal (deliveredIn (take n rs)) (storedReading rs s)) ≤ length (deliveredIn (take n rs)) * 2 ^ 48
   unfolding crossTotal
-  cross-size = abs-sumOf (deliveredIn (take n rs)) (λ k. coefficient (deliveredIn (take n rs)) k *ℤ tensorRule k (fetched rs s)) (2 ^ 48) each
+  cross-size = abs-sumOf (deliveredIn (take n rs)) (λ k. coefficient (deliveredIn (take n rs)) k *ℤ tensorRule k (storedReading rs s)) (2 ^ 48) each
     where
-      each : (k : List ℕ) → List·Memᴰ k (deliveredIn (take n rs)) → natAbs (coefficient (deliveredIn (take n rs)) k *ℤ tensorRule k (fetched rs s)) ≤ 2 ^ 48
+      each : (k : List ℕ) → List·Memᴰ k (deliveredIn (take n rs)) → natAbs (coefficient (deliveredIn (take n rs)) k *ℤ tensorRule k (storedReading rs s)) ≤ 2 ^ 48
       each k m =
           let ready = ready-at k m in
-          product-size (coefficient (deliveredIn (take n rs)) k) (tensorRule k (fetched rs s)) (coefficient-size (take n rs) k (ready .eight))
-          (tensor-size k (fetched rs s) (ready .eight) (ready .ceilings) (ready .range))
+          product-size (coefficient (deliveredIn (take n rs)) k) (tensorRule k (storedReading rs s)) (coefficient-size (take n rs) k (ready .eight))
+          (tensor-size k (storedReading rs s) (ready .eight) (ready .ceilings) (ready .range))

@@ -13,7 +13,7 @@ use Rattle.area.specs.Records.{recordsOf, heldIn}
 use Rattle.area.specs.declared.Settings.{Settings}
 use Rattle.area.specs.Entry.{Entry, deliveredOf, readingIn}
 use Rattle.area.specs.Encoding.{areaOf, entriesOf, recordsFor, storeFor}
-use Rattle.quadrature.specs.Readings.{fetched}
+use Rattle.quadrature.specs.Readings.{storedReading}
 use Rattle.quadrature.specs.Ready.{Ready, AllReady}
 use Rattle.quadrature.specs.Linked.{deliveredIn, Linked}
 
@@ -24,19 +24,19 @@ pub record EntryFacts (j : JobRecord) (c : List ℕ) (s : List ℤ) : Type 0 whe
   -- the delivered indices are those of the entries
   pub delivered : deliveredIn (heldIn c (j .held)) ≡ deliveredOf (entriesOf (areaOf j c s))
   -- the readings of an index that is ready, and of all nowhere higher, are those of the entries
-  pub readings : (d : ℕ) (k : List ℕ) → Ready d (heldIn c (j .held)) s k → Agree k (fetched (recordsOf c) s) (readingIn (entriesOf (areaOf j c s)))
+  pub readings : (d : ℕ) (k : List ℕ) → Ready d (heldIn c (j .held)) s k → Agree k (storedReading (recordsOf c) s) (readingIn (entriesOf (areaOf j c s)))
   -- so its difference and its full tensor rule are those of the entries' readings
   pub difference : (d : ℕ) (k : List ℕ) → Ready d (heldIn c (j .held)) s k
-      → scaledDifference k (fetched (recordsOf c) s) ≡ scaledDifference k (readingIn (entriesOf (areaOf j c s)))
+      → scaledDifference k (storedReading (recordsOf c) s) ≡ scaledDifference k (readingIn (entriesOf (areaOf j c s)))
   pub tensor : (d : ℕ) (k : List ℕ) → Ready d (heldIn c (j .held)) s k
-      → tensorRule k (fetched (recordsOf c) s) ≡ tensorRule k (readingIn (entriesOf (areaOf j c s)))
+      → tensorRule k (storedReading (recordsOf c) s) ≡ tensorRule k (readingIn (entriesOf (areaOf j c s)))
   -- and the sum of differences is the scaled mean of the entries
   pub mean : (d : ℕ) → ((k : List ℕ) → List·Memᴰ k (deliveredIn (heldIn c (j .held))) → Ready d (heldIn c (j .held)) s k)
-      → scaledMean (deliveredIn (heldIn c (j .held))) (fetched (recordsOf c) s)
+      → scaledMean (deliveredIn (heldIn c (j .held))) (storedReading (recordsOf c) s)
       ≡ scaledMean (deliveredOf (entriesOf (areaOf j c s))) (readingIn (entriesOf (areaOf j c s)))
   -- and the sum of coefficient times full tensor rule is the cross total of the entries
   pub cross : (d : ℕ) → ((k : List ℕ) → List·Memᴰ k (deliveredIn (heldIn c (j .held))) → Ready d (heldIn c (j .held)) s k)
-      → crossTotal (deliveredIn (heldIn c (j .held))) (fetched (recordsOf c) s)
+      → crossTotal (deliveredIn (heldIn c (j .held))) (storedReading (recordsOf c) s)
       ≡ crossTotal (deliveredOf (entriesOf (areaOf j c s))) (readingIn (entriesOf (areaOf j c s)))
 
 -- The entries of a job whose root is delivered, and nothing else is held.

@@ -15,7 +15,7 @@ use Rattle.grid.specs.Difference.{Readings, behind, differenceWalk, scaledDiffe
 use Rattle.grid.specs.Tensor.{tensorSum, tensorRule}
 use Rattle.grid.specs.Coefficient.{coefficient}
 use Rattle.area.specs.declared.IndexRecord.{IndexRecord}
-use Rattle.quadrature.specs.Readings.{recordAt, fetched}
+use Rattle.quadrature.specs.Readings.{recordAt, storedReading}
 use Rattle.quadrature.specs.Linked.{deliveredIn}
 
 -- The readings that are left to the axes from here on, once the axes passed stand at these levels and at a point of this rank.
@@ -24,7 +24,7 @@ left R passed rank = λ ls n. R (passed ++ ls) (rank * blockSize ls + n)
 
 -- The same, where the record at a place stands.
 abbrev pub leftAt : List IndexRecord → List ℤ → ℕ → ℕ → ℕ → Readings
-leftAt rs s axis place rank = left (fetched rs s) (take axis (recordAt rs place .levels)) rank
+leftAt rs s axis place rank = left (storedReading rs s) (take axis (recordAt rs place .levels)) rank
 
 -- The new points of a level from `point` on, `n` of them; below each the axes ks.
 unfoldable pub pointsLeft : ℕ → ℕ → ℕ → List ℕ → Readings → ℤ
@@ -51,10 +51,10 @@ tensorDone top l point ks R =
 
 -- What the record at a place adds to the sum of differences: its difference once it is delivered.
 unfoldable pub deliveredDifference : List IndexRecord → List ℤ → ℕ → ℤ
-deliveredDifference rs s p = cond (leb 1 (recordAt rs p .state)) (scaledDifference (recordAt rs p .levels) (fetched rs s)) (pos 0)
+deliveredDifference rs s p = cond (leb 1 (recordAt rs p .state)) (scaledDifference (recordAt rs p .levels) (storedReading rs s)) (pos 0)
 
 -- What the record at a place adds to the cross total: its full tensor rule times its coefficient over the delivered among the held
 -- records hs, once it is delivered.
 unfoldable pub combinedRule : List IndexRecord → List IndexRecord → List ℤ → ℕ → ℤ
 combinedRule hs rs s p =
-    cond (leb 1 (recordAt rs p .state)) (coefficient (deliveredIn hs) (recordAt rs p .levels) *ℤ tensorRule (recordAt rs p .levels) (fetched rs s)) (pos 0)
+    cond (leb 1 (recordAt rs p .state)) (coefficient (deliveredIn hs) (recordAt rs p .levels) *ℤ tensorRule (recordAt rs p .levels) (storedReading rs s)) (pos 0)

@@ -17,5 +17,5 @@ abbrev pub placeIn : List IndexRecord → List ℕ → ℕ
 placeIn rs k = placeOf (levelsOf rs) k
 
 -- The n-th reading of an index: the index is looked up, and the point's number is added to its first reading.
-unfoldable pub fetched : List IndexRecord → List ℤ → Readings
-fetched rs s k n = getD s (recordAt rs (placeIn rs k) .first + n) (pos 0)
+unfoldable pub storedReading : List IndexRecord → List ℤ → Readings
+storedReading rs s k n = getD s (recordAt rs (placeIn rs k) .first + n) (pos 0)

@@ -8,7 +8,7 @@ use Rattle.grid.specs.Index.{level, Within, root, forward, NowhereHigher}
 use Rattle.grid.specs.Block.{blockSize}
 use Rattle.grid.specs.Terms.{IsReading}
 use Rattle.area.specs.declared.IndexRecord.{IndexRecord}
-use Rattle.quadrature.specs.Readings.{recordAt, placeIn, fetched}
+use Rattle.quadrature.specs.Readings.{recordAt, placeIn, storedReading}
 
 -- k is an index of d axes, at most 8; every index nowhere higher is found at a place below 512 and delivered, its block lies in the
 -- store with readings in range, and the forward links between such indices name their places; the root is at place 0.
@@ -21,13 +21,13 @@ pub record Ready (d : ℕ) (rs : List IndexRecord) (s : List ℤ) (k : List ℕ)
   pub found : (l : List ℕ) → NowhereHigher l k → placeIn rs l < 512
   pub delivered : (l : List ℕ) → NowhereHigher l k → 1 ≤ recordAt rs (placeIn rs l) .state
   pub room : (l : List ℕ) → NowhereHigher l k → recordAt rs (placeIn rs l) .first + blockSize l ≤ length s
-  pub range : (l : List ℕ) (n : ℕ) → NowhereHigher l k → n < blockSize l → IsReading (fetched rs s l n)
+  pub range : (l : List ℕ) (n : ℕ) → NowhereHigher l k → n < blockSize l → IsReading (storedReading rs s l n)
   pub ahead : (l : List ℕ) (a : ℕ) → a < 8 → NowhereHigher l k → NowhereHigher (forward l a) k
       → getD (recordAt rs (placeIn rs l) .links) a 0 ≡ placeIn rs (forward l a)
 
 -- Where a walk stands at an axis: the record at the place is nowhere higher than k and at level 1 on the later axes; the rank is
 -- that of a point of the axes passed.
-pub record Stands (rs : List IndexRecord) (k : List ℕ) (axis place rank : ℕ) : Type 0 where
+pub record WalkInvariant (rs : List IndexRecord) (k : List ℕ) (axis place rank : ℕ) : Type 0 where
   pub inside : place < 512
   pub own : placeIn rs (recordAt rs place .levels) ≡ place
   pub lower : NowhereHigher (recordAt rs place .levels) k

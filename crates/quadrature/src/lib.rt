@@ -14,14 +14,14 @@ ghost use Rattle.grid.specs.Tensor.{tensorSum, tensorRule};
 ghost use Rattle.grid.specs.Coefficient.{raisedOn, marks, coefficient as coefficientOf};
 ghost use Rattle.grid.specs.Cross.{crossTotal};
 ghost use Rattle.area.specs.Records.{recordsOf, heldIn};
-ghost use Rattle.area.specs.Lookup.{foundIn};
-ghost use Rattle.quadrature.specs.Readings.{recordAt, fetched};
-ghost use Rattle.quadrature.specs.Ready.{Ready, Stands, AllReady};
+ghost use Rattle.area.specs.Lookup.{lookupIn};
+ghost use Rattle.quadrature.specs.Readings.{recordAt, storedReading};
+ghost use Rattle.quadrature.specs.Ready.{Ready, WalkInvariant, AllReady};
 ghost use Rattle.quadrature.specs.Linked.{deliveredIn, subsetTerm, Linked};
 ghost use Rattle.quadrature.specs.Parts.{leftAt, pointsLeft, walkLeft, deliveredDifference, combinedRule};
 
 // The reading with a rank in the block of the record at a place, times a weight.
-fn weighed_reading(place: usize, rank: usize, weight: i64, cells: &[u32], store: &[i32]) -> i64
+fn weighted_reading(place: usize, rank: usize, weight: i64, cells: &[u32], store: &[i32]) -> i64
     requires { ⌜ (place < length (recordsOf (now cells))) × (recordAt (recordsOf (now cells)) place .first + rank < length (now store)) ⌝ }
     requires { ⌜ (natAbs weight ≤ 2 ^ 20) × IsReading (getD (now store) (recordAt (recordsOf (now cells)) place .first + rank) (pos 0)) ⌝ }
     ensures { λ r. ⌜ r ≡ weight *ℤ getD (now (store .entry)) (recordAt (recordsOf (now (cells .entry))) place .first + rank) (pos 0) ⌝ }
@@ -44,7 +44,7 @@ fn level_walk(
     cells: &[u32],
     store: &[i32],
 ) -> i64
-    requires { ⌜ Ready axes (recordsOf (now cells)) (now store) (now target) × Stands (recordsOf (now cells)) (now target) axis place rank ⌝ }
+    requires { ⌜ Ready axes (recordsOf (now cells)) (now store) (now target) × WalkInvariant (recordsOf (now cells)) (now target) axis place rank ⌝ }
     requires { ⌜ (axis ≤ axes) × (axis < axes → level ≡ levelOf (recordAt (recordsOf (now cells)) place .levels) axis) ⌝ }
     requires { ⌜ natAbs weight * 2 ^ units (drop axis (now target)) ≤ 2 ^ 20 ⌝ }
     ensures { λ r. ⌜ r ≡ weight *ℤ walkLeft axes (now (target .entry)) axis level (leftAt (recordsOf (now (cells .entry))) (now (store .entry)) axis place rank) ⌝ }
@@ -85,7 +85,7 @@ fn level_walk(
             here
         }
     } else {
-        weighed_reading(place, rank, weight, cells, store)
+        weighted_reading(place, rank, weight, cells, store)
     }
 }
 
@@ -103,7 +103,7 @@ fn point_walk(
     cells: &[u32],
     store: &[i32],
 ) -> i64
-    requires { ⌜ Ready axes (recordsOf (now cells)) (now store) (now target) × Stands (recordsOf (now cells)) (now target) axis place rank ⌝ }
+    requires { ⌜ Ready axes (recordsOf (now cells)) (now store) (now target) × WalkInvariant (recordsOf (now cells)) (now target) axis place rank ⌝ }
     requires { ⌜ (axis < axes) × (level ≡ levelOf (recordAt (recordsOf (now cells)) place .levels) axis) × (point < newCount level) ⌝ }
     requires { ⌜ natAbs weight * newCount level * 2 ^ units (drop (axis + 1) (now target)) ≤ 2 ^ 20 ⌝ }
     ensures { λ r. ⌜ r ≡ weight *ℤ pointsLeft (newCount level - point) point level (drop (axis + 1) (now (target .entry))) (leftAt (recordsOf (now (cells .entry))) (now (store .entry)) axis place rank) ⌝ }
@@ -170,7 +170,7 @@ fn scaled(target: [u32; 8], sum: i64) -> i64
 // The difference of an index, times 2^20.
 pub fn scaled_difference(axes: usize, target: [u32; 8], cells: &[u32], store: &[i32]) -> i64
     requires { ⌜ Ready axes (recordsOf (now cells)) (now store) target ⌝ }
-    ensures is { λ r. ⌜ r ≡ scaledDifference target (fetched (recordsOf (now (cells .entry))) (now (store .entry))) ⌝ }
+    ensures is { λ r. ⌜ r ≡ scaledDifference target (storedReading (recordsOf (now (cells .entry))) (now (store .entry))) ⌝ }
     ensures small { λ r. ⌜ natAbs r ≤ 2 ^ 40 ⌝ }
 {
     let sum = level_walk(axes, &target, 0, 1, 0, 0, 1, cells, store);
@@ -187,12 +187,12 @@ fn tensor_sum(
     cells: &[u32],
     store: &[i32],
 ) -> i64
-    requires { ⌜ Ready axes (recordsOf (now cells)) (now store) target × Stands (recordsOf (now cells)) target axis place rank ⌝ }
+    requires { ⌜ Ready axes (recordsOf (now cells)) (now store) target × WalkInvariant (recordsOf (now cells)) target axis place rank ⌝ }
     requires { ⌜ (axis ≤ axes) × (axis < axes → levelOf (recordAt (recordsOf (now cells)) place .levels) axis ≡ 1) ⌝ }
     ensures { λ r. ⌜ r ≡ tensorSum (drop axis target) (leftAt (recordsOf (now (cells .entry))) (now (store .entry)) axis place rank) ⌝ }
 {
     if axes <= axis {
-        return weighed_reading(place, rank, 1, cells, store);
+        return weighted_reading(place, rank, 1, cells, store);
     }
     let top = target[axis];
     let mut total: i64 = 0;
@@ -227,7 +227,7 @@ fn tensor_sum(
 // The full tensor rule of an index, times 2^20.
 pub fn tensor_rule(axes: usize, target: [u32; 8], cells: &[u32], store: &[i32]) -> i64
     requires { ⌜ Ready axes (recordsOf (now cells)) (now store) target ⌝ }
-    ensures is { λ r. ⌜ r ≡ tensorRule target (fetched (recordsOf (now (cells .entry))) (now (store .entry))) ⌝ }
+    ensures is { λ r. ⌜ r ≡ tensorRule target (storedReading (recordsOf (now (cells .entry))) (now (store .entry))) ⌝ }
     ensures small { λ r. ⌜ natAbs r ≤ 2 ^ 40 ⌝ }
 {
     let sum = tensor_sum(axes, target, 0, 0, 0, cells, store);
@@ -235,9 +235,15 @@ pub fn tensor_rule(axes: usize, target: [u32; 8], cells: &[u32], store: &[i32]) 
 }
 
 // The place of the index raised by one on a subset of the axes, found along forward links.
-fn raised_place(axes: usize, held: usize, place: usize, mask: u8, cells: &[u32]) -> area::Found
+fn raised_place(
+    axes: usize,
+    held: usize,
+    place: usize,
+    mask: u8,
+    cells: &[u32],
+) -> area::LookupResult
     requires { ⌜ Linked axes (heldIn (now cells) held) × (held * 27 ≤ length (now cells)) × (place < held) × (mask < 2 ^ axes) ⌝ }
-    ensures { λ r. ⌜ r ≡ foundIn (heldIn (now (cells .entry)) held) (raisedOn (recordAt (heldIn (now (cells .entry)) held) place .levels) (marks 8 mask)) ⌝ }
+    ensures { λ r. ⌜ r ≡ lookupIn (heldIn (now (cells .entry)) held) (raisedOn (recordAt (heldIn (now (cells .entry)) held) place .levels) (marks 8 mask)) ⌝ }
 {
     let mut at = place;
     let mut axis: usize = 0;
@@ -245,13 +251,13 @@ fn raised_place(axes: usize, held: usize, place: usize, mask: u8, cells: &[u32])
         if (mask >> axis) & 1 == 1 {
             let next = area::link_at(cells, at, axis) as usize;
             if held <= next {
-                return area::Found::Nothing;
+                return area::LookupResult::NotFound;
             }
             at = next;
         }
         axis += 1;
     }
-    area::Found::At(at)
+    area::LookupResult::At(at)
 }
 
 // +1 for an even and -1 for an odd subset where the index raised on it is delivered, else 0.
@@ -260,14 +266,14 @@ fn subset_term(axes: usize, held: usize, place: usize, mask: u8, cells: &[u32]) 
     ensures { λ r. ⌜ r ≡ subsetTerm (heldIn (now (cells .entry)) held) (recordAt (heldIn (now (cells .entry)) held) place .levels) mask ⌝ }
 {
     match raised_place(axes, held, place, mask, cells) {
-        area::Found::At(at) => {
+        area::LookupResult::At(at) => {
             if area::state_at(cells, at) == area::WANTED {
                 0
             } else {
                 grid::subset_sign(mask)
             }
         }
-        area::Found::Nothing => 0,
+        area::LookupResult::NotFound => 0,
     }
 }
 
@@ -303,7 +309,7 @@ fn delivered_difference(axes: usize, place: usize, cells: &[u32], store: &[i32])
 // The sum of the differences of the delivered indices among the held, times 2^20.
 pub fn difference_total(axes: usize, held: usize, cells: &[u32], store: &[i32]) -> i64
     requires { ⌜ AllReady axes held (recordsOf (now cells)) (now store) ⌝ }
-    ensures is { λ r. ⌜ r ≡ scaledMean (deliveredIn (heldIn (now (cells .entry)) held)) (fetched (recordsOf (now (cells .entry))) (now (store .entry))) ⌝ }
+    ensures is { λ r. ⌜ r ≡ scaledMean (deliveredIn (heldIn (now (cells .entry)) held)) (storedReading (recordsOf (now (cells .entry))) (now (store .entry))) ⌝ }
     ensures small { λ r. ⌜ natAbs r ≤ length (deliveredIn (heldIn (now (cells .entry)) held)) * 2 ^ 40 ⌝ }
 {
     let mut total: i64 = 0;
@@ -334,7 +340,7 @@ fn combined_rule(axes: usize, held: usize, place: usize, cells: &[u32], store: &
 // The sum over the delivered indices among the held of coefficient times full tensor rule, times 2^20.
 pub fn combination_sum(axes: usize, held: usize, cells: &[u32], store: &[i32]) -> i64
     requires { ⌜ AllReady axes held (recordsOf (now cells)) (now store) × Linked axes (heldIn (now cells) held) ⌝ }
-    ensures is { λ r. ⌜ r ≡ crossTotal (deliveredIn (heldIn (now (cells .entry)) held)) (fetched (recordsOf (now (cells .entry))) (now (store .entry))) ⌝ }
+    ensures is { λ r. ⌜ r ≡ crossTotal (deliveredIn (heldIn (now (cells .entry)) held)) (storedReading (recordsOf (now (cells .entry))) (now (store .entry))) ⌝ }
     ensures small { λ r. ⌜ natAbs r ≤ length (deliveredIn (heldIn (now (cells .entry)) held)) * 2 ^ 48 ⌝ }
 {
     let mut total: i64 = 0;

@@ -28,8 +28,8 @@ use Rattle.area.proofs.JobRecord.Laws as J′
 use Rattle.area.proofs.Settings as G
 use Rattle.area.proofs.Settings.Laws as G′
 use Rattle.records.specs.declared.Flat.{Flat}
-use Rattle.records.specs.Lent.{lesser, front}
-use Rattle.records.proofs.Overs.{lesser-left, lesser-right}
+use Rattle.records.specs.Lent.{min, front}
+use Rattle.records.proofs.Overs.{min-left, min-right}
 use Rattle.records.proofs.flatten as flatten
 
 abbrev pub R : RattleType
@@ -49,13 +49,13 @@ machG g = LL.val G.the-type G′.the-laws g
 
 -- what `flatten` gives of the records ys
 abbrev pub Flattens : Flat → List IndexRecord → Type 0
-Flattens f ys = (f .count ≡ lesser (length ys) 512) × (front (f .count) (f .words) ≡ take (f .count) ys)
+Flattens f ys = (f .count ≡ min (length ys) 512) × (front (f .count) (f .words) ≡ take (f .count) ys)
 
 pub within : (f : Flat) (ys : List IndexRecord) → Flattens f ys → f .count ≤ length ys
-within f ys e = subst (λ (m : ℕ). m ≤ length ys) (sym (e .0)) (lesser-left (length ys) 512)
+within f ys e = subst (λ (m : ℕ). m ≤ length ys) (sym (e .0)) (min-left (length ys) 512)
 
 pub small : (f : Flat) (ys : List IndexRecord) → Flattens f ys → f .count ≤ 512
-small f ys e = subst (λ (m : ℕ). m ≤ 512) (sym (e .0)) (lesser-right (length ys) 512)
+small f ys e = subst (λ (m : ℕ). m ≤ 512) (sym (e .0)) (min-right (length ys) 512)
 
 module _ {M : Type 1} (𝓤 : URA M) (H : Heap 𝓤) (A : Atoms 𝓤) (mem : Memory → SProp 𝓤) (run : Routine → Fun 𝓤) where
   abbrev pub Flatten : Contract 𝓤

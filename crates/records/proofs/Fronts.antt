@@ -13,7 +13,7 @@ use lib.Seq.{take-append-le, drop-append-le, length-take-le}
 use Rattle.area.specs.declared.Settings.{Settings}
 use Rattle.area.specs.declared.IndexRecord.{IndexRecord}
 use Rattle.area.specs.Encoding.{Area, heldOf, entryOf, entriesOf, recordsFor, runWith, machineOf, written}
-use Rattle.soundness.specs.Clauses.{isSound, heldLentClause, wantedLastClause, wantedIdleClause, firstReadingsClause, readingsClause, numbersClause}
+use Rattle.soundness.specs.Clauses.{isSound, heldLentClause, wantedLastClause, wantedIndicatorZeroClause, firstReadingsClause, readingsClause, numbersClause}
 use Rattle.soundness.proofs.Clauses.{clause-facts}
 use Rattle.area.specs.Log.{Machine}
 use Rattle.machine.specs.Causes.{short}
@@ -66,7 +66,7 @@ module _ (a : Area) (more : List IndexRecord) (room : 512 ≤ length (a .run .re
     machine-same = ap {B = Machine} (λ es. record { log = record { settings = a .job .settings; entries = es }; mean = a .job .mean }) entries-same
 
     pub sound-few : isSound a⁺ ≡ isSound a
-    unfolding isSound heldLentClause wantedLastClause wantedIdleClause firstReadingsClause readingsClause numbersClause
+    unfolding isSound heldLentClause wantedLastClause wantedIndicatorZeroClause firstReadingsClause readingsClause numbersClause
     sound-few =
         rw (le-leb (a .job .held) (length (rs ++ more)) (omega (arith, within, length-append rs more)), le-leb (a .job .held) (length rs) within, entries-same, held-same)
 

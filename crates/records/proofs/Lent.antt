@@ -14,25 +14,25 @@ use Rattle.area.specs.declared.IndexRecord.{IndexRecord}
 use Rattle.area.specs.declared.JobRecord.{JobRecord}
 use Rattle.area.specs.Records.{recordsOf}
 use Rattle.area.specs.Encoding.{Area}
-use Rattle.calls.specs.declared.Answered.{Answered}
+use Rattle.calls.specs.declared.CallOutput.{CallOutput}
 use Rattle.calls.specs.Table.{Call}
-use Rattle.calls.specs.Calls.{Called, callOn}
-use Rattle.records.specs.Lent.{areaOn, calledOn, lesser, over, front}
+use Rattle.calls.specs.Calls.{CallResult, callOn}
+use Rattle.records.specs.Lent.{areaOn, callResultOn, min, over, front}
 use Rattle.records.proofs.Orders.{less-or}
 use Rattle.records.proofs.Longer.{call-longer}
-use Rattle.records.specs.Facts.{longer, calledLonger}
+use Rattle.records.specs.Facts.{longer, callResultLonger}
 
-lesser-few : (m n : ℕ) → m < n → lesser m n ≡ m
-unfolding lesser
-lesser-few m n h = rw (lt-ltb m n h)
+min-few : (m n : ℕ) → m < n → min m n ≡ m
+unfolding min
+min-few m n h = rw (lt-ltb m n h)
 
-lesser-many : (m n : ℕ) → n ≤ m → lesser m n ≡ n
-unfolding lesser
-lesser-many m n h = rw (le-ltb m n h)
+min-many : (m n : ℕ) → n ≤ m → min m n ≡ n
+unfolding min
+min-many m n h = rw (le-ltb m n h)
 
 module _ (j : JobRecord) (rs : List IndexRecord) (s : List ℤ) where
   abbrev n : ℕ
-  n = lesser (length rs) 512
+  n = min (length rs) 512
 
   abbrev all : Area
   all = areaOn j rs s
@@ -50,35 +50,35 @@ module _ (j : JobRecord) (rs : List IndexRecord) (s : List ℤ) where
   pub front-answers : {X : Type 0} (f : Area → X) → ((a : Area) (more : List IndexRecord) → 512 ≤ length (a .run .records) → f (longer a more) ≡ f a) → f (part n) ≡ f all
   front-answers f same =
       elim (less-or (length rs) 512) [
-        | inl h ↦ (ap (λ (k : ℕ). f (part k)) (lesser-few (length rs) 512 h) ∙ ap (λ (l : List IndexRecord). f (areaOn j l s)) (take-length rs))
-        | inr h ↦ (ap (λ (k : ℕ). f (part k)) (lesser-many (length rs) 512 h) ∙ sym (same (part 512) (drop 512 rs) (room h)) ∙ ap f (whole 512))
+        | inl h ↦ (ap (λ (k : ℕ). f (part k)) (min-few (length rs) 512 h) ∙ ap (λ (l : List IndexRecord). f (areaOn j l s)) (take-length rs))
+        | inr h ↦ (ap (λ (k : ℕ). f (part k)) (min-many (length rs) 512 h) ∙ sym (same (part 512) (drop 512 rs) (room h)) ∙ ap f (whole 512))
       ]
 
   pub front-answer : (c : Call) → callOn (part n) c .answer ≡ callOn all c .answer
-  front-answer c = front-answers (λ (a : Area). callOn a c .answer) (λ a more h. ap (λ (x : Called). x .answer) (call-longer a more h c))
+  front-answer c = front-answers (λ (a : Area). callOn a c .answer) (λ a more h. ap (λ (x : CallResult). x .answer) (call-longer a more h c))
 
   -- what also writes
-  unlonger : (x : Called) → calledLonger x [] ≡ x
-  unlonger x = ap {B = Called} (λ (l : List IndexRecord). record { answer = x .answer; area = record { job = x .area .job; run = record { records = l; rest = x .area .run .rest }; store = x .area .store } }) (append-nil (x .area .run .records))
+  unlonger : (x : CallResult) → callResultLonger x [] ≡ x
+  unlonger x = ap {B = CallResult} (λ (l : List IndexRecord). record { answer = x .answer; area = record { job = x .area .job; run = record { records = l; rest = x .area .run .rest }; store = x .area .store } }) (append-nil (x .area .run .records))
 
-  front-calls : (c : Call) → calledLonger (callOn (part n) c) (drop n rs) ≡ callOn all c
+  front-calls : (c : Call) → callResultLonger (callOn (part n) c) (drop n rs) ≡ callOn all c
   front-calls c =
       elim (less-or (length rs) 512) [
-        | inl h ↦ (ap (λ (k : ℕ). calledLonger (callOn (part k) c) (drop k rs)) (lesser-few (length rs) 512 h)
-            ∙ ap (λ (l : List IndexRecord). calledLonger (callOn (areaOn j l s) c) (drop (length rs) rs)) (take-length rs)
-            ∙ ap (λ (l : List IndexRecord). calledLonger (callOn all c) l) (drop-length rs)
+        | inl h ↦ (ap (λ (k : ℕ). callResultLonger (callOn (part k) c) (drop k rs)) (min-few (length rs) 512 h)
+            ∙ ap (λ (l : List IndexRecord). callResultLonger (callOn (areaOn j l s) c) (drop (length rs) rs)) (take-length rs)
+            ∙ ap (λ (l : List IndexRecord). callResultLonger (callOn all c) l) (drop-length rs)
             ∙ unlonger (callOn all c))
-        | inr h ↦ (ap (λ (k : ℕ). calledLonger (callOn (part k) c) (drop k rs)) (lesser-many (length rs) 512 h)
+        | inr h ↦ (ap (λ (k : ℕ). callResultLonger (callOn (part k) c) (drop k rs)) (min-many (length rs) 512 h)
             ∙ sym (call-longer (part 512) (drop 512 rs) (room h) c)
             ∙ ap (λ (a : Area). callOn a c) (whole 512))
       ]
 
   -- the front's records go back over the lent ones
-  pub front-leaves : (c : Call) (r : Answered) (w : List ℕ) (t : List ℤ) (l : List IndexRecord) (k : ℕ) → k ≡ n
-      → calledOn r (front k w) t ≡ callOn (part k) c → l ≡ over k (recordsOf w) rs → calledOn r l t ≡ callOn all c
+  pub front-leaves : (c : Call) (r : CallOutput) (w : List ℕ) (t : List ℤ) (l : List IndexRecord) (k : ℕ) → k ≡ n
+      → callResultOn r (front k w) t ≡ callOn (part k) c → l ≡ over k (recordsOf w) rs → callResultOn r l t ≡ callOn all c
   unfolding over front
   front-leaves c r w t l k e called put =
-      ap (λ (x : List IndexRecord). calledOn r x t) put
-      ∙ ap (λ (x : Called). calledLonger x (drop k rs)) called
-      ∙ ap (λ (m : ℕ). calledLonger (callOn (part m) c) (drop m rs)) e
+      ap (λ (x : List IndexRecord). callResultOn r x t) put
+      ∙ ap (λ (x : CallResult). callResultLonger x (drop k rs)) called
+      ∙ ap (λ (m : ℕ). callResultLonger (callOn (part m) c) (drop m rs)) e
       ∙ front-calls c

@@ -24,10 +24,10 @@ use Rattle.machine.specs.Steps as steps
 use Rattle.machine.specs.Causes.{Lengths, firstCause, short, startCauses}
 use Rattle.calls.specs.Replies.{verdict, lengthsOf}
 use Rattle.calls.specs.Table.{Call, start, point, deliver, promote, result, crossTotal, check, Effect, leaves, becomes, promotionEffect, JobRow, onJob, answer, row, causesOf, effectOf, fitting, acceptedAnswer, refusal}
-use Rattle.calls.specs.Calls.{Called, areaAfter, refusalOn, callOn}
-use Rattle.calls.proofs.Ways.{taken, turned, either, call-refuses}
-use Rattle.calls.proofs.Told.{check-answer}
-use Rattle.records.specs.Facts.{longer, calledLonger}
+use Rattle.calls.specs.Calls.{CallResult, areaAfter, refusalOn, callOn}
+use Rattle.calls.proofs.CauseCases.{acceptedCall, refusedCall, either, call-refuses}
+use Rattle.calls.proofs.ResultValues.{check-answer}
+use Rattle.records.specs.Facts.{longer, callResultLonger}
 use Rattle.records.proofs.Orders.{less-or}
 use Rattle.records.proofs.Fronts.{many-unsound, short-same, machine-same, sound-few, entries-few, sound-same, written-longer}
 
@@ -42,14 +42,14 @@ refuses false e = omega (arith, e)
 
 module _ (a : Area) (many : 512 < a .job .held) (c : Call) (r : JobRow) (is : row c ≡ onJob r) where
   abbrev number : ℕ
-  number = three-four (cond (r .narrow (a .job .settings)) true (short (lengthsOf a) (a .job .settings)))
+  number = three-four (cond (r .bufferShort (a .job .settings)) true (short (lengthsOf a) (a .job .settings)))
 
   number-is : number ≡ refusalOn a c
   unfolding refusal causesOf firstCause machineOf
   number-is = rw (is, many-unsound a many) refl
 
-  many-refused : callOn a c ≡ turned a c number
-  many-refused = sym (call-refuses a c number number-is (refuses (cond (r .narrow (a .job .settings)) true (short (lengthsOf a) (a .job .settings)))))
+  many-refused : callOn a c ≡ refusedCall a c number
+  many-refused = sym (call-refuses a c number number-is (refuses (cond (r .bufferShort (a .job .settings)) true (short (lengthsOf a) (a .job .settings)))))
 
 -- ---- a state that a call comes to has at most 512 entries
 
@@ -117,10 +117,10 @@ module _ (a : Area) (more : List IndexRecord) (room : 512 ≤ length (a .run .re
   after-longer (becomes n) h = written-longer a more room n h
 
   -- refused or not
-  either-longer : (c : Call) (n : ℕ) (x y : Called) → y ≡ calledLonger x more → cond (eqb n 0) y (turned a⁺ c n) ≡ calledLonger (cond (eqb n 0) x (turned a c n)) more
+  either-longer : (c : Call) (n : ℕ) (x y : CallResult) → y ≡ callResultLonger x more → cond (eqb n 0) y (refusedCall a⁺ c n) ≡ callResultLonger (cond (eqb n 0) x (refusedCall a c n)) more
   either-longer c n x y e = go (eqb n 0)
     where
-      go : (t : Bool) → cond t y (turned a⁺ c n) ≡ calledLonger (cond t x (turned a c n)) more
+      go : (t : Bool) → cond t y (refusedCall a⁺ c n) ≡ callResultLonger (cond t x (refusedCall a c n)) more
       go true = e
       go false = refl
 
@@ -130,16 +130,16 @@ module _ (a : Area) (more : List IndexRecord) (room : 512 ≤ length (a .run .re
   unfolding refusal causesOf row startCauses
   start-cause g = rw (short-same a more room g)
 
-  start-taken : (g : Settings) → taken a⁺ (start g) ≡ calledLonger (taken a (start g)) more
+  start-taken : (g : Settings) → acceptedCall a⁺ (start g) ≡ callResultLonger (acceptedCall a (start g)) more
   unfolding acceptedAnswer effectOf row
-  start-taken g = ap {B = Called} (λ (x : Area). record { answer = taken a (start g) .answer; area = x }) (after-longer (effectOf (machineOf a) (row (start g))) (unfold steps.started in omega arith))
+  start-taken g = ap {B = CallResult} (λ (x : Area). record { answer = acceptedCall a (start g) .answer; area = x }) (after-longer (effectOf (machineOf a) (row (start g))) (unfold steps.started in omega arith))
 
-  start-longer : (g : Settings) → callOn a⁺ (start g) ≡ calledLonger (callOn a (start g)) more
+  start-longer : (g : Settings) → callOn a⁺ (start g) ≡ callResultLonger (callOn a (start g)) more
   start-longer g =
       either a⁺ (start g)
-      ∙ ap (λ n. cond (eqb n 0) (taken a⁺ (start g)) (turned a⁺ (start g) n)) (start-cause g)
-      ∙ either-longer (start g) (refusalOn a (start g)) (taken a (start g)) (taken a⁺ (start g)) (start-taken g)
-      ∙ ap (λ (x : Called). calledLonger x more) (sym (either a (start g)))
+      ∙ ap (λ n. cond (eqb n 0) (acceptedCall a⁺ (start g)) (refusedCall a⁺ (start g) n)) (start-cause g)
+      ∙ either-longer (start g) (refusalOn a (start g)) (acceptedCall a (start g)) (acceptedCall a⁺ (start g)) (start-taken g)
+      ∙ ap (λ (x : CallResult). callResultLonger x more) (sym (either a (start g)))
 
   pub checked-longer : checked a⁺ ≡ checked a
   unfolding checked
@@ -147,20 +147,20 @@ module _ (a : Area) (more : List IndexRecord) (room : 512 ≤ length (a .run .re
       let h : 512 ≤ length (a⁺ .run .records) = omega (arith, room, length-append (a .run .records) more) in
       rw (le-leb 512 (length (a⁺ .run .records)) h, le-leb 512 (length (a .run .records)) room, sound-same a more room)
 
-  check-longer : callOn a⁺ check ≡ calledLonger (callOn a check) more
+  check-longer : callOn a⁺ check ≡ callResultLonger (callOn a check) more
   check-longer =
       check-answer a⁺
-      ∙ ap {B = Called} (λ (t : Bool). record { answer = answer (verdict t); area = a⁺ }) checked-longer
-      ∙ ap (λ (x : Called). calledLonger x more) (sym (check-answer a))
+      ∙ ap {B = CallResult} (λ (t : Bool). record { answer = answer (verdict t); area = a⁺ }) checked-longer
+      ∙ ap (λ (x : CallResult). callResultLonger x more) (sym (check-answer a))
 
   -- ---- a call on a job
 
   module _ (c : Call) (r : JobRow) (is : row c ≡ onJob r) where
-    many-longer : 512 < a .job .held → callOn a⁺ c ≡ calledLonger (callOn a c) more
+    many-longer : 512 < a .job .held → callOn a⁺ c ≡ callResultLonger (callOn a c) more
     many-longer h =
         many-refused a⁺ h c r is
-        ∙ ap {B = Called} (λ t. turned a⁺ c (three-four (cond (r .narrow (a .job .settings)) true t))) (short-same a more room (a .job .settings))
-        ∙ ap (λ (x : Called). calledLonger x more) (sym (many-refused a h c r is))
+        ∙ ap {B = CallResult} (λ t. refusedCall a⁺ c (three-four (cond (r .bufferShort (a .job .settings)) true t))) (short-same a more room (a .job .settings))
+        ∙ ap (λ (x : CallResult). callResultLonger x more) (sym (many-refused a h c r is))
 
     module _ (h : a .job .held ≤ 512) where
       few : length (machineOf a .log .entries) ≤ 512
@@ -175,22 +175,22 @@ module _ (a : Area) (more : List IndexRecord) (room : 512 ≤ length (a .run .re
       unfolding acceptedAnswer
       same-answer = rw (is, machine-same a more room h) refl
 
-      next : taken a⁺ c ≡ calledLonger (taken a c) more
+      next : acceptedCall a⁺ c ≡ callResultLonger (acceptedCall a c) more
       next =
           (λ i. record { answer = same-answer i; area = areaAfter a⁺ (effectOf (machine-same a more room h i) (row c)) })
-          ∙ ap {B = Called} (λ (x : Area). record { answer = taken a c .answer; area = x }) (after-longer (effectOf (machineOf a) (row c)) (effect-few (machineOf a) few c))
+          ∙ ap {B = CallResult} (λ (x : Area). record { answer = acceptedCall a c .answer; area = x }) (after-longer (effectOf (machineOf a) (row c)) (effect-few (machineOf a) few c))
 
-      few-longer : callOn a⁺ c ≡ calledLonger (callOn a c) more
+      few-longer : callOn a⁺ c ≡ callResultLonger (callOn a c) more
       few-longer =
           either a⁺ c
-          ∙ ap (λ n. cond (eqb n 0) (taken a⁺ c) (turned a⁺ c n)) same-cause
-          ∙ either-longer c (refusalOn a c) (taken a c) (taken a⁺ c) next
-          ∙ ap (λ (x : Called). calledLonger x more) (sym (either a c))
+          ∙ ap (λ n. cond (eqb n 0) (acceptedCall a⁺ c) (refusedCall a⁺ c n)) same-cause
+          ∙ either-longer c (refusalOn a c) (acceptedCall a c) (acceptedCall a⁺ c) next
+          ∙ ap (λ (x : CallResult). callResultLonger x more) (sym (either a c))
 
-    job-longer : callOn a⁺ c ≡ calledLonger (callOn a c) more
+    job-longer : callOn a⁺ c ≡ callResultLonger (callOn a c) more
     job-longer = elim (less-or 512 (a .job .held)) [ inl h ↦ many-longer h | inr h ↦ few-longer h ]
 
-  pub call-longer : (c : Call) → callOn a⁺ c ≡ calledLonger (callOn a c) more
+  pub call-longer : (c : Call) → callOn a⁺ c ≡ callResultLonger (callOn a c) more
   unfolding row
   call-longer (start g) = start-longer g
   call-longer (point n buffer) = job-longer (point n buffer) _ refl

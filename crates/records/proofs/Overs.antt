@@ -14,7 +14,7 @@ use borrow.Author.Tests.{lt-ltb, le-ltb}
 use Rattle.area.specs.declared.IndexRecord.{IndexRecord}
 use Rattle.area.specs.Records.{Run, blank, recordsOf, runOf, stored}
 use Rattle.area.proofs.Records.{length-recordsOf}
-use Rattle.records.specs.Lent.{lesser, over, overRun, front}
+use Rattle.records.specs.Lent.{min, over, overRun, front}
 use Rattle.records.proofs.Orders.{less-or}
 
 module _ {A : Type 0} where
@@ -33,14 +33,14 @@ module _ {A : Type 0} where
   unfolding over
   over-length n xs ys hx hy = omega (arith, length-append (take n xs) (drop n ys), length-take-le n xs hx, length-drop n ys, hy)
 
--- ---- a turn that spreads a record into the cells
+-- ---- a turn that serializes a record into the cells
 
-pub spread-none : (rs : List IndexRecord) (c : List ℕ) → runOf c ≡ overRun 0 rs (runOf c)
-spread-none rs c = ap (λ (l : List IndexRecord). record { records = l; rest = runOf c .rest }) (sym (over-none rs (recordsOf c)))
+pub serialize-none : (rs : List IndexRecord) (c : List ℕ) → runOf c ≡ overRun 0 rs (runOf c)
+serialize-none rs c = ap (λ (l : List IndexRecord). record { records = l; rest = runOf c .rest }) (sym (over-none rs (recordsOf c)))
 
-pub spread-next : (rs : List IndexRecord) (c c′ c″ : List ℕ) (i n : ℕ) (r : IndexRecord) → i < n → n ≤ length rs → n * 27 ≤ length c
+pub serialize-next : (rs : List IndexRecord) (c c′ c″ : List ℕ) (i n : ℕ) (r : IndexRecord) → i < n → n ≤ length rs → n * 27 ≤ length c
     → runOf c′ ≡ overRun i rs (runOf c) → r ≡ getD rs i blank → runOf c″ ≡ stored (runOf c′) i r → runOf c″ ≡ overRun (i + 1) rs (runOf c)
-spread-next rs c c′ c″ i n r h hr hc e e₁ e₂ =
+serialize-next rs c c′ c″ i n r h hr hc e e₁ e₂ =
     let k : i < length (recordsOf c) = omega (arith, length-recordsOf c, h, hc) in
     e₂
     ∙ ap (λ (u : Run). stored u i r) e
@@ -49,9 +49,9 @@ spread-next rs c c′ c″ i n r h hr hc e e₁ e₂ =
 
 -- ---- a turn that writes a record back
 
-pub gather-next : (rs l l′ : List IndexRecord) (c : List ℕ) (i n : ℕ) (r : IndexRecord) → i < n → n ≤ length rs → n * 27 ≤ length c
+pub deserialize-next : (rs l l′ : List IndexRecord) (c : List ℕ) (i n : ℕ) (r : IndexRecord) → i < n → n ≤ length rs → n * 27 ≤ length c
     → l ≡ over i (recordsOf c) rs → r ≡ getD (recordsOf c) i blank → l′ ≡ set l i r → l′ ≡ over (i + 1) (recordsOf c) rs
-gather-next rs l l′ c i n r h hr hc e e₁ e₂ =
+deserialize-next rs l l′ c i n r h hr hc e e₁ e₂ =
     let k : i < length (recordsOf c) = omega (arith, length-recordsOf c, h, hc) in
     e₂
     ∙ ap (λ (z : List IndexRecord). set z i r) e
@@ -60,19 +60,19 @@ gather-next rs l l′ c i n r h hr hc e e₁ e₂ =
 
 -- ---- the records that the cells have room for
 
-pub lesser-left : (m n : ℕ) → lesser m n ≤ m
-unfolding lesser
-lesser-left m n = elim (less-or m n) [ inl h ↦ (rw (lt-ltb m n h) (le-refl m)) | inr h ↦ (rw (le-ltb m n h) h) ]
+pub min-left : (m n : ℕ) → min m n ≤ m
+unfolding min
+min-left m n = elim (less-or m n) [ inl h ↦ (rw (lt-ltb m n h) (le-refl m)) | inr h ↦ (rw (le-ltb m n h) h) ]
 
-pub lesser-right : (m n : ℕ) → lesser m n ≤ n
-unfolding lesser
-lesser-right m n = elim (less-or m n) [ inl h ↦ (rw (lt-ltb m n h) (le-of-lt h)) | inr h ↦ (rw (le-ltb m n h) (le-refl n)) ]
+pub min-right : (m n : ℕ) → min m n ≤ n
+unfolding min
+min-right m n = elim (less-or m n) [ inl h ↦ (rw (lt-ltb m n h) (le-of-lt h)) | inr h ↦ (rw (le-ltb m n h) (le-refl n)) ]
 
 pub over-front : {A : Type 0} (n : ℕ) (xs ys : List A) → n ≤ length xs → take n (over n xs ys) ≡ take n xs
 unfolding over
 over-front n xs ys h = take-at (take n xs) (drop n ys) n (length-take-le n xs h)
 
--- what the spread cells hold is the front of the records
+-- what the serialized cells hold is the front of the records
 pub flat-front : (rs : List IndexRecord) (n : ℕ) (c c′ : List ℕ) → n ≤ length rs → runOf c′ ≡ overRun n rs (runOf c) → front n c′ ≡ take n rs
 unfolding front
 flat-front rs n c c′ h e = ap (λ (u : Run). take n (u .records)) e ∙ over-front n rs (recordsOf c) h

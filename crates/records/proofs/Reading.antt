@@ -45,7 +45,7 @@ use Rattle.area.specs.declared.JobRecord.{JobRecord}
 use Rattle.area.proofs.JobRecord as J
 use Rattle.area.proofs.JobRecord.Laws as J′
 use Rattle.records.specs.declared.Flat.{Flat}
-use Rattle.records.specs.Lent.{lesser, front}
+use Rattle.records.specs.Lent.{min, front}
 use Rattle.records.proofs.Words.{F}
 use Rattle.records.proofs.Flattening.{R, JR, machJ, Flattens, small, Flatten, flatten-of}
 use Rattle.records.proofs.Flat as U
@@ -99,7 +99,7 @@ stayed Q = (stay-none (λ _. JR) yes, (stay-none-slice (0 ∷ []) tt (plain (λ 
 
 -- the answer on the front is the answer on all
 abbrev pub OnFront : (Q : RattleType) → Saying Q → Type 0
-OnFront Q Says = (r : Q .Denot) (j : JobRecord) (rs : List IndexRecord) (s : List ℤ) → Says r j (take (lesser (length rs) 512) rs) s → Says r j rs s
+OnFront Q Says = (r : Q .Denot) (j : JobRecord) (rs : List IndexRecord) (s : List ℤ) → Says r j (take (min (length rs) 512) rs) s → Says r j rs s
 
 module _ {M : Type 1} (𝓤 : URA M) (H : Heap 𝓤) (A : Atoms 𝓤) (mem : Memory → SProp 𝓤) (run : Routine → Fun 𝓤) where
   -- the contract of the call on cells

@@ -1,5 +1,5 @@
 -- What the type of a record says of its lists: a record that is owned has eight levels and sixteen links. So records that a slice lends are
--- formed (crate `encoding`, `Formed`), whatever they hold.
+-- well-formed (crate `encoding`, `WellFormed`), whatever they hold.
 -- Assumes nothing.
 use mathlib.Core.Path.{_≡_}
 use mathlib.Core.List.{[], _∷_}
@@ -12,5 +12,5 @@ use Rattle.area.specs.declared.IndexRecord.{IndexRecord}
 use Rattle.area.proofs.IndexRecord as T
 use Rattle.area.proofs.IndexRecord.Laws as T′
 
-pub formed : (r : IndexRecord) (v : Val) → Is T.the-row r (v ∷ []) → (length (r .levels) ≡ 8) × (length (r .links) ≡ 16)
-formed r v is = let parts = LL.owed T.the-type T′.the-laws r _ is in (search needs, search needs)
+pub well-formed : (r : IndexRecord) (v : Val) → Is T.the-row r (v ∷ []) → (length (r .levels) ≡ 8) × (length (r .links) ≡ 16)
+well-formed r v is = let parts = LL.owed T.the-type T′.the-laws r _ is in (search needs, search needs)

@@ -30,14 +30,14 @@ use denote.Triple.Statement.{Contract}
 use denote.Triple.Spec.{tripleOf}
 use denote.Triple.Walked.{says}
 use Rattle.area.specs.declared.IndexRecord.{IndexRecord}
-use Rattle.calls.specs.declared.Answered.{Answered}
-use Rattle.calls.proofs.Answered as N
-use Rattle.calls.proofs.Answered.Laws as N′
+use Rattle.calls.specs.declared.CallOutput.{CallOutput}
+use Rattle.calls.proofs.CallOutput as N
+use Rattle.calls.proofs.CallOutput.Laws as N′
 use Rattle.records.specs.declared.Flat.{Flat}
-use Rattle.records.specs.declared.FlatCalled.{FlatCalled}
+use Rattle.records.specs.declared.FlatOutput.{FlatOutput}
 use Rattle.records.proofs.Words.{Words, machW}
 use Rattle.records.proofs.Flattening.{R, Flattens, within, small, Flatten}
-use Rattle.records.proofs.FlatCalled as K
+use Rattle.records.proofs.FlatOutput as K
 use Rattle.records.proofs.put_back as back
 
 -- what the call on cells gives, and the answer in it
@@ -47,7 +47,7 @@ D = K.the-row
 abbrev pub Q : RattleType
 Q = N.the-row
 
-abbrev pub machQ : Answered → Val
+abbrev pub machQ : CallOutput → Val
 machQ r = LL.val N.the-type N′.the-laws r
 
 module _ {M : Type 1} (𝓤 : URA M) (H : Heap 𝓤) (A : Atoms 𝓤) (mem : Memory → SProp 𝓤) (run : Routine → Fun 𝓤) where
@@ -78,10 +78,10 @@ module _ {M : Type 1} (𝓤 : URA M) (H : Heap 𝓤) (A : Atoms 𝓤) (W : Given
       nothing ! $ move ! (1 ∷ 0 ∷ []) $ join ! $ nothing ! $ move ! (2 ∷ 0 ∷ []) $ fjoin ! $ move ! (1 ∷ 0 ∷ []) $ join ! $ nothing ! $ move ! (1 ∷ 0 ∷ []) $ done !
 
   -- back with the words of a call on cells
-  abbrev pub to-back : Flat → FlatCalled → Back 𝓤 H A mem run .Ghost
+  abbrev pub to-back : Flat → FlatOutput → Back 𝓤 H A mem run .Ghost
   to-back f d = (((κ, tt), (q, tt), tt, (x γ, (f .count, (d .words, tt))), (s ∷ [], (vint w64 (f .count) ∷ [], (machW (d .words) ∷ [], tt)))), tt)
 
-  pub goes-back : (f : Flat) (d : FlatCalled) → f .count < 2 ^ 64 → Is Words (d .words) (machW (d .words) ∷ []) → Flattens f ys
+  pub goes-back : (f : Flat) (d : FlatOutput) → f .count < 2 ^ 64 → Is Words (d .words) (machW (d .words) ∷ []) → Flattens f ys
       → ent 𝓤 (sep 𝓤 (A .lft κ q) (sem 𝓤 H A Owned)) (Back 𝓤 H A mem run .pre (to-back f d))
   goes-back f d fits is e =
       qed W (‵ (flft κ q) ∷ ‵ Owned ∷ []) ∵ says ! (within f ys e, small f ys e) $ nothing ! $ move ! (1 ∷ 0 ∷ []) $ join ! $ frame ! $

@@ -10,22 +10,22 @@ use Rattle.area.specs.declared.IndexRecord.{IndexRecord}
 use Rattle.area.specs.declared.JobRecord.{JobRecord}
 use Rattle.area.specs.Records.{Run, recordsOf}
 use Rattle.area.specs.Encoding.{Area}
-use Rattle.calls.specs.declared.Answered.{Answered}
+use Rattle.calls.specs.declared.CallOutput.{CallOutput}
 use Rattle.calls.specs.Replies.{replyOf}
 use Rattle.calls.specs.Table.{answer}
-use Rattle.calls.specs.Calls.{Called}
+use Rattle.calls.specs.Calls.{CallResult}
 
 abbrev pub areaOn : JobRecord → List IndexRecord → List ℤ → Area
 areaOn j rs s = record { job = j; run = record { records = rs; rest = [] }; store = s }
 
 -- What a call leaves: its answer, and the area over the records as they are then.
-abbrev pub calledOn : Answered → List IndexRecord → List ℤ → Called
-calledOn r rs s = record { answer = answer (replyOf (r .answer)); area = areaOn (r .job) rs s }
+abbrev pub callResultOn : CallOutput → List IndexRecord → List ℤ → CallResult
+callResultOn r rs s = record { answer = answer (replyOf (r .answer)); area = areaOn (r .job) rs s }
 
 -- ---- for the functions between the records and the cells
 
-unfoldable pub lesser : ℕ → ℕ → ℕ
-lesser m n = cond (ltb m n) m n
+unfoldable pub min : ℕ → ℕ → ℕ
+min m n = cond (ltb m n) m n
 
 -- The first n of a list, over the front of another.
 unfoldable pub over : {A : Type 0} → ℕ → List A → List A → List A

@@ -1,14 +1,14 @@
-// The calls over a lent run of index record structs. Each spreads the records into cells, makes the call on the cells, and writes the
-// records back. A job holds at most 512 records, so no more are spread; a call never looks at the others or changes them.
+// The calls over a lent run of index record structs. Each serializes the records into cells, makes the call on the cells, and writes the
+// records back. A job holds at most 512 records, so no more are serialized; a call never looks at the others or changes them.
 ghost use mathlib.Core.Path.{_≡_};
 ghost use Prim.Native.Nat.{_*_, _<_, _≤_};
 ghost use lib.ListN.{length, getD, set, take};
 ghost use Rattle.area.specs.Records.{recordsOf, runOf, blank};
 ghost use Rattle.soundness.specs.Clauses.{checked};
-ghost use Rattle.calls.specs.Replies.{replyOf, resultedOf, totalledOf};
+ghost use Rattle.calls.specs.Replies.{replyOf, replyOfResult, replyOfTotal};
 ghost use Rattle.calls.specs.Table.{start, point, deliver, promote, result, crossTotal, answer};
 ghost use Rattle.calls.specs.Calls.{callOn};
-ghost use Rattle.records.specs.Lent.{areaOn, calledOn, lesser, over, overRun, front};
+ghost use Rattle.records.specs.Lent.{areaOn, callResultOn, min, over, overRun, front};
 
 // As many records as a job can hold.
 const MOST: usize = 512;
@@ -20,8 +20,8 @@ pub struct Flat {
 }
 
 // What a call on cells leaves: its answer, and the cells.
-pub struct FlatCalled {
-    pub answer: calls::Answered,
+pub struct FlatOutput {
+    pub answer: calls::CallOutput,
     pub words: [u32; 13824],
 }
 
@@ -46,7 +46,7 @@ fn store(records: &mut [area::IndexRecord], place: usize, index: area::IndexReco
 }
 
 // The first n records, into the cells.
-fn spread(records: &[area::IndexRecord], n: usize, cells: &mut [u32])
+fn serialize(records: &[area::IndexRecord], n: usize, cells: &mut [u32])
     requires { ⌜ (n ≤ length (now records)) × (n * 27 ≤ length (now cells)) ⌝ }
     ensures { λ r. ⌜ runOf (now (cells .exit)) ≡ overRun n (now (records .entry)) (runOf (now (cells .entry))) ⌝ }
 {
@@ -59,7 +59,7 @@ fn spread(records: &[area::IndexRecord], n: usize, cells: &mut [u32])
 }
 
 // The first n records of the cells, into the records.
-fn gather(records: &mut [area::IndexRecord], n: usize, cells: &[u32])
+fn deserialize(records: &mut [area::IndexRecord], n: usize, cells: &[u32])
     requires { ⌜ (n ≤ length (now records)) × (n * 27 ≤ length (now cells)) ⌝ }
     ensures { λ r. ⌜ now (records .exit) ≡ over n (recordsOf (now (cells .entry))) (now (records .entry)) ⌝ }
 {
@@ -72,7 +72,7 @@ fn gather(records: &mut [area::IndexRecord], n: usize, cells: &[u32])
 }
 
 fn capped(count: usize) -> usize
-    ensures { λ r. ⌜ r ≡ lesser count 512 ⌝ }
+    ensures { λ r. ⌜ r ≡ min count 512 ⌝ }
 {
     if count < MOST { count } else { MOST }
 }
@@ -83,11 +83,11 @@ fn no_words() -> [u32; 13824] {
 
 // The records as cells, no more than a job can hold.
 fn flatten(records: &[area::IndexRecord]) -> Flat
-    ensures { λ r. ⌜ (r .count ≡ lesser (length (now (records .entry))) 512) × (front (r .count) (r .words) ≡ take (r .count) (now (records .entry))) ⌝ }
+    ensures { λ r. ⌜ (r .count ≡ min (length (now (records .entry))) 512) × (front (r .count) (r .words) ≡ take (r .count) (now (records .entry))) ⌝ }
 {
     let n = capped(count(records));
     let mut words = no_words();
-    spread(records, n, &mut words);
+    serialize(records, n, &mut words);
     Flat { count: n, words }
 }
 
@@ -96,7 +96,7 @@ fn put_back(records: &mut [area::IndexRecord], n: usize, words: [u32; 13824])
     requires { ⌜ (n ≤ length (now records)) × (n ≤ 512) ⌝ }
     ensures { λ r. ⌜ now (records .exit) ≡ over n (recordsOf words) (now (records .entry)) ⌝ }
 {
-    gather(records, n, &words);
+    deserialize(records, n, &words);
 }
 
 // ---- the calls on records as cells
@@ -106,13 +106,13 @@ fn flat_start(
     settings: area::Settings,
     flat: Flat,
     store: &[i32],
-) -> FlatCalled
+) -> FlatOutput
     requires { ⌜ flat .count ≤ 512 ⌝ }
-    ensures { λ r. ⌜ calledOn (r .answer) (front (flat .count) (r .words)) (now (store .entry)) ≡ callOn (areaOn job (front (flat .count) (flat .words)) (now (store .entry))) (start settings) ⌝ }
+    ensures { λ r. ⌜ callResultOn (r .answer) (front (flat .count) (r .words)) (now (store .entry)) ≡ callOn (areaOn job (front (flat .count) (flat .words)) (now (store .entry))) (start settings) ⌝ }
 {
     let mut words = flat.words;
     let answer = calls::start(job, settings, &mut words[..flat.count * 27], store);
-    FlatCalled { answer, words }
+    FlatOutput { answer, words }
 }
 
 fn flat_point(
@@ -135,9 +135,9 @@ fn flat_deliver(
     indicator: u32,
     flat: Flat,
     store: &mut [i32],
-) -> FlatCalled
+) -> FlatOutput
     requires { ⌜ flat .count ≤ 512 ⌝ }
-    ensures { λ r. ⌜ calledOn (r .answer) (front (flat .count) (r .words)) (now (store .exit)) ≡ callOn (areaOn job (front (flat .count) (flat .words)) (now (store .entry))) (deliver (now (readings .entry)) indicator) ⌝ }
+    ensures { λ r. ⌜ callResultOn (r .answer) (front (flat .count) (r .words)) (now (store .exit)) ≡ callOn (areaOn job (front (flat .count) (flat .words)) (now (store .entry))) (deliver (now (readings .entry)) indicator) ⌝ }
 {
     let mut words = flat.words;
     let answer = calls::deliver(
@@ -147,29 +147,29 @@ fn flat_deliver(
         &mut words[..flat.count * 27],
         store,
     );
-    FlatCalled { answer, words }
+    FlatOutput { answer, words }
 }
 
-fn flat_promote(job: area::JobRecord, flat: Flat, store: &[i32]) -> FlatCalled
+fn flat_promote(job: area::JobRecord, flat: Flat, store: &[i32]) -> FlatOutput
     requires { ⌜ flat .count ≤ 512 ⌝ }
-    ensures { λ r. ⌜ calledOn (r .answer) (front (flat .count) (r .words)) (now (store .entry)) ≡ callOn (areaOn job (front (flat .count) (flat .words)) (now (store .entry))) promote ⌝ }
+    ensures { λ r. ⌜ callResultOn (r .answer) (front (flat .count) (r .words)) (now (store .entry)) ≡ callOn (areaOn job (front (flat .count) (flat .words)) (now (store .entry))) promote ⌝ }
 {
     let mut words = flat.words;
     let answer = calls::promote(job, &mut words[..flat.count * 27], store);
-    FlatCalled { answer, words }
+    FlatOutput { answer, words }
 }
 
-fn flat_result(job: area::JobRecord, flat: Flat, store: &[i32]) -> calls::Resulted
+fn flat_result(job: area::JobRecord, flat: Flat, store: &[i32]) -> calls::ResultAnswer
     requires { ⌜ flat .count ≤ 512 ⌝ }
-    ensures { λ r. ⌜ answer (resultedOf r) ≡ callOn (areaOn job (front (flat .count) (flat .words)) (now (store .entry))) result .answer ⌝ }
+    ensures { λ r. ⌜ answer (replyOfResult r) ≡ callOn (areaOn job (front (flat .count) (flat .words)) (now (store .entry))) result .answer ⌝ }
 {
     let words = flat.words;
     calls::result(job, &words[..flat.count * 27], store)
 }
 
-fn flat_cross_total(job: area::JobRecord, flat: Flat, store: &[i32]) -> calls::Totalled
+fn flat_cross_total(job: area::JobRecord, flat: Flat, store: &[i32]) -> calls::TotalAnswer
     requires { ⌜ flat .count ≤ 512 ⌝ }
-    ensures { λ r. ⌜ answer (totalledOf r) ≡ callOn (areaOn job (front (flat .count) (flat .words)) (now (store .entry))) crossTotal .answer ⌝ }
+    ensures { λ r. ⌜ answer (replyOfTotal r) ≡ callOn (areaOn job (front (flat .count) (flat .words)) (now (store .entry))) crossTotal .answer ⌝ }
 {
     let words = flat.words;
     calls::cross_total(job, &words[..flat.count * 27], store)
@@ -191,8 +191,8 @@ pub fn start(
     settings: area::Settings,
     records: &mut [area::IndexRecord],
     store: &[i32],
-) -> calls::Answered
-    ensures { λ r. ⌜ calledOn r (now (records .exit)) (now (store .entry)) ≡ callOn (areaOn job (now (records .entry)) (now (store .entry))) (start settings) ⌝ }
+) -> calls::CallOutput
+    ensures { λ r. ⌜ callResultOn r (now (records .exit)) (now (store .entry)) ≡ callOn (areaOn job (now (records .entry)) (now (store .entry))) (start settings) ⌝ }
 {
     let flat = flatten(records);
     let done = flat_start(job, settings, flat, store);
@@ -221,8 +221,8 @@ pub fn deliver(
     indicator: u32,
     records: &mut [area::IndexRecord],
     store: &mut [i32],
-) -> calls::Answered
-    ensures { λ r. ⌜ calledOn r (now (records .exit)) (now (store .exit)) ≡ callOn (areaOn job (now (records .entry)) (now (store .entry))) (deliver (now (readings .entry)) indicator) ⌝ }
+) -> calls::CallOutput
+    ensures { λ r. ⌜ callResultOn r (now (records .exit)) (now (store .exit)) ≡ callOn (areaOn job (now (records .entry)) (now (store .entry))) (deliver (now (readings .entry)) indicator) ⌝ }
 {
     let flat = flatten(records);
     let done = flat_deliver(job, readings, indicator, flat, store);
@@ -235,8 +235,8 @@ pub fn promote(
     job: area::JobRecord,
     records: &mut [area::IndexRecord],
     store: &[i32],
-) -> calls::Answered
-    ensures { λ r. ⌜ calledOn r (now (records .exit)) (now (store .entry)) ≡ callOn (areaOn job (now (records .entry)) (now (store .entry))) promote ⌝ }
+) -> calls::CallOutput
+    ensures { λ r. ⌜ callResultOn r (now (records .exit)) (now (store .entry)) ≡ callOn (areaOn job (now (records .entry)) (now (store .entry))) promote ⌝ }
 {
     let flat = flatten(records);
     let done = flat_promote(job, flat, store);
@@ -245,8 +245,12 @@ pub fn promote(
 }
 
 // The counts of the area.
-pub fn result(job: area::JobRecord, records: &[area::IndexRecord], store: &[i32]) -> calls::Resulted
-    ensures { λ r. ⌜ answer (resultedOf r) ≡ callOn (areaOn job (now (records .entry)) (now (store .entry))) result .answer ⌝ }
+pub fn result(
+    job: area::JobRecord,
+    records: &[area::IndexRecord],
+    store: &[i32],
+) -> calls::ResultAnswer
+    ensures { λ r. ⌜ answer (replyOfResult r) ≡ callOn (areaOn job (now (records .entry)) (now (store .entry))) result .answer ⌝ }
 {
     let flat = flatten(records);
     flat_result(job, flat, store)
@@ -257,8 +261,8 @@ pub fn cross_total(
     job: area::JobRecord,
     records: &[area::IndexRecord],
     store: &[i32],
-) -> calls::Totalled
-    ensures { λ r. ⌜ answer (totalledOf r) ≡ callOn (areaOn job (now (records .entry)) (now (store .entry))) crossTotal .answer ⌝ }
+) -> calls::TotalAnswer
+    ensures { λ r. ⌜ answer (replyOfTotal r) ≡ callOn (areaOn job (now (records .entry)) (now (store .entry))) crossTotal .answer ⌝ }
 {
     let flat = flatten(records);
     flat_cross_total(job, flat, store)

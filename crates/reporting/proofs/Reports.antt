@@ -6,16 +6,16 @@ use Prim.Native.Nat.{ℕ, _+_, _<_, _≤_}
 use native.Mathlib.Omega.{arith}
 use lib.ListN.{length, set, drop}
 use Rattle.reporting.specs.Decimal.{decimal}
-use Rattle.reporting.specs.Text.{feed, space, refusedWord, atWord, Figures, reportText, refusalText}
+use Rattle.reporting.specs.Text.{feed, space, refusedWord, atWord, ReportValues, reportText, refusalText}
 use Rattle.reporting.specs.Code.{Written, countLines, sumLines}
 use Rattle.reporting.proofs.Texts.{most, report-room, refusal-room}
 use Rattle.reporting.proofs.Writing.{kept, then, then-byte, from-start}
 
-parts : (f : Figures) → countLines f ++ sumLines f ≡ reportText f
+parts : (f : ReportValues) → countLines f ++ sumLines f ≡ reportText f
 unfolding countLines sumLines reportText
 parts f = simp append-assoc
 
-pub report-written : (f : Figures) {b₀ b₁ b₂ : List ℕ} {p q : ℕ} → 512 ≤ length b₀ → Written b₀ 0 (countLines f) b₁ p → Written b₁ p (sumLines f) b₂ q
+pub report-written : (f : ReportValues) {b₀ b₁ b₂ : List ℕ} {p q : ℕ} → 512 ≤ length b₀ → Written b₀ 0 (countLines f) b₁ p → Written b₁ p (sumLines f) b₂ q
     → (b₂ ≡ reportText f ++ drop (length (reportText f)) b₀) × (q ≡ length (reportText f))
 report-written f h w v = from-start (omega (arith, report-room f)) (rw (parts f) at (then w v))
 

@@ -7,7 +7,7 @@ use native.Mathlib.Omega.{arith}
 use lib.IntN.{ℤ, pos, negsuc}
 use lib.ListN.{length, length-append}
 use Rattle.reporting.specs.Decimal.{decimal, signedDecimal}
-use Rattle.reporting.specs.Text.{line, Ending, met, spent, short, endingWord, Figures, reportText, refusalText}
+use Rattle.reporting.specs.Text.{line, Ending, met, spent, short, endingWord, ReportValues, reportText, refusalText}
 use Rattle.reporting.proofs.Digits.{digits-most}
 
 pub most : (n : ℕ) → length (decimal n) ≤ 20
@@ -29,7 +29,7 @@ pub length-line : (word said : List ℕ) → length (line word said) ≡ length 
 unfolding line
 length-line word said = simp length-append (omega arith)
 
-pub report-room : (f : Figures) → length (reportText f) ≤ 512
+pub report-room : (f : ReportValues) → length (reportText f) ≤ 512
 unfolding reportText
 report-room f =
     simp (length-append, length-line)

@@ -6,9 +6,9 @@ use lib.ListN.{length}
 use lib.Seq.{sets}
 use Rattle.reporting.specs.declared.Ending as code
 use Rattle.reporting.specs.declared.Ending.the-variants as endings
-use Rattle.reporting.specs.declared.Figures as coded
+use Rattle.reporting.specs.declared.ReportValues as coded
 use Rattle.reporting.specs.Decimal.{decimal, signedDecimal}
-use Rattle.reporting.specs.Text.{line, axesWord, oldWord, activeWord, wantedWord, reservedWord, pendingWord, ceilingWord, scaledWord, unusedWord, endWord, Ending, met, spent, short, endingWord, Figures}
+use Rattle.reporting.specs.Text.{line, axesWord, oldWord, activeWord, wantedWord, reservedWord, pendingWord, ceilingWord, scaledWord, unusedWord, endWord, Ending, met, spent, short, endingWord, ReportValues}
 
 -- A text was written from `at` on: no other byte has changed, and `end` is the place after it.
 pub record Written (before : List ℕ) (at : ℕ) (text after : List ℕ) (end : ℕ) : Type 0 where
@@ -20,8 +20,8 @@ endingIn endings.Met = met
 endingIn endings.Spent = spent
 endingIn endings.Short = short
 
-unfoldable pub figuresIn : coded.Figures → Figures
-figuresIn r =
+unfoldable pub reportValuesIn : coded.ReportValues → ReportValues
+reportValuesIn r =
     record {
       axes = r .axes;
       old = r .old;
@@ -36,7 +36,7 @@ figuresIn r =
     }
 
 -- The first five lines of a report, and the last five.
-unfoldable pub countLines : Figures → List ℕ
+unfoldable pub countLines : ReportValues → List ℕ
 countLines f =
     line axesWord (decimal (f .axes))
     ++ line oldWord (decimal (f .old))
@@ -44,7 +44,7 @@ countLines f =
     ++ line wantedWord (decimal (f .wanted))
     ++ line reservedWord (decimal (f .reserved))
 
-unfoldable pub sumLines : Figures → List ℕ
+unfoldable pub sumLines : ReportValues → List ℕ
 sumLines f =
     line pendingWord (decimal (f .pending))
     ++ line ceilingWord (decimal (f .ceiling))

@@ -5,7 +5,7 @@ use Prim.Native.Nat.{ℕ, _^_, _<_, _≤_}
 use lib.IntN.{ℤ, pos, natAbs}
 use lib.ListN.{length, getD}
 use Rattle.reporting.specs.Decimal.{decimal, signedDecimal, valueFrom, signedValue}
-use Rattle.reporting.specs.Text.{Figures, reportText, refusalText}
+use Rattle.reporting.specs.Text.{ReportValues, reportText, refusalText}
 
 pub record TextFacts : Type 0 where
   -- a number below 10^20 is what its digits say
@@ -23,5 +23,5 @@ pub record TextFacts : Type 0 where
   pub most : (n : ℕ) → length (decimal n) ≤ 20
   pub most-signed : (z : ℤ) → length (signedDecimal z) ≤ 21
   -- 512 bytes suffice for every report, and for every refusal
-  pub report-room : (f : Figures) → length (reportText f) ≤ 512
+  pub report-room : (f : ReportValues) → length (reportText f) ≤ 512
   pub refusal-room : (n b : ℕ) → length (refusalText n b) ≤ 512

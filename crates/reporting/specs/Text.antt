@@ -63,7 +63,7 @@ endingWord spent = 115 ∷ 112 ∷ 101 ∷ 110 ∷ 116 ∷ []
 endingWord short = 115 ∷ 104 ∷ 111 ∷ 114 ∷ 116 ∷ []
 
 -- A report's figures, in its order.
-pub record Figures : Type 0 where
+pub record ReportValues : Type 0 where
   pub axes : ℕ
   pub old : ℕ
   pub active : ℕ
@@ -75,7 +75,7 @@ pub record Figures : Type 0 where
   pub unused : ℕ
   pub ending : Ending
 
-unfoldable pub reportText : Figures → List ℕ
+unfoldable pub reportText : ReportValues → List ℕ
 reportText f =
     line axesWord (decimal (f .axes))
     ++ line oldWord (decimal (f .old))

@@ -5,7 +5,7 @@ ghost use Prim.Native.Nat.{_+_, _≤_};
 ghost use lib.ListN.{length, drop};
 ghost use Rattle.reporting.specs.Decimal.{decimal, signedDecimal};
 ghost use Rattle.reporting.specs.Text.{line, endWord, endingWord, reportText, refusalText};
-ghost use Rattle.reporting.specs.Code.{Written, endingIn, figuresIn, countLines, sumLines};
+ghost use Rattle.reporting.specs.Code.{Written, endingIn, reportValuesIn, countLines, sumLines};
 
 // How a run ends.
 pub enum Ending {
@@ -15,7 +15,7 @@ pub enum Ending {
 }
 
 // A report's figures, in its order.
-pub struct Figures {
+pub struct ReportValues {
     pub axes: u32,
     pub old: u32,
     pub active: u32,
@@ -122,39 +122,39 @@ fn put_ending(ending: Ending, at: usize, buffer: &mut [u8]) -> usize
 }
 
 // The first five lines.
-fn put_counts(figures: Figures, buffer: &mut [u8]) -> usize
+fn put_counts(values: ReportValues, buffer: &mut [u8]) -> usize
     requires { ⌜ 512 ≤ length (now buffer) ⌝ }
-    ensures is { λ r. ⌜ Written (now (buffer .entry)) 0 (countLines (figuresIn figures)) (now (buffer .exit)) r ⌝ }
+    ensures is { λ r. ⌜ Written (now (buffer .entry)) 0 (countLines (reportValuesIn values)) (now (buffer .exit)) r ⌝ }
     ensures near { λ r. ⌜ r ≤ 155 ⌝ }
 {
-    let axes = put_line(b"axes", figures.axes as u64, 0, buffer);
-    let old = put_line(b"old", figures.old as u64, axes, buffer);
-    let active = put_line(b"active", figures.active as u64, old, buffer);
-    let wanted = put_line(b"wanted", figures.wanted as u64, active, buffer);
-    put_line(b"reserved", figures.reserved as u64, wanted, buffer)
+    let axes = put_line(b"axes", values.axes as u64, 0, buffer);
+    let old = put_line(b"old", values.old as u64, axes, buffer);
+    let active = put_line(b"active", values.active as u64, old, buffer);
+    let wanted = put_line(b"wanted", values.wanted as u64, active, buffer);
+    put_line(b"reserved", values.reserved as u64, wanted, buffer)
 }
 
 // The last five lines.
-fn put_sums(figures: Figures, at: usize, buffer: &mut [u8]) -> usize
+fn put_sums(values: ReportValues, at: usize, buffer: &mut [u8]) -> usize
     requires { ⌜ at + 155 ≤ length (now buffer) ⌝ }
-    ensures { λ r. ⌜ Written (now (buffer .entry)) at (sumLines (figuresIn figures)) (now (buffer .exit)) r ⌝ }
+    ensures { λ r. ⌜ Written (now (buffer .entry)) at (sumLines (reportValuesIn values)) (now (buffer .exit)) r ⌝ }
 {
-    let ending = figures.ending;
-    let pending = put_line(b"pending", figures.pending, at, buffer);
-    let ceiling = put_line(b"ceiling", figures.ceiling as u64, pending, buffer);
-    let scaled = put_signed_line(b"scaled", figures.scaled, ceiling, buffer);
-    let unused = put_line(b"unused", figures.unused as u64, scaled, buffer);
+    let ending = values.ending;
+    let pending = put_line(b"pending", values.pending, at, buffer);
+    let ceiling = put_line(b"ceiling", values.ceiling as u64, pending, buffer);
+    let scaled = put_signed_line(b"scaled", values.scaled, ceiling, buffer);
+    let unused = put_line(b"unused", values.unused as u64, scaled, buffer);
     put_ending(ending, unused, buffer)
 }
 
 // Writes a report at the beginning of the buffer, and gives its length.
-pub fn put_report(figures: Figures, buffer: &mut [u8]) -> usize
+pub fn put_report(values: ReportValues, buffer: &mut [u8]) -> usize
     requires { ⌜ 512 ≤ length (now buffer) ⌝ }
-    ensures bytes { λ r. ⌜ now (buffer .exit) ≡ reportText (figuresIn figures) ++ drop (length (reportText (figuresIn figures))) (now (buffer .entry)) ⌝ }
-    ensures count { λ r. ⌜ r ≡ length (reportText (figuresIn figures)) ⌝ }
+    ensures bytes { λ r. ⌜ now (buffer .exit) ≡ reportText (reportValuesIn values) ++ drop (length (reportText (reportValuesIn values))) (now (buffer .entry)) ⌝ }
+    ensures count { λ r. ⌜ r ≡ length (reportText (reportValuesIn values)) ⌝ }
 {
-    let at = put_counts(figures, buffer);
-    put_sums(figures, at, buffer)
+    let at = put_counts(values, buffer);
+    put_sums(values, at, buffer)
 }
 
 // Writes a refusal at the beginning of the buffer, and gives its length.

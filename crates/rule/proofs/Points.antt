@@ -9,10 +9,10 @@ use native.Mathlib.Omega.{arith}
 use lib.IntN.{ℤ, pos, _+ℤ_, +ℤ-idl, +ℤ-idr}
 use lib.ListN.{length, getD}
 use Rattle.sums.specs.Sums.{sumTo, sumOf}
-use Rattle.sums.specs.Lists.{tab}
+use Rattle.sums.specs.Lists.{tabulate}
 use Rattle.sums.proofs.Ring.{sums}
-use Rattle.sums.proofs.Sums.{sumTo-suc, sumTo-cong, sumOf-tab}
-use Rattle.sums.proofs.Lists.{length-tab, getD-tab}
+use Rattle.sums.proofs.Sums.{sumTo-suc, sumTo-cong, sumOf-tabulate}
+use Rattle.sums.proofs.Lists.{length-tabulate, getD-tabulate}
 use Rattle.rule.specs.Points.{points, newPoints, newCount, newPoint}
 
 -- ---- the new points by number
@@ -22,7 +22,7 @@ unfolding newPoints newCount
 new-count zero = refl
 new-count (suc zero) = refl
 new-count (suc (suc zero)) = refl
-new-count (suc (suc (suc k))) = length-tab (2 ^ suc k) (λ n. (2 * n + 1) * 2 ^ (8 - suc (suc (suc k))))
+new-count (suc (suc (suc k))) = length-tabulate (2 ^ suc k) (λ n. (2 * n + 1) * 2 ^ (8 - suc (suc (suc k))))
 
 pub new-point : (k n : ℕ) → n < newCount k → getD (newPoints k) n 0 ≡ newPoint k n
 unfolding newPoints newCount newPoint
@@ -32,7 +32,7 @@ new-point (suc zero) (suc n) h = absurd (omega arith)
 new-point (suc (suc zero)) zero h = refl
 new-point (suc (suc zero)) (suc zero) h = refl
 new-point (suc (suc zero)) (suc (suc n)) h = absurd (omega arith)
-new-point (suc (suc (suc k))) n h = getD-tab (2 ^ suc k) (λ n. (2 * n + 1) * 2 ^ (8 - suc (suc (suc k)))) n 0 h
+new-point (suc (suc (suc k))) n h = getD-tabulate (2 ^ suc k) (λ n. (2 * n + 1) * 2 ^ (8 - suc (suc (suc k)))) n 0 h
 
 -- ---- even and odd multiples
 
@@ -67,13 +67,13 @@ next-level : (k : ℕ) (f : ℕ → ℤ) → suc (suc (suc k)) ≤ 8
     → sumOf (points (suc (suc (suc k)))) f ≡ sumOf (points (suc (suc k))) f +ℤ sumTo (newCount (suc (suc (suc k)))) (λ n. f (newPoint (suc (suc (suc k))) n))
 unfolding points newCount newPoint
 next-level k f h =
-    sumOf-tab (2 ^ suc (suc k) + 1) (λ i. i * s) f
+    sumOf-tabulate (2 ^ suc (suc k) + 1) (λ i. i * s) f
     ∙ ap (λ x. sumTo x (λ i. f (i * s))) (count k)
     ∙ interleave (2 ^ suc k) (λ i. f (i * s))
     ∙ ap (λ x. x +ℤ sumTo (2 ^ suc k) (λ i. f ((2 * i + 1) * s)))
     (sumTo-cong (suc (2 ^ suc k)) (λ i. ap f (half-step k i h))
     ∙ ap (λ x. sumTo x (λ i. f (i * 2 ^ (8 - suc (suc k))))) (sym (add-one (2 ^ suc k)))
-    ∙ sym (sumOf-tab (2 ^ suc k + 1) (λ i. i * 2 ^ (8 - suc (suc k))) f))
+    ∙ sym (sumOf-tabulate (2 ^ suc k + 1) (λ i. i * 2 ^ (8 - suc (suc k))) f))
   where
     s : ℕ
     s = 2 ^ (8 - suc (suc (suc k)))
@@ -88,7 +88,7 @@ by-levels (suc zero) a b f = unfold sumTo sumOf points newCount newPoint in cent
   where
     centre : (x : ℤ) → x +ℤ pos 0 ≡ pos 0 +ℤ (pos 0 +ℤ x)
     centre x = simp (+ℤ-idl, +ℤ-idr)
-by-levels (suc (suc zero)) a b f = unfold sumTo sumOf points tab newCount newPoint in three (f 0) (f 64) (f 128)
+by-levels (suc (suc zero)) a b f = unfold sumTo sumOf points tabulate newCount newPoint in three (f 0) (f 64) (f 128)
   where
     three : (x y z : ℤ) → x +ℤ (y +ℤ (z +ℤ pos 0)) ≡ pos 0 +ℤ (pos 0 +ℤ y) +ℤ (pos 0 +ℤ x +ℤ z)
     three x y z = simp (+ℤ-idl, +ℤ-idr, sums)

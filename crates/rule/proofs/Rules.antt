@@ -10,9 +10,9 @@ use borrow.Author.Tests.{eq-eqb, ne-eqb}
 use lib.IntN.{ℤ, pos, negℤ, _+ℤ_, _-ℤ_, _*ℤ_, +ℤ-idl, +ℤ-idr, zero-*ℤ, *ℤ-zero}
 use lib.Pow.{pow-add, pow-pos}
 use Rattle.sums.specs.Sums.{sumTo, sumOf}
-use Rattle.sums.specs.Lists.{tab}
+use Rattle.sums.specs.Lists.{tabulate}
 use Rattle.sums.proofs.Ring.{sums, ring, small, distl, one-*ℤ, *ℤ-assoc, negℤ-*ℤ}
-use Rattle.sums.proofs.Sums.{sumTo-suc, sumTo-front, sumTo-cong, sumTo-cong<, sumTo-add, sumTo-mul, sumOf-tab}
+use Rattle.sums.proofs.Sums.{sumTo-suc, sumTo-front, sumTo-cong, sumTo-cong<, sumTo-add, sumTo-mul, sumOf-tabulate}
 use Rattle.rule.specs.Points.{points, newCount, newPoint}
 use Rattle.rule.specs.Rules.{unit, isPoint, pointWeight, wholeAt, wholeRule, unitStep, differenceRule, trapezoidal}
 use Rattle.rule.specs.Weights.{wholeWeight, differenceWeight}
@@ -52,8 +52,8 @@ whole-rule-past (suc k) b f =
     (ap (λ x. x *ℤ newSum f (suc (suc k))) (whole-beyond (suc k) (suc (suc k)) (omega arith)) ∙ zero-*ℤ (newSum f (suc (suc k))))
     ∙ +ℤ-idr (sumTo (suc k) (λ i. wholeWeight (suc k) (suc i) *ℤ newSum f (suc i))))
 
-spread : (a b c d : ℤ) → (a -ℤ b *ℤ c) *ℤ d ≡ a *ℤ d +ℤ negℤ b *ℤ (c *ℤ d)
-spread a b c d = simp ring
+distribute : (a b c d : ℤ) → (a -ℤ b *ℤ c) *ℤ d ≡ a *ℤ d +ℤ negℤ b *ℤ (c *ℤ d)
+distribute a b c d = simp ring
 
 less-one : (k : ℕ) → suc k - 1 ≡ k
 less-one k = omega arith
@@ -68,7 +68,7 @@ difference-from k b f =
     (sym (negℤ-*ℤ c (sumTo (suc k) lower)) ∙ sym (sumTo-mul (suc k) (negℤ c) lower))
     ∙ sym (sumTo-cong (suc k) (λ i.
     ap (λ x. x *ℤ newSum f (suc i)) (difference-is k (suc i))
-    ∙ spread (wholeWeight (suc k) (suc i)) c (wholeWeight k (suc i)) (newSum f (suc i)))
+    ∙ distribute (wholeWeight (suc k) (suc i)) c (wholeWeight k (suc i)) (newSum f (suc i)))
     ∙ sumTo-add (suc k) (λ i. wholeWeight (suc k) (suc i) *ℤ newSum f (suc i)) (λ i. negℤ c *ℤ lower i)))
   where
     c : ℤ
@@ -87,8 +87,8 @@ difference-rule (suc k) a b f = difference-from k b f
 
 -- over points at equal steps it is the step times the sum of both ends of every panel
 panels : (n h : ℕ) (g : ℕ → ℕ) (f : ℕ → ℤ) → ((i : ℕ) → g (suc i) - g i ≡ h)
-    → trapezoidal (tab (suc n) g) f ≡ pos h *ℤ sumTo n (λ i. f (g i) +ℤ f (g (suc i)))
-unfolding trapezoidal tab
+    → trapezoidal (tabulate (suc n) g) f ≡ pos h *ℤ sumTo n (λ i. f (g i) +ℤ f (g (suc i)))
+unfolding trapezoidal tabulate
 panels zero h g f e = unfold sumTo in sym (*ℤ-zero (pos h))
 panels (suc n) h g f e =
     ap₂ (λ x y. pos x *ℤ (f (g 0) +ℤ f (g 1)) +ℤ y) (e 0) (panels n h (λ i. g (suc i)) f (λ i. e (suc i)))
@@ -144,7 +144,7 @@ whole-panels : (k m : ℕ) (f : ℕ → ℤ) → suc (suc k) ≤ 8 → 2 ^ suc k
     → wholeRule (suc (suc k)) f ≡ sumTo (suc m) (λ i. f (i * 2 ^ (8 - suc (suc k))) +ℤ f (suc i * 2 ^ (8 - suc (suc k))))
 unfolding wholeRule points
 whole-panels k m f b e =
-    sumOf-tab (2 ^ suc k + 1) (λ i. i * s) (λ p. wholeAt (suc (suc k)) p *ℤ f p)
+    sumOf-tabulate (2 ^ suc k + 1) (λ i. i * s) (λ p. wholeAt (suc (suc k)) p *ℤ f p)
     ∙ sumTo-cong< (2 ^ suc k + 1) (λ i. wholeAt (suc (suc k)) (i * s) *ℤ f (i * s)) (λ i. endsOf (2 ^ suc k) i *ℤ f (i * s))
     (λ i h. ap (λ x. x *ℤ f (i * s)) (whole-ends k i b h))
     ∙ rw (add-one (2 ^ suc k), e) (ends m (λ i. f (i * s)))

@@ -11,9 +11,9 @@ use native.Mathlib.Omega.{arith}
 use borrow.Author.Tests.{ne-eqb, lt-leb}
 use lib.Dec.{T, leb, ltb, eqb, leb→le, ltb→lt, eqb→eq}
 use lib.IntN.{ℤ, pos}
-use Rattle.sums.specs.Lists.{tab}
+use Rattle.sums.specs.Lists.{tabulate}
 use Rattle.sums.proofs.Every.{every, every-at, both, both-left, both-right, eqbℤ, eqbℤ→eq, eqbB, eqbB→eq}
-use Rattle.rule.specs.Points.{points, newCount, newPoint, newAt, levelFrom, levelOf, rankOf, timesIn}
+use Rattle.rule.specs.Points.{points, newCount, newPoint, newAt, levelFrom, levelOf, rankOf, occurrences}
 use Rattle.rule.specs.Rules.{unit, isPoint, pointWeight, wholeAt, unitStep, differenceAt}
 use Rattle.rule.specs.Weights.{endsOne, wholeWeight, endsMinusOne, differenceWeight}
 
@@ -113,15 +113,15 @@ in-positions : List ℕ → Bool
 in-positions [] = true
 in-positions (q ∷ qs) = both (leb q 128) (in-positions qs)
 
-absent : (p : ℕ) (l : List ℕ) → 128 < p → T (in-positions l) → timesIn p l ≡ 0
-unfolding timesIn in-positions
+absent : (p : ℕ) (l : List ℕ) → 128 < p → T (in-positions l) → occurrences p l ≡ 0
+unfolding occurrences in-positions
 absent p [] h t = refl
 absent p (q ∷ qs) h t =
     rw (ne-eqb p q (λ e. omega (arith, leb→le q 128 (both-left (leb q 128) (in-positions qs) t))))
     (absent p qs h (both-right (leb q 128) (in-positions qs) t))
 
-beyond-points : (k p : ℕ) → 1 ≤ k → k ≤ 8 → 128 < p → timesIn p (points k) ≡ 0
-unfolding every-level every points tab in-positions
+beyond-points : (k p : ℕ) → 1 ≤ k → k ≤ 8 → 128 < p → occurrences p (points k) ≡ 0
+unfolding every-level every points tabulate in-positions
 beyond-points k p a b h = absent p (points k) h (at-level (λ k. 1) (λ k n. in-positions (points k)) tt k 0 a b (omega arith))
 
 beyond-test : (k p : ℕ) → 1 ≤ k → 128 < p → isPoint k p ≡ false
@@ -143,28 +143,28 @@ module _ (k : ℕ) (a : 1 ≤ k) (b : k ≤ 8) where
   unfolding every-level every positions levelOf levelFrom newAt
   new-within p h = equalB-at positions newAt (λ k p. eqb (levelOf p) k) tt k p a b (omega arith)
 
-  once-within : (p : ℕ) → p ≤ 128 → timesIn p (points k) ≡ cond (leb (levelOf p) k) 1 0
-  unfolding every-level every positions points tab levelOf levelFrom newAt timesIn
+  once-within : (p : ℕ) → p ≤ 128 → occurrences p (points k) ≡ cond (leb (levelOf p) k) 1 0
+  unfolding every-level every positions points tabulate levelOf levelFrom newAt occurrences
   once-within p h =
-      equal-at positions (λ k p. timesIn p (points k)) (λ k p. cond (leb (levelOf p) k) 1 0) tt k p a b (omega arith)
+      equal-at positions (λ k p. occurrences p (points k)) (λ k p. cond (leb (levelOf p) k) 1 0) tt k p a b (omega arith)
 
-  test-within : (p : ℕ) → p ≤ 128 → timesIn p (points k) ≡ cond (isPoint k p) 1 0
-  unfolding every-level every positions points tab timesIn isPoint
-  test-within p h = equal-at positions (λ k p. timesIn p (points k)) (λ k p. cond (isPoint k p) 1 0) tt k p a b (omega arith)
+  test-within : (p : ℕ) → p ≤ 128 → occurrences p (points k) ≡ cond (isPoint k p) 1 0
+  unfolding every-level every positions points tabulate occurrences isPoint
+  test-within p h = equal-at positions (λ k p. occurrences p (points k)) (λ k p. cond (isPoint k p) 1 0) tt k p a b (omega arith)
 
 pub new-at : (k p : ℕ) → 1 ≤ k → k ≤ 8 → newAt k p ≡ eqb (levelOf p) k
 new-at k p a b =
     by-range (λ p. newAt k p ≡ eqb (levelOf p) k) (new-within k a b)
     (λ p h. beyond-new k p h ∙ sym (ap (λ l. eqb l k) (beyond-level p h) ∙ ne-eqb 9 k (omega arith))) p
 
-pub each-once : (k p : ℕ) → 1 ≤ k → k ≤ 8 → timesIn p (points k) ≡ cond (leb (levelOf p) k) 1 0
+pub each-once : (k p : ℕ) → 1 ≤ k → k ≤ 8 → occurrences p (points k) ≡ cond (leb (levelOf p) k) 1 0
 each-once k p a b =
-    by-range (λ p. timesIn p (points k) ≡ cond (leb (levelOf p) k) 1 0) (once-within k a b)
+    by-range (λ p. occurrences p (points k) ≡ cond (leb (levelOf p) k) 1 0) (once-within k a b)
     (λ p h. beyond-points k p a b h ∙ sym (ap (λ l. cond (leb l k) 1 0) (beyond-level p h) ∙ ap (λ t. cond t 1 0) (lt-leb 9 k (omega arith)))) p
 
-pub is-point : (k p : ℕ) → 1 ≤ k → k ≤ 8 → timesIn p (points k) ≡ cond (isPoint k p) 1 0
+pub is-point : (k p : ℕ) → 1 ≤ k → k ≤ 8 → occurrences p (points k) ≡ cond (isPoint k p) 1 0
 is-point k p a b =
-    by-range (λ p. timesIn p (points k) ≡ cond (isPoint k p) 1 0) (test-within k a b)
+    by-range (λ p. occurrences p (points k) ≡ cond (isPoint k p) 1 0) (test-within k a b)
     (λ p h. beyond-points k p a b h ∙ sym (ap (λ t. cond t 1 0) (beyond-test k p a h))) p
 
 -- a new point lies within the positions

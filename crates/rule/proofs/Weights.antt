@@ -106,8 +106,8 @@ whole-sum-past k =
 
 -- ---- those of the difference rule, from level 2 up, come to zero
 
-spread : (a b c d : ℤ) → a *ℤ (b -ℤ c *ℤ d) ≡ a *ℤ b +ℤ negℤ c *ℤ (a *ℤ d)
-spread a b c d = simp ring
+distribute : (a b c d : ℤ) → a *ℤ (b -ℤ c *ℤ d) ≡ a *ℤ b +ℤ negℤ c *ℤ (a *ℤ d)
+distribute a b c d = simp ring
 
 twice : (k : ℕ) → 2 ^ 1 * 2 ^ suc (suc k) ≡ 2 ^ suc (suc (suc k))
 twice k = omega arith
@@ -122,7 +122,7 @@ pub difference-sum : (k : ℕ)
     → sumTo (suc (suc k)) (λ i. pos (newCount (suc i)) *ℤ differenceWeight (suc (suc k)) (suc i)) ≡ pos 0
 difference-sum k =
     sumTo-cong (suc (suc k))
-    (λ i. ap (λ x. n i *ℤ x) (difference-is (suc k) (suc i)) ∙ spread (n i) (wholeWeight (suc (suc k)) (suc i)) c (wholeWeight (suc k) (suc i)))
+    (λ i. ap (λ x. n i *ℤ x) (difference-is (suc k) (suc i)) ∙ distribute (n i) (wholeWeight (suc (suc k)) (suc i)) c (wholeWeight (suc k) (suc i)))
     ∙ sumTo-add (suc (suc k)) (λ i. n i *ℤ wholeWeight (suc (suc k)) (suc i)) (λ i. negℤ c *ℤ (n i *ℤ wholeWeight (suc k) (suc i)))
     ∙ ap₂ _+ℤ_ (whole-sum (suc k))
     (sumTo-mul (suc (suc k)) (negℤ c) (λ i. n i *ℤ wholeWeight (suc k) (suc i))

@@ -6,14 +6,14 @@ use lib.Dec.{leb, eqb}
 use lib.IntN.{ℤ, pos, natAbs, _-ℤ_, _*ℤ_}
 use lib.ListN.{length, getD}
 use Rattle.sums.specs.Sums.{sumTo, sumOf, natSumTo}
-use Rattle.rule.specs.Points.{points, newPoints, newCount, newPoint, newAt, levelOf, rankOf, timesIn}
+use Rattle.rule.specs.Points.{points, newPoints, newCount, newPoint, newAt, levelOf, rankOf, occurrences}
 use Rattle.rule.specs.Rules.{unit, isPoint, wholeAt, wholeRule, differenceAt, differenceRule, trapezoidal}
 use Rattle.rule.specs.Weights.{wholeWeight, differenceWeight}
 
 -- About points, for the levels 1 to 8.
 pub record PointFacts : Type 0 where
   -- the points as a list and as a test
-  pub is-point : (k p : ℕ) → 1 ≤ k → k ≤ 8 → timesIn p (points k) ≡ cond (isPoint k p) 1 0
+  pub is-point : (k p : ℕ) → 1 ≤ k → k ≤ 8 → occurrences p (points k) ≡ cond (isPoint k p) 1 0
   -- the new points by number
   pub new-count : (k : ℕ) → length (newPoints k) ≡ newCount k
   pub new-point : (k n : ℕ) → n < newCount k → getD (newPoints k) n 0 ≡ newPoint k n
@@ -28,7 +28,7 @@ pub record PointFacts : Type 0 where
   pub point-is : (p : ℕ) → p ≤ 128 → newPoint (levelOf p) (rankOf p) ≡ p
   pub new-at : (k p : ℕ) → 1 ≤ k → k ≤ 8 → newAt k p ≡ eqb (levelOf p) k
   -- the points of a level are exactly the new points of all levels up to it, each once
-  pub each-once : (k p : ℕ) → 1 ≤ k → k ≤ 8 → timesIn p (points k) ≡ cond (leb (levelOf p) k) 1 0
+  pub each-once : (k p : ℕ) → 1 ≤ k → k ≤ 8 → occurrences p (points k) ≡ cond (leb (levelOf p) k) 1 0
   -- the same as sums: over a level's points, level by level
   pub by-levels : (k : ℕ) → 1 ≤ k → k ≤ 8 → (f : ℕ → ℤ)
       → sumOf (points k) f ≡ sumTo k (λ i. sumTo (newCount (suc i)) (λ n. f (newPoint (suc i) n)))

@@ -4,14 +4,14 @@ use mathlib.Core.Bool.{Bool, true, false, cond}
 use mathlib.Core.List.{List, [], _∷_}
 use Prim.Native.Nat.{ℕ, zero, suc, _+_, _*_, _-_, _/_, _%_, _^_}
 use lib.Dec.{leb, eqb}
-use Rattle.sums.specs.Lists.{tab}
+use Rattle.sums.specs.Lists.{tabulate}
 
 -- The points of a level, positions rising. Level 1 has one point, 64. Level k from 2 up has the 2^(k−1) + 1 points that
 -- are multiples of 2^(8−k).
 unfoldable pub points : ℕ → List ℕ
 points zero = []
 points (suc zero) = 64 ∷ []
-points (suc (suc k)) = tab (2 ^ suc k + 1) (λ i. i * 2 ^ (8 - suc (suc k)))
+points (suc (suc k)) = tabulate (2 ^ suc k + 1) (λ i. i * 2 ^ (8 - suc (suc k)))
 
 -- The points *new* at a level, positions rising: at level 1, 64; at level 2, 0 and 128; at level k from 3 up, the odd
 -- multiples of 2^(8−k), which are 2^(k−2) points.
@@ -19,7 +19,7 @@ unfoldable pub newPoints : ℕ → List ℕ
 newPoints zero = []
 newPoints (suc zero) = 64 ∷ []
 newPoints (suc (suc zero)) = 0 ∷ 128 ∷ []
-newPoints (suc (suc (suc k))) = tab (2 ^ suc k) (λ n. (2 * n + 1) * 2 ^ (8 - suc (suc (suc k))))
+newPoints (suc (suc (suc k))) = tabulate (2 ^ suc k) (λ n. (2 * n + 1) * 2 ^ (8 - suc (suc (suc k))))
 
 -- How many points are new at a level.
 unfoldable pub newCount : ℕ → ℕ
@@ -61,6 +61,6 @@ unfoldable pub rankOf : ℕ → ℕ
 rankOf p = cond (leb (levelOf p) 2) (p / 128) (p / 2 ^ (9 - levelOf p))
 
 -- How often a position stands in a list.
-unfoldable pub timesIn : ℕ → List ℕ → ℕ
-timesIn p [] = 0
-timesIn p (q ∷ qs) = cond (eqb p q) (suc (timesIn p qs)) (timesIn p qs)
+unfoldable pub occurrences : ℕ → List ℕ → ℕ
+occurrences p [] = 0
+occurrences p (q ∷ qs) = cond (eqb p q) (suc (occurrences p qs)) (occurrences p qs)

@@ -12,7 +12,7 @@ use lib.ListN.{length, getD, set, drop}
 use lib.Seq.{drop-cons, drop-nil, append-snoc, set-at}
 use Rattle.jobfile.specs.Bytes.{signedFour}
 use Rattle.jobfile.specs.File.{readingsAt}
-use Rattle.running.specs.Course.{firstBad}
+use Rattle.running.specs.Execution.{firstOutOfRange}
 
 -- ---- a block from bytes
 
@@ -49,23 +49,23 @@ block-next c from n b h =
 -- ---- the first that is out of range
 
 module _ (rs : List ℤ) (n : ℕ) (h : n < length rs) where
-  front : firstBad (drop n rs) ≡ firstBad (getD rs n (pos 0) ∷ drop (suc n) rs)
-  front = ap firstBad (drop-cons rs n (pos 0) h)
+  front : firstOutOfRange (drop n rs) ≡ firstOutOfRange (getD rs n (pos 0) ∷ drop (suc n) rs)
+  front = ap firstOutOfRange (drop-cons rs n (pos 0) h)
 
-  pub bad-here : leb (natAbs (getD rs n (pos 0))) 1048576 ≡ false → firstBad (drop n rs) ≡ 0
-  bad-here e = front ∙ unfold firstBad in rw e refl
+  pub bad-here : leb (natAbs (getD rs n (pos 0))) 1048576 ≡ false → firstOutOfRange (drop n rs) ≡ 0
+  bad-here e = front ∙ unfold firstOutOfRange in rw e refl
 
-  pub bad-later : leb (natAbs (getD rs n (pos 0))) 1048576 ≡ true → n + firstBad (drop n rs) ≡ n + 1 + firstBad (drop (n + 1) rs)
-  bad-later e = omega (arith, front ∙ here, ap (λ m. firstBad (drop m rs)) next)
+  pub bad-later : leb (natAbs (getD rs n (pos 0))) 1048576 ≡ true → n + firstOutOfRange (drop n rs) ≡ n + 1 + firstOutOfRange (drop (n + 1) rs)
+  bad-later e = omega (arith, front ∙ here, ap (λ m. firstOutOfRange (drop m rs)) next)
     where
       next : suc n ≡ n + 1
       next = omega arith
 
-      here : firstBad (getD rs n (pos 0) ∷ drop (suc n) rs) ≡ suc (firstBad (drop (suc n) rs))
-      here = unfold firstBad in rw e refl
+      here : firstOutOfRange (getD rs n (pos 0) ∷ drop (suc n) rs) ≡ suc (firstOutOfRange (drop (suc n) rs))
+      here = unfold firstOutOfRange in rw e refl
 
-pub bad-none : (rs : List ℤ) (n : ℕ) → length rs ≤ n → firstBad (drop n rs) ≡ 0
-bad-none rs n h = unfold firstBad in ap firstBad (drop-past rs n h)
+pub bad-none : (rs : List ℤ) (n : ℕ) → length rs ≤ n → firstOutOfRange (drop n rs) ≡ 0
+bad-none rs n h = unfold firstOutOfRange in ap firstOutOfRange (drop-past rs n h)
   where
     drop-past : (l : List ℤ) (m : ℕ) → length l ≤ m → drop m l ≡ []
     drop-past [] m g = drop-nil m

@@ -1,5 +1,5 @@
 -- The delivery of an entry: why it is refused, and what an accepted one leaves.
--- The idea: in a settled area with a block wanted only the count and the range of the readings can refuse.
+-- The idea: in a valid area with a block wanted only the count and the range of the readings can refuse.
 -- Assumes nothing.
 use mathlib.Core.Path.{_≡_, refl, ap, sym, _∙_, subst}
 use mathlib.Core.Bool.{Bool, true, false, cond, _&&_}
@@ -24,42 +24,42 @@ use Rattle.machine.specs.Areas.{deliverOn}
 use Rattle.machine.specs.Causes.{firstCause, inRange, resultCauses}
 use Rattle.encoding.specs.Entries.{SoundMachine}
 use Rattle.machine.proofs.Facts.{step-facts}
-use Rattle.writing.specs.Settled.{Settled}
+use Rattle.writing.specs.ValidArea.{ValidArea}
 use Rattle.writing.proofs.After.{machine-sound}
 use Rattle.calls.proofs.Tests as tests
 use Rattle.calls.proofs.Causes.{common-none, wanted-yes, deliver-count, deliver-range, deliver-fits}
-use Rattle.calls.proofs.Settling.{entries-count, wanted-levels, wanted-within}
+use Rattle.calls.proofs.Validity.{entries-count, wanted-levels, wanted-within}
 use Rattle.calls.proofs.Ranges.{readings-range}
 use Rattle.calls.proofs.Written.{written-state}
 use Rattle.jobfile.specs.Bytes.{four}
 use Rattle.jobfile.specs.Form.{entryByte}
 use Rattle.jobfile.specs.File.{readingsAt, entryOf}
-use Rattle.running.specs.Course.{ownLengths, Result, refusedAt, firstBad, deliveryCause, deliveryByte, course}
+use Rattle.running.specs.Execution.{ownLengths, Result, refusedAt, firstOutOfRange, deliveryCause, deliveryByte, execution}
 use Rattle.running.proofs.Blocks.{readings-length}
 
 -- ---- the range of readings, and the first that is out of it
 
-pub bad-range : (rs : List ℤ) → firstBad rs < length rs → inRange rs ≡ false
-unfolding firstBad inRange
+pub bad-range : (rs : List ℤ) → firstOutOfRange rs < length rs → inRange rs ≡ false
+unfolding firstOutOfRange inRange
 bad-range [] h = absurd (omega (arith, h))
 bad-range (x ∷ rs) h = step (leb (natAbs x) 1048576) h (bad-range rs)
   where
-    step : (t : Bool) → cond t (suc (firstBad rs)) 0 < suc (length rs) → (firstBad rs < length rs → inRange rs ≡ false) → (t && inRange rs) ≡ false
+    step : (t : Bool) → cond t (suc (firstOutOfRange rs)) 0 < suc (length rs) → (firstOutOfRange rs < length rs → inRange rs ≡ false) → (t && inRange rs) ≡ false
     step true g f = f (omega (arith, g))
     step false g f = refl
 
-pub all-range : (rs : List ℤ) → length rs ≤ firstBad rs → inRange rs ≡ true
-unfolding firstBad inRange
+pub all-range : (rs : List ℤ) → length rs ≤ firstOutOfRange rs → inRange rs ≡ true
+unfolding firstOutOfRange inRange
 all-range [] h = refl
 all-range (x ∷ rs) h = step (leb (natAbs x) 1048576) h (all-range rs)
   where
-    step : (t : Bool) → suc (length rs) ≤ cond t (suc (firstBad rs)) 0 → (length rs ≤ firstBad rs → inRange rs ≡ true) → (t && inRange rs) ≡ true
+    step : (t : Bool) → suc (length rs) ≤ cond t (suc (firstOutOfRange rs)) 0 → (length rs ≤ firstOutOfRange rs → inRange rs ≡ true) → (t && inRange rs) ≡ true
     step true g f = f (omega (arith, g))
     step false g f = absurd (omega (arith, g))
 
--- ---- in a settled area, with the first wanted block at p
+-- ---- in a valid area, with the first wanted block at p
 
-module _ (j : JobRecord) (cells : List ℕ) (store : List ℤ) (st : Settled (areaOf j cells store)) (p : ℕ) (is : p ≡ firstWanted (entriesOf (areaOf j cells store))) (held : p < j .held) where
+module _ (j : JobRecord) (cells : List ℕ) (store : List ℤ) (st : ValidArea (areaOf j cells store)) (p : ℕ) (is : p ≡ firstWanted (entriesOf (areaOf j cells store))) (held : p < j .held) where
   abbrev a : Area
   a = areaOf j cells store
 
@@ -96,11 +96,11 @@ module _ (j : JobRecord) (cells : List ℕ) (store : List ℤ) (st : Settled (ar
 
     abbrev goes : ℕ → Result
     goes n =
-        cond (eqb (deliveryCause b (machineOf (areaOf j cells store)) i) 0) (course b n (deliver (machineOf (areaOf j cells store)) (entryOf b i .readings) (entryOf b i .indicator)) (i + 1))
+        cond (eqb (deliveryCause b (machineOf (areaOf j cells store)) i) 0) (execution b n (deliver (machineOf (areaOf j cells store)) (entryOf b i .readings) (entryOf b i .indicator)) (i + 1))
         (refusedAt (deliveryCause b (machineOf (areaOf j cells store)) i) (deliveryByte b i (deliveryCause b (machineOf (areaOf j cells store)) i)))
 
     abbrev next : ℕ → Result
-    next n = course b n (deliver (machineOf (areaOf j cells store)) (entryOf b i .readings) (entryOf b i .indicator)) (i + 1)
+    next n = execution b n (deliver (machineOf (areaOf j cells store)) (entryOf b i .readings) (entryOf b i .indicator)) (i + 1)
 
     refused : (k n : ℕ) → eqb k 0 ≡ false → deliveryCause b (machineOf (areaOf j cells store)) i ≡ k → goes n ≡ refusedAt k (deliveryByte b i k)
     refused k n f e = ap (λ x. cond (eqb x 0) (next n) (refusedAt x (deliveryByte b i x))) e ∙ ap (λ t. cond t (next n) (refusedAt k (deliveryByte b i k))) f
@@ -110,12 +110,12 @@ module _ (j : JobRecord) (cells : List ℕ) (store : List ℤ) (st : Settled (ar
     count-refused f n = refused 7 n refl (deliver-count ownLengths true (machineOf (areaOf j cells store) .log) rs none some (λ e. f (sym rs-length ∙ e)))
 
     module _ (whole : four b (entryByte i + 4) ≡ readingCount (machineOf (areaOf j cells store) .log .settings) (wantedIndex (machineOf (areaOf j cells store) .log .entries))) where
-      pub range-refused : firstBad (entryOf b i .readings) < four b (entryByte i + 4) → (n : ℕ) → goes n ≡ refusedAt 8 (four b (entryByte i + 8) + 4 * firstBad (entryOf b i .readings))
+      pub range-refused : firstOutOfRange (entryOf b i .readings) < four b (entryByte i + 4) → (n : ℕ) → goes n ≡ refusedAt 8 (four b (entryByte i + 8) + 4 * firstOutOfRange (entryOf b i .readings))
       unfolding deliveryByte
       range-refused h n =
           refused 8 n refl (deliver-range ownLengths true (machineOf (areaOf j cells store) .log) rs none some (rs-length ∙ whole) (bad-range rs (omega (arith, h, rs-length))))
 
-      module _ (h : four b (entryByte i + 4) ≤ firstBad (entryOf b i .readings)) where
+      module _ (h : four b (entryByte i + 4) ≤ firstOutOfRange (entryOf b i .readings)) where
         pub in-range : inRange (entryOf b i .readings) ≡ true
         in-range = all-range rs (omega (arith, h, rs-length))
 
@@ -126,11 +126,11 @@ module _ (j : JobRecord) (cells : List ℕ) (store : List ℤ) (st : Settled (ar
         sound = step-facts .deliver (machineOf (areaOf j cells store)) rs (entryOf b i .indicator) (machine-sound (areaOf j cells store) st) first-there (rs-length ∙ whole) (readings-range rs in-range)
 
         -- the area that the delivery leaves holds the next state
-        pub done : (after : Area) → after ≡ deliverOn (areaOf j cells store) (entryOf b i .readings) (entryOf b i .indicator) → (n : ℕ) → goes n ≡ course b n (machineOf after) (i + 1)
+        pub done : (after : Area) → after ≡ deliverOn (areaOf j cells store) (entryOf b i .readings) (entryOf b i .indicator) → (n : ℕ) → goes n ≡ execution b n (machineOf after) (i + 1)
         unfolding deliverOn
         done after e n =
             ap (λ x. cond (eqb x 0) (next n) (refusedAt x (deliveryByte b i x))) clear
-            ∙ ap (λ (y : Machine). course b n y (i + 1))
+            ∙ ap (λ (y : Machine). execution b n y (i + 1))
             (sym (ap machineOf e ∙ written-state (areaOf j cells store) (deliver (machineOf (areaOf j cells store)) (entryOf b i .readings) (entryOf b i .indicator)) sound))
 
 -- the front of the block is the entry's readings

@@ -36,24 +36,24 @@ use Rattle.published.proofs.Outcomes.{promoted-not-met, promoted-log}
 use Rattle.jobfile.specs.Form.{formed, broken, formOf, entryCount}
 use Rattle.jobfile.specs.File.{entryOf}
 use Rattle.reporting.specs.Text.{met, spent, short}
-use Rattle.running.specs.Course.{ownLengths, Result, refusedAt, ended, deliveryByte, deliveryCause, byOutcome, course, steps, startByte, startCause, resultIn, resultOf, fileSettings}
-use Rattle.running.specs.Facts.{ByStart, ByDelivery, Stands, Comes}
+use Rattle.running.specs.Execution.{ownLengths, Result, refusedAt, ended, deliveryByte, deliveryCause, byOutcome, execution, stepLimit, startByte, startCause, resultIn, resultOf, fileSettings}
+use Rattle.running.specs.Facts.{ByStart, ByDelivery, RunInvariant, AllowedResult}
 use Rattle.running.proofs.Counted.{count-most, delivery-old, refined-old}
 
 -- ---- a state stands
 
-stands : (m : Machine) → SoundMachine m → m .mean ≡ meanOf (m .log .entries) → Stands m
-stands m v e = record { sound = v; differences = e; combination = e ∙ mean-facts .cross m v }
+invariant : (m : Machine) → SoundMachine m → m .mean ≡ meanOf (m .log .entries) → RunInvariant m
+invariant m v e = record { sound = v; differences = e; combination = e ∙ mean-facts .cross m v }
 
-delivered-stands : (m : Machine) (rs : List ℤ) (i : ℕ) → Stands m → Deliverable ownLengths true (m .log) rs → Stands (deliver m rs i)
-delivered-stands m rs i s d =
-    stands (deliver m rs i) (step-facts .deliver m rs i (s .sound) (d .wanted) (d .whole) (readings-range rs (d .range))) (unfold deliver in
+delivered-invariant : (m : Machine) (rs : List ℤ) (i : ℕ) → RunInvariant m → Deliverable ownLengths true (m .log) rs → RunInvariant (deliver m rs i)
+delivered-invariant m rs i s d =
+    invariant (deliver m rs i) (step-facts .deliver m rs i (s .sound) (d .wanted) (d .whole) (readings-range rs (d .range))) (unfold deliver in
     ap (λ y. y +ℤ scaledDifference (wantedIndex (m .log .entries)) (readingIn (deliver m rs i .log .entries))) (s .differences)
     ∙ sym (mean-facts .deliver m rs i (s .sound) (d .wanted)))
 
-promoted-stands : (m : Machine) → Stands m → length (m .log .entries) ≤ firstWanted (m .log .entries) → Stands (promoteStep m)
-promoted-stands m s none =
-    stands (promoteStep m) (step-facts .promote m (s .sound) none) (unfold promoteStep in s .differences ∙ sym (mean-facts .promote m (s .sound)))
+promoted-invariant : (m : Machine) → RunInvariant m → length (m .log .entries) ≤ firstWanted (m .log .entries) → RunInvariant (promoteStep m)
+promoted-invariant m s none =
+    invariant (promoteStep m) (step-facts .promote m (s .sound) none) (unfold promoteStep in s .differences ∙ sym (mean-facts .promote m (s .sound)))
 
 -- ---- the numbers of refusals
 
@@ -93,9 +93,9 @@ module _ (c : List ℕ) where
   left m i = (entryCount c - i) + (512 - countOf 2 (m .log .entries))
 
   abbrev Ends : ℕ → Type 0
-  Ends n = (m : Machine) (i : ℕ) → Stands m → i ≤ entryCount c → left m i < n → Comes (entryCount c) (course c n m i)
+  Ends n = (m : Machine) (i : ℕ) → RunInvariant m → i ≤ entryCount c → left m i < n → AllowedResult (entryCount c) (execution c n m i)
 
-  module _ (n : ℕ) (later : Ends n) (m : Machine) (i : ℕ) (s : Stands m) (used : i ≤ entryCount c) (h : left m i < suc n) where
+  module _ (n : ℕ) (later : Ends n) (m : Machine) (i : ℕ) (s : RunInvariant m) (used : i ≤ entryCount c) (h : left m i < suc n) where
     abbrev es : List Entry
     es = m .log .entries
 
@@ -105,33 +105,33 @@ module _ (c : List ℕ) where
     abbrev ind : ℕ
     ind = entryOf c i .indicator
 
-    delivering : i < entryCount c → deliveryCause c m i ≡ 0 → Comes (entryCount c) (course c n (deliver m rs ind) (i + 1))
+    delivering : i < entryCount c → deliveryCause c m i ≡ 0 → AllowedResult (entryCount c) (execution c n (deliver m rs ind) (i + 1))
     delivering some none =
         let d : Deliverable ownLengths true (m .log) rs = deliverable ownLengths true (m .log) rs none in
-        later (deliver m rs ind) (i + 1) (delivered-stands m rs ind s d) (omega (arith, some)) (omega (arith, h, some, kept (d .wanted)))
+        later (deliver m rs ind) (i + 1) (delivered-invariant m rs ind s d) (omega (arith, some)) (omega (arith, h, some, kept (d .wanted)))
       where
         kept : firstWanted (m .log .entries) < length (m .log .entries) → countOf 2 (deliver m (entryOf c i .readings) (entryOf c i .indicator) .log .entries) ≡ countOf 2 (m .log .entries)
         kept g = unfold deliver in delivery-old (m .log .entries) (entryOf c i .readings) (entryOf c i .indicator) g
 
     with-wanted : anyWanted es ≡ true → (t : Bool) → leb (entryCount c) i ≡ t
-        → Comes (entryCount c) (cond t (ended short m i)
-        (cond (eqb (deliveryCause c m i) 0) (course c n (deliver m rs ind) (i + 1)) (refusedAt (deliveryCause c m i) (deliveryByte c i (deliveryCause c m i)))))
+        → AllowedResult (entryCount c) (cond t (ended short m i)
+        (cond (eqb (deliveryCause c m i) 0) (execution c n (deliver m rs ind) (i + 1)) (refusedAt (deliveryCause c m i) (deliveryByte c i (deliveryCause c m i)))))
     with-wanted some true e = (s, used)
     with-wanted some false e = step (eqb (deliveryCause c m i) 0) refl
       where
         step : (t : Bool) → eqb (deliveryCause c m i) 0 ≡ t
-            → Comes (entryCount c) (cond t (course c n (deliver m (entryOf c i .readings) (entryOf c i .indicator)) (i + 1)) (refusedAt (deliveryCause c m i) (deliveryByte c i (deliveryCause c m i))))
+            → AllowedResult (entryCount c) (cond t (execution c n (deliver m (entryOf c i .readings) (entryOf c i .indicator)) (i + 1)) (refusedAt (deliveryCause c m i) (deliveryByte c i (deliveryCause c m i))))
         step true f = delivering (leb-false (entryCount c) i e) (eqb-true (deliveryCause c m i) 0 f)
         step false f = inr (delivery-numbers m (entryOf c i .readings) (s .sound) some f)
 
-    promoting : anyWanted es ≡ false → rule.promote (m .log) .outcome ≡ rule.promoted → Comes (entryCount c) (course c n (promoteStep m) i)
+    promoting : anyWanted es ≡ false → rule.promote (m .log) .outcome ≡ rule.promoted → AllowedResult (entryCount c) (execution c n (promoteStep m) i)
     promoting free is = later (promoteStep m) i next used (omega (arith, h, more, most))
       where
         none : length (m .log .entries) ≤ firstWanted (m .log .entries)
         none = ltb-false (firstWanted (m .log .entries)) (length (m .log .entries)) (unfold anyWanted in free)
 
-        next : Stands (promoteStep m)
-        next = promoted-stands m s none
+        next : RunInvariant (promoteStep m)
+        next = promoted-invariant m s none
 
         most : countOf 2 (promoteStep m .log .entries) ≤ 512
         most = omega (arith, count-most 2 (promoteStep m .log .entries), next .sound .count .1)
@@ -143,41 +143,41 @@ module _ (c : List ℕ) where
             ap (λ (l : Log). countOf 2 (l .entries)) (promoted-log (m .log) is)
             ∙ refined-old (m .log .settings .axes) (m .log .entries) (rule.selected (m .log .entries)) (x .0) (x .1)
 
-    without : (o : rule.Outcome) → (o ≡ rule.promoted → Comes (entryCount c) (course c n (promoteStep m) i)) → Comes (entryCount c) (byOutcome o m i (course c n (promoteStep m) i))
+    without : (o : rule.Outcome) → (o ≡ rule.promoted → AllowedResult (entryCount c) (execution c n (promoteStep m) i)) → AllowedResult (entryCount c) (byOutcome o m i (execution c n (promoteStep m) i))
     unfolding byOutcome
     without rule.met f = (s, used)
     without rule.spent f = (s, used)
     without rule.promoted f = f refl
 
-    one-step : Comes (entryCount c) (course c (suc n) m i)
-    unfolding course
+    one-step : AllowedResult (entryCount c) (execution c (suc n) m i)
+    unfolding execution
     one-step = step (anyWanted es) refl
       where
         step : (t : Bool) → anyWanted (m .log .entries) ≡ t
-            → Comes (entryCount c) (cond t
+            → AllowedResult (entryCount c) (cond t
             (cond (leb (entryCount c) i) (ended short m i)
-            (cond (eqb (deliveryCause c m i) 0) (course c n (deliver m (entryOf c i .readings) (entryOf c i .indicator)) (i + 1)) (refusedAt (deliveryCause c m i) (deliveryByte c i (deliveryCause c m i)))))
-            (byOutcome (rule.promote (m .log) .outcome) m i (course c n (promoteStep m) i)))
+            (cond (eqb (deliveryCause c m i) 0) (execution c n (deliver m (entryOf c i .readings) (entryOf c i .indicator)) (i + 1)) (refusedAt (deliveryCause c m i) (deliveryByte c i (deliveryCause c m i)))))
+            (byOutcome (rule.promote (m .log) .outcome) m i (execution c n (promoteStep m) i)))
         step true e = with-wanted e (leb (entryCount c) i) refl
         step false e = without (rule.promote (m .log) .outcome) (promoting e)
 
-  pub course-ends : (n : ℕ) → Ends n
-  course-ends zero m i s u h = absurd (omega (arith, h))
-  course-ends (suc n) m i s u h = one-step n (course-ends n) m i s u h
+  pub execution-ends : (n : ℕ) → Ends n
+  execution-ends zero m i s u h = absurd (omega (arith, h))
+  execution-ends (suc n) m i s u h = one-step n (execution-ends n) m i s u h
 
 -- ---- from the start
 
-started-ends : (c : List ℕ) → entryCount c ≤ 512 → startCause c ≡ 0 → Comes (entryCount c) (course c steps (started (fileSettings c)) 0)
+started-ends : (c : List ℕ) → entryCount c ≤ 512 → startCause c ≡ 0 → AllowedResult (entryCount c) (execution c stepLimit (started (fileSettings c)) 0)
 started-ends c few none =
-    course-ends c steps (started (fileSettings c)) 0
-    (stands (started (fileSettings c)) (step-facts .start (fileSettings c) (startable ownLengths (fileSettings c) none .settings))
+    execution-ends c stepLimit (started (fileSettings c)) 0
+    (invariant (started (fileSettings c)) (step-facts .start (fileSettings c) (startable ownLengths (fileSettings c) none .settings))
     (unfold started in sym (mean-facts .start (fileSettings c)))) (omega arith) (omega (arith, few))
 
-pub run-comes : (c : List ℕ) → entryCount c ≤ 512 → formOf c ≡ formed → Comes (entryCount c) (resultOf c)
+pub run-allowed : (c : List ℕ) → entryCount c ≤ 512 → formOf c ≡ formed → AllowedResult (entryCount c) (resultOf c)
 unfolding resultOf resultIn
-run-comes c few e = rw e (begun (eqb (startCause c) 0) refl)
+run-allowed c few e = rw e (begun (eqb (startCause c) 0) refl)
   where
     begun : (t : Bool) → eqb (startCause c) 0 ≡ t
-        → Comes (entryCount c) (cond t (course c steps (started (fileSettings c)) 0) (refusedAt (startCause c) (startByte (startCause c))))
+        → AllowedResult (entryCount c) (cond t (execution c stepLimit (started (fileSettings c)) 0) (refusedAt (startCause c) (startByte (startCause c))))
     begun true q = started-ends c few (eqb-true (startCause c) 0 q)
     begun false q = inl (start-numbers (fileSettings c) q)

@@ -3,7 +3,7 @@ pub mod Blocks
 pub mod Deliveries
 pub mod Stepping
 pub mod Reports
-pub mod Going
+pub mod StepCases
 pub mod Whole
 pub mod Counted
 pub mod Ends

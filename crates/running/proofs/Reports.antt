@@ -8,16 +8,16 @@ use Rattle.machine.specs.Counts as machine
 use Rattle.counting.specs.declared.Counts.{Counts}
 use Rattle.counting.specs.Answer.{countsIn}
 use Rattle.reporting.specs.declared.Ending as code
-use Rattle.reporting.specs.Text.{Figures}
-use Rattle.reporting.specs.Code.{endingIn, figuresIn}
-use Rattle.running.specs.Report.{figuresOf}
+use Rattle.reporting.specs.Text.{ReportValues}
+use Rattle.reporting.specs.Code.{endingIn, reportValuesIn}
+use Rattle.running.specs.Report.{reportValuesOf}
 
-pub figures-are : (m : Machine) (e : code.Ending) (u : ℕ) (c : Counts) (z : ℤ) → z ≡ c .mean → countsIn c ≡ machine.countsOf m
-    → figuresIn (record { axes = m .log .settings .axes; old = c .old; active = c .active; wanted = c .wanted; reserved = c .reserved; pending = c .pending; ceiling = c .ceiling; scaled = z; unused = u; ending = e })
-    ≡ figuresOf (endingIn e) m u
-unfolding figuresIn figuresOf countsIn
-figures-are m e u c z same is =
-    ap {B = Figures}
+pub report-values-are : (m : Machine) (e : code.Ending) (u : ℕ) (c : Counts) (z : ℤ) → z ≡ c .mean → countsIn c ≡ machine.countsOf m
+    → reportValuesIn (record { axes = m .log .settings .axes; old = c .old; active = c .active; wanted = c .wanted; reserved = c .reserved; pending = c .pending; ceiling = c .ceiling; scaled = z; unused = u; ending = e })
+    ≡ reportValuesOf (endingIn e) m u
+unfolding reportValuesIn reportValuesOf countsIn
+report-values-are m e u c z same is =
+    ap {B = ReportValues}
     (λ x. record {
       axes = m .log .settings .axes;
       old = c .old;
@@ -30,7 +30,7 @@ figures-are m e u c z same is =
       unused = u;
       ending = endingIn e;
     }) same
-    ∙ ap {B = Figures}
+    ∙ ap {B = ReportValues}
     (λ (x : machine.Counts). record {
       axes = m .log .settings .axes;
       old = x .old;

@@ -19,15 +19,15 @@ use Rattle.machine.specs.Causes.{firstCause, startCauses}
 use Rattle.encoding.specs.Entries.{SoundMachine}
 use Rattle.machine.proofs.Facts.{step-facts}
 use Rattle.writing.specs.Changes.{rootRecord}
-use Rattle.writing.specs.Settled.{Settled}
+use Rattle.writing.specs.ValidArea.{ValidArea}
 use Rattle.writing.proofs.Facts.{write-facts}
-use Rattle.writing.proofs.After.{written-settled}
+use Rattle.writing.proofs.After.{written-valid}
 use Rattle.calls.proofs.Accepted.{startable}
 use Rattle.calls.proofs.Written.{written-state}
 use Rattle.jobfile.specs.Form.{Fault, formed, broken, number, byteOf, formOf, entryCount}
 use Rattle.reporting.specs.Text.{refusalText}
-use Rattle.running.specs.declared.Ran.the-variants as rans
-use Rattle.running.specs.Course.{ownLengths, refusedAt, course, steps, startByte, startCause, resultIn, resultOf, fileSettings}
+use Rattle.running.specs.declared.RunStatus.the-variants as statuses
+use Rattle.running.specs.Execution.{ownLengths, refusedAt, execution, stepLimit, startByte, startCause, resultIn, resultOf, fileSettings}
 use Rattle.running.specs.Report.{textIn, textOf}
 use Rattle.running.specs.Code.{Printed, runOn}
 
@@ -50,9 +50,9 @@ module _ (g : Settings) (none : firstCause (startCauses ownLengths g) ≡ 0) (j 
       (λ i. record { job = job i; run = run i; store = store })
       ∙ sym (write-facts .start (areaOf j before store) g (omega (arith, records-there)))
 
-  pub start-settled : Settled (areaOf j cells store)
-  start-settled =
-      written-settled (areaOf j before store) (started g) sound (omega (arith, records-there))
+  pub start-valid : ValidArea (areaOf j cells store)
+  start-valid =
+      written-valid (areaOf j before store) (started g) sound (omega (arith, records-there))
       (unfold started in omega (arith, room, startable ownLengths g none .readings)) j cells store area-is
 
   pub start-state : machineOf (areaOf j cells store) ≡ started g
@@ -69,7 +69,7 @@ module _ (c : List ℕ) (n : ℕ) (before after : List ℕ) (end : ℕ) where
       text-is = unfold textOf resultOf resultIn textIn in ap (λ x. textIn (entryCount c) (resultIn x c)) e
 
   module _ (right : formOf c ≡ formed) where
-    of-form : textOf c ≡ textIn (entryCount c) (cond (eqb (startCause c) 0) (course c steps (started (fileSettings c)) 0) (refusedAt (startCause c) (startByte (startCause c))))
+    of-form : textOf c ≡ textIn (entryCount c) (cond (eqb (startCause c) 0) (execution c stepLimit (started (fileSettings c)) 0) (refusedAt (startCause c) (startByte (startCause c))))
     unfolding textOf resultOf resultIn
     of-form = ap (λ x. textIn (entryCount c) (resultIn x c)) right
 
@@ -80,26 +80,26 @@ module _ (c : List ℕ) (n : ℕ) (before after : List ℕ) (end : ℕ) where
         text-is : textOf c ≡ refusalText k byte
         text-is =
             of-form
-            ∙ ap (λ x. textIn (entryCount c) (cond (eqb x 0) (course c steps (started (fileSettings c)) 0) (refusedAt x (startByte x)))) (sym e)
-            ∙ ap (λ t. textIn (entryCount c) (cond t (course c steps (started (fileSettings c)) 0) (refusedAt k (startByte k)))) (ne-eqb k 0 some)
+            ∙ ap (λ x. textIn (entryCount c) (cond (eqb x 0) (execution c stepLimit (started (fileSettings c)) 0) (refusedAt x (startByte x)))) (sym e)
+            ∙ ap (λ t. textIn (entryCount c) (cond t (execution c stepLimit (started (fileSettings c)) 0) (refusedAt k (startByte k)))) (ne-eqb k 0 some)
             ∙ ap (λ x. textIn (entryCount c) (refusedAt k x)) b
             ∙ unfold textIn in refl
 
     -- it goes its course
-    pub runs : startCause c ≡ 0 → Printed (textIn (entryCount c) (course c 1025 (started (fileSettings c)) 0)) before after end → Printed (textOf c) before after end
+    pub runs : startCause c ≡ 0 → Printed (textIn (entryCount c) (execution c 1025 (started (fileSettings c)) 0)) before after end → Printed (textOf c) before after end
     runs e p =
         subst (λ x. Printed x before after end)
-        (sym (of-form ∙ ap (λ x. textIn (entryCount c) (cond (eqb x 0) (course c steps (started (fileSettings c)) 0) (refusedAt x (startByte x)))) e)) p
+        (sym (of-form ∙ ap (λ x. textIn (entryCount c) (cond (eqb x 0) (execution c stepLimit (started (fileSettings c)) 0) (refusedAt x (startByte x)))) e)) p
 
 -- ---- what run leaves
 
-pub too-short : (c buffer : List ℕ) → length buffer < 512 → record { answer = rans.TooShort; buffer = buffer } ≡ runOn c buffer
+pub too-short : (c buffer : List ℕ) → length buffer < 512 → record { answer = statuses.TooShort; buffer = buffer } ≡ runOn c buffer
 unfolding runOn
 too-short c buffer h = rw (lt-ltb (length buffer) 512 h) refl
 
-pub printed : (c before after : List ℕ) (end : ℕ) → 512 ≤ length before → Printed (textOf c) before after end → record { answer = rans.Written end; buffer = after } ≡ runOn c before
+pub printed : (c before after : List ℕ) (end : ℕ) → 512 ≤ length before → Printed (textOf c) before after end → record { answer = statuses.Written end; buffer = after } ≡ runOn c before
 unfolding runOn
-printed c before after end h p = (λ i. record { answer = rans.Written (p .count i); buffer = p .bytes i }) ∙ rw (le-ltb (length before) 512 h) refl
+printed c before after end h p = (λ i. record { answer = statuses.Written (p .count i); buffer = p .bytes i }) ∙ rw (le-ltb (length before) 512 h) refl
 
 -- the cause is 2 where it is not 1
 pub later-byte : (k : ℕ) → (k ≡ 1 → ⊥) → startByte k ≡ 4
@@ -108,6 +108,6 @@ later-byte k f = ap (λ t. cond {A = ℕ} t 0 4) (ne-eqb k 1 f)
 
 -- the number of entries read from the file
 pub same-run : (c before after : List ℕ) (end : ℕ) {g : Settings} {entries : ℕ} → g ≡ fileSettings c → entries ≡ entryCount c
-    → Printed (textIn entries (course c 1025 (started g) 0)) before after end
-    → Printed (textIn (entryCount c) (course c 1025 (started (fileSettings c)) 0)) before after end
+    → Printed (textIn entries (execution c 1025 (started g) 0)) before after end
+    → Printed (textIn (entryCount c) (execution c 1025 (started (fileSettings c)) 0)) before after end
 same-run c before after end e n p = rw (sym e, sym n) p

@@ -9,35 +9,35 @@ use lib.ListN.{length, drop}
 use Rattle.area.specs.declared.JobRecord.{JobRecord}
 use Rattle.area.specs.Log.{Machine}
 use Rattle.area.specs.Encoding.{areaOf, machineOf}
-use Rattle.writing.specs.Settled.{Settled}
+use Rattle.writing.specs.ValidArea.{ValidArea}
 use Rattle.promotion.specs.declared.Outcome as outcome
 use Rattle.promotion.specs.declared.Outcome.the-variants as outcomes
 use Rattle.reporting.specs.declared.Ending.the-variants as endings
 use Rattle.reporting.specs.Code.{endingIn}
-use Rattle.running.specs.declared.Given as given
-use Rattle.running.specs.declared.Given.the-variants as givens
+use Rattle.running.specs.declared.EntryDelivery as delivery
+use Rattle.running.specs.declared.EntryDelivery.the-variants as deliveries
 use Rattle.running.specs.declared.Step as step
 use Rattle.running.specs.declared.Step.the-variants as steps
-use Rattle.running.specs.declared.Ran as ran
-use Rattle.running.specs.declared.Ran.the-variants as rans
-use Rattle.running.specs.Course.{Result, refusedAt, ended, course}
+use Rattle.running.specs.declared.RunStatus as status
+use Rattle.running.specs.declared.RunStatus.the-variants as statuses
+use Rattle.running.specs.Execution.{Result, refusedAt, ended, execution}
 use Rattle.running.specs.Report.{textOf}
 
 -- The result of a run that goes on with a delivery, n steps at most after it: c are the file's bytes, i the entry, `cells` and `store` what
 -- the delivery left.
-unfoldable pub afterGiven : List ℕ → (n i : ℕ) → given.Given → (cells : List ℕ) (store : List ℤ) → Result
-afterGiven c n i (givens.Refused number byte) cells store = refusedAt number byte
-afterGiven c n i (givens.Done job) cells store = course c n (machineOf (areaOf job cells store)) (i + 1)
+unfoldable pub afterDelivery : List ℕ → (n i : ℕ) → delivery.EntryDelivery → (cells : List ℕ) (store : List ℤ) → Result
+afterDelivery c n i (deliveries.Refused number byte) cells store = refusedAt number byte
+afterDelivery c n i (deliveries.Done job) cells store = execution c n (machineOf (areaOf job cells store)) (i + 1)
 
--- What was delivered left a settled area.
-abbrev pub SettledGiven : given.Given → List ℕ → List ℤ → Type 0
-SettledGiven (givens.Refused number byte) cells store = Unit {0}
-SettledGiven (givens.Done job) cells store = Settled (areaOf job cells store)
+-- What was delivered left a valid area.
+abbrev pub ValidDelivery : delivery.EntryDelivery → List ℕ → List ℤ → Type 0
+ValidDelivery (deliveries.Refused number byte) cells store = Unit {0}
+ValidDelivery (deliveries.Done job) cells store = ValidArea (areaOf job cells store)
 
 -- A delivery, and a promotion's outcome, as a step.
-unfoldable pub stepGiven : given.Given → step.Step
-stepGiven (givens.Refused number byte) = steps.Refused number byte
-stepGiven (givens.Done job) = steps.Delivered job
+unfoldable pub stepOfDelivery : delivery.EntryDelivery → step.Step
+stepOfDelivery (deliveries.Refused number byte) = steps.Refused number byte
+stepOfDelivery (deliveries.Done job) = steps.Delivered job
 
 unfoldable pub stepPromoted : outcome.Outcome → JobRecord → step.Step
 stepPromoted outcomes.Met job = steps.Ended endings.Met
@@ -48,15 +48,15 @@ stepPromoted outcomes.Promoted job = steps.Promoted job
 unfoldable pub afterStep : List ℕ → (n i : ℕ) → Machine → step.Step → (cells : List ℕ) (store : List ℤ) → Result
 afterStep c n i m (steps.Refused number byte) cells store = refusedAt number byte
 afterStep c n i m (steps.Ended e) cells store = ended (endingIn e) m i
-afterStep c n i m (steps.Delivered job) cells store = course c n (machineOf (areaOf job cells store)) (i + 1)
-afterStep c n i m (steps.Promoted job) cells store = course c n (machineOf (areaOf job cells store)) i
+afterStep c n i m (steps.Delivered job) cells store = execution c n (machineOf (areaOf job cells store)) (i + 1)
+afterStep c n i m (steps.Promoted job) cells store = execution c n (machineOf (areaOf job cells store)) i
 
--- A step that goes on left a settled area, and delivered one of the entries; one that ends the run left the area. n are the entries.
-abbrev pub LeftByStep : (n i : ℕ) → JobRecord → List ℕ → List ℤ → step.Step → List ℕ → List ℤ → Type 0
-LeftByStep n i j c s (steps.Refused number byte) cells store = Unit {0}
-LeftByStep n i j c s (steps.Ended e) cells store = areaOf j cells store ≡ areaOf j c s
-LeftByStep n i j c s (steps.Delivered job) cells store = Settled (areaOf job cells store) × (i < n)
-LeftByStep n i j c s (steps.Promoted job) cells store = Settled (areaOf job cells store)
+-- A step that goes on left a valid area, and delivered one of the entries; one that ends the run left the area. n are the entries.
+abbrev pub StepPostcondition : (n i : ℕ) → JobRecord → List ℕ → List ℤ → step.Step → List ℕ → List ℤ → Type 0
+StepPostcondition n i j c s (steps.Refused number byte) cells store = Unit {0}
+StepPostcondition n i j c s (steps.Ended e) cells store = areaOf j cells store ≡ areaOf j c s
+StepPostcondition n i j c s (steps.Delivered job) cells store = ValidArea (areaOf job cells store) × (i < n)
+StepPostcondition n i j c s (steps.Promoted job) cells store = ValidArea (areaOf job cells store)
 
 -- A text at the beginning of a buffer, and its length.
 pub record Printed (text before after : List ℕ) (end : ℕ) : Type 0 where
@@ -64,11 +64,11 @@ pub record Printed (text before after : List ℕ) (end : ℕ) : Type 0 where
   pub count : end ≡ length text
 
 -- What `run` leaves: its answer and the buffer. A buffer of fewer than 512 bytes is untouched.
-pub record Left : Type 0 where
-  pub answer : ran.Ran
+pub record RunResult : Type 0 where
+  pub answer : status.RunStatus
   pub buffer : List ℕ
 
-unfoldable pub runOn : List ℕ → List ℕ → Left
+unfoldable pub runOn : List ℕ → List ℕ → RunResult
 runOn c buffer =
-    cond (ltb (length buffer) 512) (record { answer = rans.TooShort; buffer = buffer })
-    (record { answer = rans.Written (length (textOf c)); buffer = textOf c ++ drop (length (textOf c)) buffer })
+    cond (ltb (length buffer) 512) (record { answer = statuses.TooShort; buffer = buffer })
+    (record { answer = statuses.Written (length (textOf c)); buffer = textOf c ++ drop (length (textOf c)) buffer })

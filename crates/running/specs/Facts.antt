@@ -9,8 +9,8 @@ use Rattle.area.specs.Log.{Machine}
 use Rattle.encoding.specs.Entries.{SoundMachine}
 use Rattle.machine.specs.Means.{meanOf, crossOf}
 use Rattle.jobfile.specs.Form.{Fault, formed, broken, byteOf, formOf, entryCount}
-use Rattle.running.specs.declared.Ran.the-variants as rans
-use Rattle.running.specs.Course.{Result, refusedAt, ended, unfinished, resultOf}
+use Rattle.running.specs.declared.RunStatus.the-variants as statuses
+use Rattle.running.specs.Execution.{Result, refusedAt, ended, unfinished, resultOf}
 use Rattle.running.specs.Report.{textOf}
 use Rattle.running.specs.Code.{runOn}
 
@@ -23,25 +23,25 @@ ByDelivery n = (n ≡ 7) ⊎ (n ≡ 8)
 
 -- A state that a run reaches: the clauses of soundness hold, and the mean that is printed as `scaled` is the sum of the delivered indices'
 -- differences, and the combination sum.
-pub record Stands (m : Machine) : Type 0 where
+pub record RunInvariant (m : Machine) : Type 0 where
   pub sound : SoundMachine m
   pub differences : m .mean ≡ meanOf (m .log .entries)
   pub combination : m .mean ≡ crossOf (m .log .entries)
 
 -- What a file of the right form comes to; n is the number of its entries.
-abbrev pub Comes : (n : ℕ) → Result → Type 0
-Comes n (refusedAt number byte) = ByStart number ⊎ ByDelivery number
-Comes n (ended e m used) = Stands m × (used ≤ n)
-Comes n unfinished = ⊥
+abbrev pub AllowedResult : (n : ℕ) → Result → Type 0
+AllowedResult n (refusedAt number byte) = ByStart number ⊎ ByDelivery number
+AllowedResult n (ended e m used) = RunInvariant m × (used ≤ n)
+AllowedResult n unfinished = ⊥
 
-pub record CourseFacts : Type 0 where
+pub record ExecutionFacts : Type 0 where
   -- 10 comes of a broken form, before all, with the byte that the form names
   pub malformed : (c : List ℕ) (f : Fault) → formOf c ≡ broken f → resultOf c ≡ refusedAt 10 (byteOf f)
   -- and of nothing else: a file of the right form is refused by 1, 2, 7 or 8, or it ends
-  pub well-formed : (c : List ℕ) → formOf c ≡ formed → Comes (entryCount c) (resultOf c)
+  pub well-formed : (c : List ℕ) → formOf c ≡ formed → AllowedResult (entryCount c) (resultOf c)
   -- the first 38,937 bytes decide what is printed: a program need not read more
   pub decided : (c : List ℕ) → 38937 ≤ length c → textOf (take 38937 c) ≡ textOf c
   pub ends : (c : List ℕ) → resultOf c ≡ unfinished → ⊥
   pub room : (c : List ℕ) → length (textOf c) ≤ 512
   -- so what an answer counts are bytes of the buffer
-  pub within : (c buffer : List ℕ) (n : ℕ) → runOn c buffer .answer ≡ rans.Written n → n ≤ length buffer
+  pub within : (c buffer : List ℕ) (n : ℕ) → runOn c buffer .answer ≡ statuses.Written n → n ≤ length buffer

@@ -1,5 +1,5 @@
 -- A job file's run: its course, its report, and that it always ends.
-pub mod Course
+pub mod Execution
 pub mod Report
 pub mod Code
 pub mod Facts

@@ -4,12 +4,12 @@ use Prim.Native.Nat.{ℕ, _-_}
 use Rattle.area.specs.Log.{Machine}
 use Rattle.machine.specs.Counts.{countsOf}
 use Rattle.jobfile.specs.Form.{entryCount}
-use Rattle.reporting.specs.Text.{Ending, Figures, reportText, refusalText}
-use Rattle.running.specs.Course.{Result, refusedAt, ended, unfinished, resultOf}
+use Rattle.reporting.specs.Text.{Ending, ReportValues, reportText, refusalText}
+use Rattle.running.specs.Execution.{Result, refusedAt, ended, unfinished, resultOf}
 
 -- `axes` is d, `unused` counts entries not delivered, and `end` names the ending. The other lines are Result's.
-unfoldable pub figuresOf : Ending → Machine → (unused : ℕ) → Figures
-figuresOf e m u =
+unfoldable pub reportValuesOf : Ending → Machine → (unused : ℕ) → ReportValues
+reportValuesOf e m u =
     record {
       axes = m .log .settings .axes;
       old = countsOf m .old;
@@ -26,7 +26,7 @@ figuresOf e m u =
 -- n is the number of the file's entries.
 unfoldable pub textIn : ℕ → Result → List ℕ
 textIn n (refusedAt number byte) = refusalText number byte
-textIn n (ended e m i) = reportText (figuresOf e m (n - i))
+textIn n (ended e m i) = reportText (reportValuesOf e m (n - i))
 textIn n unfinished = []
 
 -- The text that a file's bytes give.

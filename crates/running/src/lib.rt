@@ -6,19 +6,19 @@ ghost use lib.ListN.{length, drop};
 ghost use Rattle.area.specs.Encoding.{areaOf, entriesOf, machineOf};
 ghost use Rattle.machine.specs.Log.{firstWanted};
 ghost use Rattle.machine.specs.Steps.{started, deliver};
-ghost use Rattle.writing.specs.Settled.{Settled};
+ghost use Rattle.writing.specs.ValidArea.{ValidArea};
 ghost use Rattle.jobfile.specs.Form.{formed, formOf, entryCount};
 ghost use Rattle.jobfile.specs.File.{readingsAt, entryOf};
 ghost use Rattle.jobfile.specs.Facts.{FormedFile};
-ghost use Rattle.running.specs.Course.{ownLengths, fileSettings, firstBad, unlessRefused, course as courseOf};
+ghost use Rattle.running.specs.Execution.{ownLengths, fileSettings, firstOutOfRange, unlessRefused, execution as executionOf};
 ghost use Rattle.machine.specs.Causes.{firstCause, startCauses};
 ghost use Rattle.reporting.specs.Text.{reportText};
 ghost use Rattle.reporting.specs.Code.{endingIn};
-ghost use Rattle.running.specs.Report.{figuresOf, textIn, textOf};
-ghost use Rattle.running.specs.Code.{afterGiven, SettledGiven, stepGiven, stepPromoted, afterStep, LeftByStep, Printed, runOn};
+ghost use Rattle.running.specs.Report.{reportValuesOf, textIn, textOf};
+ghost use Rattle.running.specs.Code.{afterDelivery, ValidDelivery, stepOfDelivery, stepPromoted, afterStep, StepPostcondition, Printed, runOn};
 
 // What a run answers: the buffer is too short for a report, or the text is in it, so many bytes long.
-pub enum Ran {
+pub enum RunStatus {
     TooShort,
     Written(usize),
 }
@@ -32,7 +32,7 @@ enum Step {
 }
 
 // An entry delivered, with the job record after it, or refused by a cause that names a byte.
-enum Given {
+enum EntryDelivery {
     Refused(u32, usize),
     Done(area::JobRecord),
 }
@@ -50,8 +50,8 @@ fn read_block(bytes: &[u8], from: usize, count: usize, block: &mut [i32])
 }
 
 // How many readings come before the first that is out of range.
-fn first_bad(readings: &[i32]) -> usize
-    ensures { λ r. ⌜ r ≡ firstBad (now (readings .entry)) ⌝ }
+fn first_out_of_range(readings: &[i32]) -> usize
+    ensures { λ r. ⌜ r ≡ firstOutOfRange (now (readings .entry)) ⌝ }
 {
     let count = readings.len();
     let mut n: usize = 0;
@@ -77,11 +77,11 @@ fn deliver_entry(
     block: &mut [i32],
     cells: &mut [u32],
     store: &mut [i32],
-) -> Given
-    requires { ⌜ Settled (areaOf job (now cells) (now store)) × (place ≡ firstWanted (entriesOf (areaOf job (now cells) (now store)))) × (place < job .held) ⌝ }
+) -> EntryDelivery
+    requires { ⌜ ValidArea (areaOf job (now cells) (now store)) × (place ≡ firstWanted (entriesOf (areaOf job (now cells) (now store)))) × (place < job .held) ⌝ }
     requires { ⌜ FormedFile (now bytes) × (i < entryCount (now bytes)) × (8192 ≤ length (now block)) ⌝ }
-    ensures is { λ r. ⌜ ((n : ℕ) → unlessRefused (now (bytes .entry)) (machineOf (areaOf job (now (cells .entry)) (now (store .entry)))) i (courseOf (now (bytes .entry)) n (deliver (machineOf (areaOf job (now (cells .entry)) (now (store .entry)))) (entryOf (now (bytes .entry)) i .readings) (entryOf (now (bytes .entry)) i .indicator)) (i + 1)) ≡ afterGiven (now (bytes .entry)) n i r (now (cells .exit)) (now (store .exit))) ⌝ }
-    ensures settled { λ r. ⌜ SettledGiven r (now (cells .exit)) (now (store .exit)) ⌝ }
+    ensures is { λ r. ⌜ ((n : ℕ) → unlessRefused (now (bytes .entry)) (machineOf (areaOf job (now (cells .entry)) (now (store .entry)))) i (executionOf (now (bytes .entry)) n (deliver (machineOf (areaOf job (now (cells .entry)) (now (store .entry)))) (entryOf (now (bytes .entry)) i .readings) (entryOf (now (bytes .entry)) i .indicator)) (i + 1)) ≡ afterDelivery (now (bytes .entry)) n i r (now (cells .exit)) (now (store .exit))) ⌝ }
+    ensures valid { λ r. ⌜ ValidDelivery r (now (cells .exit)) (now (store .exit)) ⌝ }
 {
     let at = 24 + 12 * i;
     let indicator = jobfile::four_at(bytes, at);
@@ -90,24 +90,24 @@ fn deliver_entry(
     let settings = job.settings;
     let size = area::reading_count(settings, area::levels_at(cells, place));
     if count != size {
-        return Given::Refused(7, at + 4);
+        return EntryDelivery::Refused(7, at + 4);
     }
     read_block(bytes, from, count, block);
-    let bad = first_bad(&block[..count]);
+    let bad = first_out_of_range(&block[..count]);
     if bad < count {
-        return Given::Refused(8, from + 4 * bad);
+        return EntryDelivery::Refused(8, from + 4 * bad);
     }
     let after = delivery::deliver(job, place, &block[..count], indicator, cells, store);
-    Given::Done(after)
+    EntryDelivery::Done(after)
 }
 
 // A delivery as a step.
-fn step_of_given(given: Given) -> Step
-    ensures { λ r. ⌜ r ≡ stepGiven given ⌝ }
+fn step_of_delivery(delivery: EntryDelivery) -> Step
+    ensures { λ r. ⌜ r ≡ stepOfDelivery delivery ⌝ }
 {
-    match given {
-        Given::Refused(number, byte) => Step::Refused(number, byte),
-        Given::Done(job) => Step::Delivered(job),
+    match delivery {
+        EntryDelivery::Refused(number, byte) => Step::Refused(number, byte),
+        EntryDelivery::Done(job) => Step::Delivered(job),
     }
 }
 
@@ -132,9 +132,9 @@ fn next_step(
     cells: &mut [u32],
     store: &mut [i32],
 ) -> Step
-    requires { ⌜ Settled (areaOf job (now cells) (now store)) × FormedFile (now bytes) × (entries ≡ entryCount (now bytes)) × (8192 ≤ length (now block)) ⌝ }
-    ensures is { λ r. ⌜ ((n : ℕ) → courseOf (now (bytes .entry)) (suc n) (machineOf (areaOf job (now (cells .entry)) (now (store .entry)))) used ≡ afterStep (now (bytes .entry)) n used (machineOf (areaOf job (now (cells .entry)) (now (store .entry)))) r (now (cells .exit)) (now (store .exit))) ⌝ }
-    ensures left { λ r. ⌜ LeftByStep entries used job (now (cells .entry)) (now (store .entry)) r (now (cells .exit)) (now (store .exit)) ⌝ }
+    requires { ⌜ ValidArea (areaOf job (now cells) (now store)) × FormedFile (now bytes) × (entries ≡ entryCount (now bytes)) × (8192 ≤ length (now block)) ⌝ }
+    ensures is { λ r. ⌜ ((n : ℕ) → executionOf (now (bytes .entry)) (suc n) (machineOf (areaOf job (now (cells .entry)) (now (store .entry)))) used ≡ afterStep (now (bytes .entry)) n used (machineOf (areaOf job (now (cells .entry)) (now (store .entry)))) r (now (cells .exit)) (now (store .exit))) ⌝ }
+    ensures left { λ r. ⌜ StepPostcondition entries used job (now (cells .entry)) (now (store .entry)) r (now (cells .exit)) (now (store .exit)) ⌝ }
 {
     let held = job.held as usize;
     let place = delivery::first_wanted(held, cells);
@@ -142,8 +142,8 @@ fn next_step(
         if entries <= used {
             return Step::Ended(reporting::Ending::Short);
         }
-        let given = deliver_entry(job, place, used, bytes, block, cells, store);
-        return step_of_given(given);
+        let delivery = deliver_entry(job, place, used, bytes, block, cells, store);
+        return step_of_delivery(delivery);
     }
     let promotion = promotion::promote(job, cells, store);
     let outcome = promotion.outcome;
@@ -160,11 +160,11 @@ fn put_ended(
     store: &[i32],
     report: &mut [u8],
 ) -> usize
-    requires { ⌜ Settled (areaOf job (now cells) (now store)) × (unused ≤ 512) × (512 ≤ length (now report)) ⌝ }
-    ensures { λ r. ⌜ Printed (reportText (figuresOf (endingIn ending) (machineOf (areaOf job (now (cells .entry)) (now (store .entry)))) unused)) (now (report .entry)) (now (report .exit)) r ⌝ }
+    requires { ⌜ ValidArea (areaOf job (now cells) (now store)) × (unused ≤ 512) × (512 ≤ length (now report)) ⌝ }
+    ensures { λ r. ⌜ Printed (reportText (reportValuesOf (endingIn ending) (machineOf (areaOf job (now (cells .entry)) (now (store .entry)))) unused)) (now (report .entry)) (now (report .exit)) r ⌝ }
 {
     let counts = counting::result(job, cells, store);
-    let figures = reporting::Figures {
+    let values = reporting::ReportValues {
         axes: job.settings.axes,
         old: counts.old,
         active: counts.active,
@@ -176,7 +176,7 @@ fn put_ended(
         unused: unused as u32,
         ending,
     };
-    reporting::put_report(figures, report)
+    reporting::put_report(values, report)
 }
 
 // Goes on with a run, so many steps at most. It calls itself once for each step.
@@ -191,9 +191,9 @@ fn run_from(
     store: &mut [i32],
     report: &mut [u8],
 ) -> usize
-    requires { ⌜ Settled (areaOf job (now cells) (now store)) × FormedFile (now bytes) × (entries ≡ entryCount (now bytes)) × (8192 ≤ length (now block)) ⌝ }
+    requires { ⌜ ValidArea (areaOf job (now cells) (now store)) × FormedFile (now bytes) × (entries ≡ entryCount (now bytes)) × (8192 ≤ length (now block)) ⌝ }
     requires { ⌜ (used ≤ entries) × (512 ≤ length (now report)) ⌝ }
-    ensures { λ r. ⌜ Printed (textIn entries (courseOf (now (bytes .entry)) left (machineOf (areaOf job (now (cells .entry)) (now (store .entry)))) used)) (now (report .entry)) (now (report .exit)) r ⌝ }
+    ensures { λ r. ⌜ Printed (textIn entries (executionOf (now (bytes .entry)) left (machineOf (areaOf job (now (cells .entry)) (now (store .entry)))) used)) (now (report .entry)) (now (report .exit)) r ⌝ }
 {
     if left == 0 {
         return 0;
@@ -230,7 +230,7 @@ fn run_from(
 // Runs a job that start accepts, with the area in locals: 512 records, and 8,192 readings for the store and for a block.
 fn run_started(settings: area::Settings, entries: usize, bytes: &[u8], report: &mut [u8]) -> usize
     requires { ⌜ (firstCause (startCauses ownLengths settings) ≡ 0) × FormedFile (now bytes) × (entries ≡ entryCount (now bytes)) × (512 ≤ length (now report)) ⌝ }
-    ensures { λ r. ⌜ Printed (textIn entries (courseOf (now (bytes .entry)) 1025 (started settings) 0)) (now (report .entry)) (now (report .exit)) r ⌝ }
+    ensures { λ r. ⌜ Printed (textIn entries (executionOf (now (bytes .entry)) 1025 (started settings) 0)) (now (report .entry)) (now (report .exit)) r ⌝ }
 {
     let mut cells = [0u32; 13824];
     let mut store = [0i32; 8192];
@@ -279,17 +279,21 @@ fn run_formed(bytes: &[u8], report: &mut [u8]) -> usize
 }
 
 // Runs a job file, and writes its report, or the line of its refusal, at the beginning of the buffer. 512 bytes suffice.
-pub fn run(bytes: &[u8], report: &mut [u8]) -> Ran
+pub fn run(bytes: &[u8], report: &mut [u8]) -> RunStatus
     ensures { λ r. ⌜ record { answer = r; buffer = now (report .exit) } ≡ runOn (now (bytes .entry)) (now (report .entry)) ⌝ }
 {
     if report.len() < 512 {
-        return Ran::TooShort;
+        return RunStatus::TooShort;
     }
     let form = jobfile::parse(bytes);
     match form {
-        jobfile::Form::Formed => Ran::Written(run_formed(bytes, report)),
-        jobfile::Form::Header(byte) => Ran::Written(reporting::put_refusal(10, byte, report)),
-        jobfile::Form::Entry(byte) => Ran::Written(reporting::put_refusal(10, byte, report)),
-        jobfile::Form::Readings(byte) => Ran::Written(reporting::put_refusal(10, byte, report)),
+        jobfile::Form::Formed => RunStatus::Written(run_formed(bytes, report)),
+        jobfile::Form::Header(byte) => RunStatus::Written(reporting::put_refusal(10, byte, report)),
+        jobfile::Form::Entry(byte) => RunStatus::Written(reporting::put_refusal(10, byte, report)),
+        jobfile::Form::Readings(byte) => RunStatus::Written(reporting::put_refusal(
+            10,
+            byte,
+            report,
+        )),
     }
 }

@@ -14,7 +14,7 @@ use Rattle.area.specs.declared.IndexRecord.{IndexRecord}
 use Rattle.area.specs.Encoding.{none}
 use Rattle.soundness.specs.Held.{levelsAt, stateAt, forwardLink, backwardLink, Holds, Held, HeldOld}
 use Rattle.soundness.specs.Sound.{Structure}
-use Rattle.soundness.specs.Follow.{Behind, Ahead, Bars, Followed}
+use Rattle.soundness.specs.LinkCheck.{Behind, Ahead, Bars, LinkChecked}
 use Rattle.soundness.proofs.Levels.{find, forward-same, forward-backward-other, at-least, axis-of, index-forward}
 use Rattle.soundness.proofs.Forth.{none-far}
 
@@ -154,5 +154,5 @@ module _ (d : ℕ) (most : d ≤ 8) (rs : List IndexRecord) (s : Structure d rs)
         step (inl t) = (t .0, t .2)
         step (inr f) = absurd (impossible f)
 
-  pub followed : Followed d rs
-  followed = record { count = s .count; index = s .index; states = s .states; first = s .first; only = only; back-none = back-none; back = back; ahead = ahead; complete = complete }
+  pub link-checked : LinkChecked d rs
+  link-checked = record { count = s .count; index = s .index; states = s .states; first = s .first; only = only; back-none = back-none; back = back; ahead = ahead; complete = complete }

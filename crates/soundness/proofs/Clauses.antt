@@ -23,7 +23,7 @@ use Rattle.quadrature.specs.Readings.{recordAt}
 use Rattle.soundness.specs.Held.{levelsAt, stateAt, forwardLink, backwardLink, Held, HeldOld}
 use Rattle.soundness.specs.Sound.{Names, Structure, NumbersSound, Sound, LongEnough, Exactly}
 use Rattle.soundness.specs.Test.{allFrom}
-use Rattle.soundness.specs.Clauses.{isHeld, isHeldOld, isIndex, names, isReading, indexClause, beyondClause, statesClause, countClause, differentClause, firstClause, oldBehind, behindClause, heldIfAdmissible, admissibleClause, forwardLinksClause, backwardLinksClause, noBackwardLinkClause, structureClause, heldLentClause, wantedLastClause, wantedIdleClause, firstReadingsClause, readingsClause, numbersClause, isSound, ClauseFacts, checked}
+use Rattle.soundness.specs.Clauses.{isHeld, isHeldOld, isIndex, names, isReading, indexClause, beyondClause, statesClause, countClause, differentClause, firstClause, oldBehind, behindClause, heldIfAdmissible, admissibleClause, forwardLinksClause, backwardLinksClause, noBackwardLinkClause, structureClause, heldLentClause, wantedLastClause, wantedIndicatorZeroClause, firstReadingsClause, readingsClause, numbersClause, isSound, ClauseFacts, checked}
 use Rattle.soundness.proofs.Exactly.{reads-as, reads-eq, reads-lt, reads-le, reads-not, reads-and, reads-if, reads-all-from, reads-all, reads-any, reads-same}
 use Rattle.soundness.proofs.Settings.{reads-settings}
 use Rattle.soundness.proofs.Levels.{axis-of, root-or}
@@ -174,21 +174,21 @@ module _ (a : Area) where
       and reads-le (natAbs (a .job .mean)) (length (deliveredOf (entriesOf a)) * 2 ^ 40))
 
   pub reads-sound : Exactly (isSound a) (Sound a)
-  unfolding isSound heldLentClause wantedIdleClause firstReadingsClause
+  unfolding isSound heldLentClause wantedIndicatorZeroClause firstReadingsClause
   reads-sound =
       reads-as
-      (λ (((((((lent, settings), structure), wanted-last), wanted-idle), first-readings), readings), numbers).
+      (λ (((((((lent, settings), structure), wanted-last), wanted-indicator-zero), first-readings), readings), numbers).
       record {
         held-lent = lent;
         settings = settings;
         structure = structure;
         wanted-last = wanted-last;
-        wanted-idle = wanted-idle;
+        wanted-indicator-zero = wanted-indicator-zero;
         first-readings = first-readings;
         readings = readings;
         numbers = numbers;
       })
-      (λ s. (((((((s .held-lent, s .settings), s .structure), s .wanted-last), s .wanted-idle), s .first-readings), s .readings), s .numbers))
+      (λ s. (((((((s .held-lent, s .settings), s .structure), s .wanted-last), s .wanted-indicator-zero), s .first-readings), s .readings), s .numbers))
       (reads-le (a .job .held) (length (a .run .records))
       and reads-settings (a .job .settings)
       and reads-structure (a .job .settings .axes) rs

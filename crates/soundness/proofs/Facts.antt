@@ -15,9 +15,9 @@ use Rattle.quadrature.specs.Linked.{deliveredIn}
 use Rattle.quadrature.proofs.Delivered.{delivered-sure}
 use Rattle.quadrature.proofs.Encoded.{held-ready}
 use Rattle.soundness.specs.Sound.{Sound}
-use Rattle.soundness.specs.Facts.{FollowFacts, SoundFacts}
+use Rattle.soundness.specs.Facts.{LinkCheckFacts, SoundFacts}
 use Rattle.soundness.proofs.Forth.{structure}
-use Rattle.soundness.proofs.Back.{followed}
+use Rattle.soundness.proofs.Back.{link-checked}
 use Rattle.soundness.proofs.Tests.{reads-structure}
 use Rattle.soundness.proofs.Totals.{reads-area}
 use Rattle.soundness.proofs.Gives.{structure-linked, sound-ready}
@@ -43,11 +43,11 @@ module _ (a : Area) (sound : Sound a) (room : leastStore (a .job .settings) ≤ 
   all-ready : AllReady (a .job .settings .axes) (a .job .held) (a .run .records) (a .store)
   all-ready = record { few = omega (arith, held-count, sound .structure .count .1); room = sound .held-lent; ready = ready-at }
 
-pub follow-facts : FollowFacts
-follow-facts =
+pub link-check-facts : LinkCheckFacts
+link-check-facts =
     record {
       accepted = structure;
-      accepts = followed;
+      accepts = link-checked;
       tested = λ d few rs formed. reads-structure d rs few formed;
       whole = reads-area;
     }

@@ -15,14 +15,14 @@ use Rattle.area.specs.declared.IndexRecord.{IndexRecord}
 use Rattle.area.specs.Encoding.{none}
 use Rattle.soundness.specs.Held.{levelsAt, stateAt, forwardLink, backwardLink, Holds, Held, HeldOld}
 use Rattle.soundness.specs.Sound.{Structure}
-use Rattle.soundness.specs.Follow.{Behind, Ahead, Bars, Followed}
+use Rattle.soundness.specs.LinkCheck.{Behind, Ahead, Bars, LinkChecked}
 use Rattle.soundness.proofs.Levels.{forward-same, forward-backward-other, at-least, axis-of, root-or, forward-index}
 
 pub none-far : 512 ≤ none
 unfolding none
 none-far = omega arith
 
-module _ (d : ℕ) (most : d ≤ 8) (rs : List IndexRecord) (f : Followed d rs) where
+module _ (d : ℕ) (most : d ≤ 8) (rs : List IndexRecord) (f : LinkChecked d rs) where
   index : (p : ℕ) → p < length rs → Index d (levelsAt rs p)
   index p h = f .index p h
 

@@ -17,7 +17,7 @@ use Rattle.area.specs.declared.Settings.{Settings}
 use Rattle.area.specs.Settings.{leastStore}
 use Rattle.area.specs.Encoding.{Area, heldOf, entriesOf}
 use Rattle.area.proofs.Readings.{reading-facts}
-use Rattle.quadrature.specs.Readings.{recordAt, placeIn, fetched}
+use Rattle.quadrature.specs.Readings.{recordAt, placeIn, storedReading}
 use Rattle.quadrature.specs.Ready.{Ready}
 use Rattle.quadrature.specs.Linked.{Linked}
 use Rattle.quadrature.proofs.Raised.{not-held}
@@ -105,8 +105,8 @@ module _ (a : Area) (sound : Sound a) (room : leastStore (a .job .settings) ≤ 
         (λ x. subst (λ p. 1 ≤ stateAt rs p) (sym (place-is d rs s l (x .0) (x .1))) (omega (arith, x .2)))
         (lower-old d rs s k l (p₀, at) w)
 
-    reading : (l : List ℕ) (n : ℕ) → NowhereHigher l k → n < blockSize l → IsReading (fetched rs (a .store) l n)
-    unfolding fetched
+    reading : (l : List ℕ) (n : ℕ) → NowhereHigher l k → n < blockSize l → IsReading (storedReading rs (a .store) l n)
+    unfolding storedReading
     reading l n w q = sound .readings (placeIn rs l) n (holds l w .place) (state-at l w) (rw (holds l w .same, reading-facts .single g l) q) .1
 
     pub sound-ready : Ready d rs (a .store) k

@@ -17,11 +17,11 @@ use Rattle.area.specs.declared.IndexRecord.{IndexRecord}
 use Rattle.area.specs.Encoding.{none}
 use Rattle.soundness.specs.Held.{levelsAt, stateAt, forwardLink, backwardLink}
 use Rattle.soundness.specs.Sound.{Exactly, Structure}
-use Rattle.soundness.specs.Follow.{Behind, Ahead, Bars, Followed}
-use Rattle.soundness.specs.Test.{allFrom, indexTest, rootTest, behindTest, backTest, aheadTest, axisTest, placeTest, placesTest, barsTest, openTest, completeTest, allCompleteTest, followedTest}
+use Rattle.soundness.specs.LinkCheck.{Behind, Ahead, Bars, LinkChecked}
+use Rattle.soundness.specs.Test.{allFrom, indexTest, rootTest, backwardNeighbourTest, backwardLinkTest, forwardLinkTest, axisTest, placeTest, placesTest, barsTest, axisCompleteTest, placeCompleteTest, allCompleteTest, linkCheckTest}
 use Rattle.soundness.proofs.Exactly.{reads-as, reads-eq, reads-lt, reads-le, reads-not, reads-and, reads-cond, reads-or, reads-if, reads-all-from, reads-all, reads-any, reads-same}
 use Rattle.soundness.proofs.Forth.{structure}
-use Rattle.soundness.proofs.Back.{followed}
+use Rattle.soundness.proofs.Back.{link-checked}
 
 reads-within : (k : List ℕ) → Exactly (within k) (Within k)
 reads-within k = record { sure = within-sure k; back = within-back k }
@@ -44,8 +44,8 @@ module _ (d : ℕ) (rs : List IndexRecord) where
       reads-cond (eqb p 0) (sameLevels (levelsAt rs p) root) (not (sameLevels (levelsAt rs p) root)) (reads-eq p 0)
       (reads-same (levelsAt rs p) root) (reads-not (sameLevels (levelsAt rs p) root) (reads-same (levelsAt rs p) root))
 
-  reads-behind : (p a q : ℕ) → Exactly (behindTest rs p a q) (Behind rs p a q)
-  unfolding behindTest
+  reads-behind : (p a q : ℕ) → Exactly (backwardNeighbourTest rs p a q) (Behind rs p a q)
+  unfolding backwardNeighbourTest
   reads-behind p a q =
       reads-as (λ x. record { place = x .0; same = x .1 .1 .1; old = x .1 .0; named-back = x .1 .1 .0 })
       (λ y. (y .place, (y .old, (y .named-back, y .same))))
@@ -56,13 +56,13 @@ module _ (d : ℕ) (rs : List IndexRecord) where
   Backs p a =
       (level (levelsAt rs p) a ≤ 1 → backwardLink rs p a ≡ none) × ((level (levelsAt rs p) a ≤ 1 → ⊥) → Behind rs p a (backwardLink rs p a))
 
-  reads-back : (p a : ℕ) → Exactly (backTest rs p a) (Backs p a)
-  unfolding backTest
+  reads-back : (p a : ℕ) → Exactly (backwardLinkTest rs p a) (Backs p a)
+  unfolding backwardLinkTest
   reads-back p a =
       reads-cond _ _ _ (reads-le (level (levelsAt rs p) a) 1) (reads-eq (backwardLink rs p a) none) (reads-behind p a (backwardLink rs p a))
 
-  reads-ahead : (p a : ℕ) → Exactly (aheadTest rs p a) ((forwardLink rs p a ≡ none) ⊎ Ahead rs p a (forwardLink rs p a))
-  unfolding aheadTest
+  reads-ahead : (p a : ℕ) → Exactly (forwardLinkTest rs p a) ((forwardLink rs p a ≡ none) ⊎ Ahead rs p a (forwardLink rs p a))
+  unfolding forwardLinkTest
   reads-ahead p a =
       reads-or _ _ (reads-eq (forwardLink rs p a) none)
       (reads-as (λ x. record { place = x .0; named-back = x .1 }) (λ y. (y .place, y .named-back))
@@ -111,8 +111,8 @@ module _ (d : ℕ) (rs : List IndexRecord) where
   abbrev Open : ℕ → ℕ → Type 0
   Open p a = (forwardLink rs p a ≡ none) × (level (levelsAt rs p) a < 8) → (c : ℕ) × (c < d) × Bars d rs p a c
 
-  reads-open : (p a : ℕ) → Exactly (openTest d rs p a) (Open p a)
-  unfolding openTest
+  reads-open : (p a : ℕ) → Exactly (axisCompleteTest d rs p a) (Open p a)
+  unfolding axisCompleteTest
   reads-open p a =
       reads-if _ _ (reads-and _ _ (reads-eq (forwardLink rs p a) none) (reads-lt (level (levelsAt rs p) a) 8))
       (reads-any (barsTest rs p a) (Bars d rs p a) d (λ b hb. reads-bars p a b hb))
@@ -120,18 +120,18 @@ module _ (d : ℕ) (rs : List IndexRecord) where
   abbrev Complete : ℕ → Type 0
   Complete p = (stateAt rs p ≡ 2) × (excess (levelsAt rs p) < 12) → (a : ℕ) → a < d → Open p a
 
-  reads-complete : (p : ℕ) → Exactly (completeTest d rs p) (Complete p)
-  unfolding completeTest
+  reads-complete : (p : ℕ) → Exactly (placeCompleteTest d rs p) (Complete p)
+  unfolding placeCompleteTest
   reads-complete p =
       reads-if _ _ (reads-and _ _ (reads-eq (stateAt rs p) 2) (reads-lt (excess (levelsAt rs p)) 12))
-      (reads-all (openTest d rs p) (Open p) d (λ a ha. reads-open p a))
+      (reads-all (axisCompleteTest d rs p) (Open p) d (λ a ha. reads-open p a))
 
   -- every record has eight levels, as whatever is read from cells has
   module _ (few : d ≤ 8) (formed : (p : ℕ) → p < length rs → length (levelsAt rs p) ≡ 8) where
     abbrev Whole : Type 0
     Whole = ((1 ≤ length rs) × (length rs ≤ 512)) × (((p : ℕ) → p < length rs → Place p) × ((p : ℕ) → p < length rs → Complete p))
 
-    there : Whole → Followed d rs
+    there : Whole → LinkChecked d rs
     there (count, (place, complete)) =
         record {
           count = count;
@@ -149,7 +149,7 @@ module _ (d : ℕ) (rs : List IndexRecord) where
         zero-or p h e (yes z) = z
         zero-or p h e (no z) = absurd (place p h .roots .1 z e)
 
-    here : Followed d rs → Whole
+    here : LinkChecked d rs → Whole
     here f = (
       f .count,
       (
@@ -172,13 +172,13 @@ module _ (d : ℕ) (rs : List IndexRecord) where
 
     pub reads-completes : Exactly (allCompleteTest d rs) ((p : ℕ) → p < length rs → Complete p)
     unfolding allCompleteTest
-    reads-completes = reads-all (completeTest d rs) Complete (length rs) (λ p h. reads-complete p)
+    reads-completes = reads-all (placeCompleteTest d rs) Complete (length rs) (λ p h. reads-complete p)
 
-    pub reads-followed : Exactly (followedTest d rs) (Followed d rs)
-    unfolding followedTest
-    reads-followed =
+    pub reads-link-checked : Exactly (linkCheckTest d rs) (LinkChecked d rs)
+    unfolding linkCheckTest
+    reads-link-checked =
         reads-as there here (reads-and _ _ (reads-and _ _ (reads-le 1 (length rs)) (reads-le (length rs) 512)) (reads-and _ _ reads-places reads-completes))
 
     -- the test says yes exactly if the held indices and links are those of a sound area
-    pub reads-structure : Exactly (followedTest d rs) (Structure d rs)
-    reads-structure = reads-as (structure d few rs) (followed d few rs) reads-followed
+    pub reads-structure : Exactly (linkCheckTest d rs) (Structure d rs)
+    reads-structure = reads-as (structure d few rs) (link-checked d few rs) reads-link-checked

@@ -25,7 +25,7 @@ use Rattle.area.specs.Encoding.{Area, heldOf, entriesOf}
 use Rattle.quadrature.specs.Readings.{recordAt}
 use Rattle.soundness.specs.Held.{levelsAt, stateAt, sizeAt, countAt}
 use Rattle.soundness.specs.Sound.{Structure, NumbersSound, Sound, LongEnough, Exactly}
-use Rattle.soundness.specs.Test.{placesTest, allCompleteTest, followedTest}
+use Rattle.soundness.specs.Test.{placesTest, allCompleteTest, linkCheckTest}
 use Rattle.soundness.specs.Totals.{wantedTest, allWantedTest, readingTest, blockTest, blocksTest, pendingIn, deliveredCount, jobTest, heldTest, areaTest}
 use Rattle.soundness.proofs.Exactly.{reads-as, reads-eq, reads-lt, reads-le, reads-and, reads-then, reads-or, reads-if, reads-all-from, reads-all}
 use Rattle.soundness.proofs.Settings.{reads-settings}
@@ -131,8 +131,8 @@ reads-job j records readings =
 
 -- where the held are as many as they may be, the two passes alone read as the structure
 module _ (d : ℕ) (few : d ≤ 8) (rs : List IndexRecord) (formed : (p : ℕ) → p < length rs → length (levelsAt rs p) ≡ 8) where
-  passes-alone : (1 ≤ length rs) × (length rs ≤ 512) → followedTest d rs ≡ (placesTest d rs && allCompleteTest d rs)
-  unfolding followedTest
+  passes-alone : (1 ≤ length rs) × (length rs ≤ 512) → linkCheckTest d rs ≡ (placesTest d rs && allCompleteTest d rs)
+  unfolding linkCheckTest
   passes-alone z = rw (le-leb 1 (length rs) (z .0), le-leb (length rs) 512 (z .1))
 
   reads-passes : (1 ≤ length rs) × (length rs ≤ 512) → Exactly (placesTest d rs && allCompleteTest d rs) (Structure d rs)
@@ -205,7 +205,7 @@ module _ (a : Area) (formed : (p : ℕ) → p < length (heldOf a) → length (le
           settings = f .settings;
           structure = h .structure;
           wanted-last = h .wanted .last;
-          wanted-idle = h .wanted .idle;
+          wanted-indicator-zero = h .wanted .idle;
           first-readings = λ p l. h .blocks .each p l .begins;
           readings = λ p n l d i. (omega (arith, h .blocks .each p l .begins, h .blocks .each p l .ends, f .room), h .blocks .each p l .readings n d i);
           numbers = numbers;
@@ -241,7 +241,7 @@ module _ (a : Area) (formed : (p : ℕ) → p < length (heldOf a) → length (le
     held-fits =
         record {
           structure = s .structure;
-          wanted = record { last = s .wanted-last; idle = s .wanted-idle };
+          wanted = record { last = s .wanted-last; idle = s .wanted-indicator-zero };
           blocks = record { each = block; together = count-sum g rs (length rs) ∙ ap (readingsFor g) sum };
           pending = sym (pending-sum g (a .store) rs) ∙ sym (s .numbers .pending);
           mean = subst (λ n. natAbs (a .job .mean) ≤ n * 2 ^ 40) (delivered-sum g (a .store) rs) (s .numbers .mean);

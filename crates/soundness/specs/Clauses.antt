@@ -127,8 +127,8 @@ wantedLastClause a =
     allFrom (length (heldOf a)) 0 (λ p.
     allFrom (length (heldOf a)) 0 (λ q. cond (leb p q && eqb (stateAt (heldOf a) p) 0) (eqb (stateAt (heldOf a) q) 0) true))
 
-unfoldable pub wantedIdleClause : Area → Bool
-wantedIdleClause a =
+unfoldable pub wantedIndicatorZeroClause : Area → Bool
+wantedIndicatorZeroClause a =
     allFrom (length (heldOf a)) 0 (λ p. cond (eqb (stateAt (heldOf a) p) 0) (eqb (recordAt (heldOf a) p .indicator) 0) true)
 
 -- first readings are the running sum of block sizes, in readings
@@ -160,7 +160,7 @@ isSound a =
     && settingsFit (a .job .settings)
     && structureClause (a .job .settings .axes) (heldOf a)
     && wantedLastClause a
-    && wantedIdleClause a
+    && wantedIndicatorZeroClause a
     && firstReadingsClause a
     && readingsClause a
     && numbersClause a

@@ -11,16 +11,16 @@ use Rattle.quadrature.specs.Ready.{Ready, AllReady}
 use Rattle.quadrature.specs.Linked.{deliveredIn, Linked}
 use Rattle.soundness.specs.Held.{levelsAt}
 use Rattle.soundness.specs.Sound.{Structure, Sound, LongEnough, Exactly}
-use Rattle.soundness.specs.Follow.{Followed}
-use Rattle.soundness.specs.Test.{followedTest}
+use Rattle.soundness.specs.LinkCheck.{LinkChecked}
+use Rattle.soundness.specs.Test.{linkCheckTest}
 use Rattle.soundness.specs.Totals.{areaTest}
 
 -- Following links accepts exactly the held indices and links of a sound area; d is at most 8.
-pub record FollowFacts : Type 0 where
-  pub accepted : (d : ℕ) → d ≤ 8 → (rs : List IndexRecord) → Followed d rs → Structure d rs
-  pub accepts : (d : ℕ) → d ≤ 8 → (rs : List IndexRecord) → Structure d rs → Followed d rs
+pub record LinkCheckFacts : Type 0 where
+  pub accepted : (d : ℕ) → d ≤ 8 → (rs : List IndexRecord) → LinkChecked d rs → Structure d rs
+  pub accepts : (d : ℕ) → d ≤ 8 → (rs : List IndexRecord) → Structure d rs → LinkChecked d rs
   -- and as a test, on records of eight levels, it says yes exactly then
-  pub tested : (d : ℕ) → d ≤ 8 → (rs : List IndexRecord) → ((p : ℕ) → p < length rs → length (levelsAt rs p) ≡ 8) → Exactly (followedTest d rs) (Structure d rs)
+  pub tested : (d : ℕ) → d ≤ 8 → (rs : List IndexRecord) → ((p : ℕ) → p < length rs → length (levelsAt rs p) ≡ 8) → Exactly (linkCheckTest d rs) (Structure d rs)
   -- and the whole test says yes exactly if the area is sound and lies in storage that is long enough
   pub whole : (a : Area) → ((p : ℕ) → p < length (heldOf a) → length (levelsAt (heldOf a) p) ≡ 8) → Exactly (areaTest a) (LongEnough a × Sound a)
 

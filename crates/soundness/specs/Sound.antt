@@ -62,7 +62,7 @@ pub record Sound (a : Area) : Type 0 where
   pub structure : Structure (a .job .settings .axes) (heldOf a)
   -- wanted records come last with indicator 0
   pub wanted-last : (p q : ℕ) → p ≤ q → q < length (heldOf a) → stateAt (heldOf a) p ≡ 0 → stateAt (heldOf a) q ≡ 0
-  pub wanted-idle : (p : ℕ) → p < length (heldOf a) → stateAt (heldOf a) p ≡ 0 → recordAt (heldOf a) p .indicator ≡ 0
+  pub wanted-indicator-zero : (p : ℕ) → p < length (heldOf a) → stateAt (heldOf a) p ≡ 0 → recordAt (heldOf a) p .indicator ≡ 0
   -- first readings are the running sum of block sizes, in readings
   pub first-readings : (p : ℕ) → p < length (heldOf a)
       → recordAt (heldOf a) p .first ≡ natSumTo p (λ q. readingCount (a .job .settings) (levelsAt (heldOf a) q))

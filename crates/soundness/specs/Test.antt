@@ -29,20 +29,20 @@ unfoldable pub rootTest : List IndexRecord → ℕ → Bool
 rootTest rs p = cond (eqb p 0) (sameLevels (levelsAt rs p) root) (not (sameLevels (levelsAt rs p) root))
 
 -- The place q is behind p along a.
-unfoldable pub behindTest : List IndexRecord → ℕ → ℕ → ℕ → Bool
-behindTest rs p a q =
+unfoldable pub backwardNeighbourTest : List IndexRecord → ℕ → ℕ → ℕ → Bool
+backwardNeighbourTest rs p a q =
     ltb q (length rs) && (eqb (stateAt rs q) 2 && (eqb (forwardLink rs q a) p && sameLevels (levelsAt rs q) (backward (levelsAt rs p) a)))
 
-unfoldable pub backTest : List IndexRecord → ℕ → ℕ → Bool
-backTest rs p a = cond (leb (level (levelsAt rs p) a) 1) (eqb (backwardLink rs p a) none) (behindTest rs p a (backwardLink rs p a))
+unfoldable pub backwardLinkTest : List IndexRecord → ℕ → ℕ → Bool
+backwardLinkTest rs p a = cond (leb (level (levelsAt rs p) a) 1) (eqb (backwardLink rs p a) none) (backwardNeighbourTest rs p a (backwardLink rs p a))
 
-unfoldable pub aheadTest : List IndexRecord → ℕ → ℕ → Bool
-aheadTest rs p a =
+unfoldable pub forwardLinkTest : List IndexRecord → ℕ → ℕ → Bool
+forwardLinkTest rs p a =
     cond (eqb (forwardLink rs p a) none) true (ltb (forwardLink rs p a) (length rs) && eqb (backwardLink rs (forwardLink rs p a) a) p)
 
 -- The links along one axis.
 unfoldable pub axisTest : List IndexRecord → ℕ → ℕ → Bool
-axisTest rs p a = backTest rs p a && aheadTest rs p a
+axisTest rs p a = backwardLinkTest rs p a && forwardLinkTest rs p a
 
 -- What one place shows of itself.
 unfoldable pub placeTest : ℕ → List IndexRecord → ℕ → Bool
@@ -60,16 +60,16 @@ barsTest rs p a c =
     && cond (eqb (forwardLink rs (backwardLink rs p c) a) none) true (not (eqb (stateAt rs (forwardLink rs (backwardLink rs p c) a)) 2)))
 
 -- Where p has no forward link along a and its level there could be raised, some axis bars it.
-unfoldable pub openTest : ℕ → List IndexRecord → ℕ → ℕ → Bool
-openTest d rs p a = cond (eqb (forwardLink rs p a) none && ltb (level (levelsAt rs p) a) 8) (anyFrom d 0 (barsTest rs p a)) true
+unfoldable pub axisCompleteTest : ℕ → List IndexRecord → ℕ → ℕ → Bool
+axisCompleteTest d rs p a = cond (eqb (forwardLink rs p a) none && ltb (level (levelsAt rs p) a) 8) (anyFrom d 0 (barsTest rs p a)) true
 
 -- An old index whose excess could grow, along every axis.
-unfoldable pub completeTest : ℕ → List IndexRecord → ℕ → Bool
-completeTest d rs p = cond (eqb (stateAt rs p) 2 && ltb (excess (levelsAt rs p)) 12) (allFrom d 0 (openTest d rs p)) true
+unfoldable pub placeCompleteTest : ℕ → List IndexRecord → ℕ → Bool
+placeCompleteTest d rs p = cond (eqb (stateAt rs p) 2 && ltb (excess (levelsAt rs p)) 12) (allFrom d 0 (axisCompleteTest d rs p)) true
 
 -- The second pass.
 unfoldable pub allCompleteTest : ℕ → List IndexRecord → Bool
-allCompleteTest d rs = allFrom (length rs) 0 (completeTest d rs)
+allCompleteTest d rs = allFrom (length rs) 0 (placeCompleteTest d rs)
 
-unfoldable pub followedTest : ℕ → List IndexRecord → Bool
-followedTest d rs = (leb 1 (length rs) && leb (length rs) 512) && (placesTest d rs && allCompleteTest d rs)
+unfoldable pub linkCheckTest : ℕ → List IndexRecord → Bool
+linkCheckTest d rs = (leb 1 (length rs) && leb (length rs) 512) && (placesTest d rs && allCompleteTest d rs)

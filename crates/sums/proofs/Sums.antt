@@ -8,7 +8,7 @@ use native.Mathlib.Nat as NatL
 use native.Mathlib.Omega.{arith}
 use lib.IntN.{ℤ, pos, negℤ, _+ℤ_, _*ℤ_, +ℤ-idl, +ℤ-idr, +ℤ-assoc, *ℤ-zero, negℤ-+ℤ}
 use Rattle.sums.specs.Sums.{sumTo, sumOf}
-use Rattle.sums.specs.Lists.{tab}
+use Rattle.sums.specs.Lists.{tabulate}
 use Rattle.sums.proofs.Ring.{sums, distl}
 
 -- ---- over the numbers below n
@@ -121,11 +121,11 @@ module _ {A : Type 0} where
   sumOf-sumTo (x ∷ l) m f = rw (sumOf-sumTo l m f, sumTo-add m (f x) (λ j. sumOf l (λ y. f y j)))
 
   -- over a list that is given by place
-  pub sumOf-tab : (n : ℕ) (g : ℕ → A) (f : A → ℤ) → sumOf (tab n g) f ≡ sumTo n (λ i. f (g i))
-  unfolding sumOf tab
-  sumOf-tab zero g f = unfold sumTo in refl
-  sumOf-tab (suc n) g f =
-      ap (λ x. f (g 0) +ℤ x) (sumOf-tab n (λ i. g (suc i)) f) ∙ sym (sumTo-front n (λ i. f (g i)))
+  pub sumOf-tabulate : (n : ℕ) (g : ℕ → A) (f : A → ℤ) → sumOf (tabulate n g) f ≡ sumTo n (λ i. f (g i))
+  unfolding sumOf tabulate
+  sumOf-tabulate zero g f = unfold sumTo in refl
+  sumOf-tabulate (suc n) g f =
+      ap (λ x. f (g 0) +ℤ x) (sumOf-tabulate n (λ i. g (suc i)) f) ∙ sym (sumTo-front n (λ i. f (g i)))
 
 pub sumOf-map : {A B : Type 0} (g : B → A) (l : List B) (f : A → ℤ) → sumOf (map g l) f ≡ sumOf l (λ x. f (g x))
 unfolding sumOf

@@ -5,7 +5,7 @@ ghost use Rattle.io.specs.Counts.{Counts};
 use libc::STDIN_FILENO;
 use libc::STDOUT_FILENO;
 
-fn least(a: usize, b: usize) -> usize
+fn min_of(a: usize, b: usize) -> usize
     ensures { λ r. ⌜ (r ≤ a) × (r ≤ b) ⌝ }
 {
     if a < b { a } else { b }
@@ -22,7 +22,7 @@ fn read_number() -> usize {
 fn read_part(buffer: &mut [u8]) -> usize
     ensures { λ r. ⌜ Counts r (now (buffer .exit)) ⌝ }
 {
-    let length = least(read_number(), buffer.len());
+    let length = min_of(read_number(), buffer.len());
     io::read_full(STDIN_FILENO, &mut buffer[..length]);
     length
 }
@@ -38,10 +38,10 @@ fn copy_name() {
 // Runs a job file and prints what it gives.
 fn print_report(bytes: &[u8]) {
     let mut report = [0u8; 512];
-    let ran = running::run(bytes, &mut report);
-    match ran {
-        running::Ran::TooShort => {}
-        running::Ran::Written(count) => {
+    let status = running::run(bytes, &mut report);
+    match status {
+        running::RunStatus::TooShort => {}
+        running::RunStatus::Written(count) => {
             io::write_all(STDOUT_FILENO, &report[..count]);
         }
     }

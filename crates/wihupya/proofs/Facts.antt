@@ -8,7 +8,7 @@ use lib.ListN.{length, getD}
 use mir.Syntax.{w64}
 use mir.Val.{SFits, toZ, ofZ}
 use mir.ValLaws.{ofZ-toZ}
-use Rattle.sums.specs.Lists.{tab}
+use Rattle.sums.specs.Lists.{tabulate}
 use Rattle.sums.proofs.Words.{back, mag-le}
 use Rattle.area.specs.declared.JobRecord.{JobRecord}
 use Rattle.area.specs.Encoding.{Area, heldOf}
@@ -31,9 +31,9 @@ high-of : (a b : ℕ) → a < 2 ^ 32 → highWord (a + b * 2 ^ 32) ≡ b
 unfolding highWord
 high-of a b h = omega arith
 
-job-again : (j : JobRecord) → j .settings .threshold < 2 ^ 64 → j .pending < 2 ^ 64 → SFits w64 (j .mean) → jobOf (wordsOf j) ≡ j
+job-round-trip : (j : JobRecord) → j .settings .threshold < 2 ^ 64 → j .pending < 2 ^ 64 → SFits w64 (j .mean) → jobOf (wordsOf j) ≡ j
 unfolding jobOf wordsOf
-job-again j h k f =
+job-round-trip j h k f =
     λ i.
     record {
       settings = record { axes = j .settings .axes; threshold = both (j .settings .threshold) i; budget = j .settings .budget };
@@ -44,14 +44,14 @@ job-again j h k f =
     }
 
 -- in a sound area pending error and mean have room in 64 bits
-sound-again : (a : Area) → Sound a → a .job .settings .threshold < 2 ^ 64 → ((p : ℕ) → p < length (heldOf a) → recordAt (heldOf a) p .indicator < 2 ^ 32)
+sound-round-trip : (a : Area) → Sound a → a .job .settings .threshold < 2 ^ 64 → ((p : ℕ) → p < length (heldOf a) → recordAt (heldOf a) p .indicator < 2 ^ 32)
     → jobOf (wordsOf (a .job)) ≡ a .job
-sound-again a s h k =
-    job-again (a .job) h (omega (arith, range-facts .pending a s k)) (record { sfits = omega (arith, mag-le (a .job .mean), range-facts .mean a s) })
+sound-round-trip a s h k =
+    job-round-trip (a .job) h (omega (arith, range-facts .pending a s k)) (record { sfits = omega (arith, mag-le (a .job .mean), range-facts .mean a s) })
 
 -- a list is what is read from it
-read-all : (w : List ℕ) → tab (length w) (λ i. getD w i 0) ≡ w
-unfolding tab
+read-all : (w : List ℕ) → tabulate (length w) (λ i. getD w i 0) ≡ w
+unfolding tabulate
 read-all [] = refl
 read-all (x ∷ w) = ap (λ l. x ∷ l) (read-all w)
 
@@ -59,9 +59,9 @@ module _ (w : List ℕ) (ten : length w ≡ 10) (small : (i : ℕ) → word w i 
   mean-bits : ofZ w64 (toZ w64 (wide w 4)) ≡ wide w 4
   mean-bits = ofZ-toZ w64 (wide w 4) (record { fits = omega (arith, small 4, small 5) })
 
-  words-again : wordsOf (jobOf w) ≡ w
-  unfolding jobOf wordsOf tab
-  words-again =
+  words-round-trip : wordsOf (jobOf w) ≡ w
+  unfolding jobOf wordsOf tabulate
+  words-round-trip =
       (λ i.
       low-of (word w 0) (word w 1) (small 0) i
       ∷ high-of (word w 0) (word w 1) (small 0) i
@@ -74,7 +74,7 @@ module _ (w : List ℕ) (ten : length w ≡ 10) (small : (i : ℕ) → word w i 
       ∷ word w 8
       ∷ word w 9
       ∷ [])
-      ∙ (ap (λ n. tab n (λ i. getD w i 0)) (sym ten) ∙ read-all w)
+      ∙ (ap (λ n. tabulate n (λ i. getD w i 0)) (sym ten) ∙ read-all w)
 
 pub word-facts : WordFacts
-word-facts = record { words-again = words-again; job-again = job-again; sound-again = sound-again }
+word-facts = record { words-round-trip = words-round-trip; job-round-trip = job-round-trip; sound-round-trip = sound-round-trip }

@@ -9,7 +9,7 @@ use mir.Val.{ofZ}
 use Rattle.area.specs.Records.{Run}
 use Rattle.machine.specs.Promote.{Outcome, met, spent, promoted}
 use Rattle.calls.specs.Replies.{Reply, refused, accepted, promotion, counts, total, verdict}
-use Rattle.calls.specs.Calls.{Called}
+use Rattle.calls.specs.Calls.{CallResult}
 use Rattle.wihupya.specs.Words.{lowWord, highWord, wordsOf}
 
 unfoldable pub numberOf : Reply → ℕ
@@ -26,7 +26,7 @@ pub record Exported : Type 0 where
   pub run : Run
   pub store : List ℤ
 
-unfoldable pub exported : Called → Exported
+unfoldable pub exported : CallResult → Exported
 exported x = record { number = numberOf (x .answer .reply); job = wordsOf (x .area .job); run = x .area .run; store = x .area .store }
 
 -- 0 met, 1 spent, 2 promoted.

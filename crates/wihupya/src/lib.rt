@@ -248,8 +248,8 @@ pub extern "C" fn wihupya_result(
 {
     let resulted = calls::result(job_of(job), cells, store);
     match resulted {
-        calls::Resulted::Refused(number) => number,
-        calls::Resulted::Counted(found) => {
+        calls::ResultAnswer::Refused(number) => number,
+        calls::ResultAnswer::Counted(found) => {
             *counts = count_words(found);
             0
         }
@@ -268,8 +268,8 @@ pub extern "C" fn wihupya_cross_total(
 {
     let totalled = calls::cross_total(job_of(job), cells, store);
     match totalled {
-        calls::Totalled::Refused(number) => number,
-        calls::Totalled::Total(found) => {
+        calls::TotalAnswer::Refused(number) => number,
+        calls::TotalAnswer::Total(found) => {
             *total = total_words(found);
             0
         }

@@ -1,6 +1,6 @@
--- The area after a step is settled again, and holds the state that was written.
+-- The area after a step is valid again, and holds the state that was written.
 -- The idea: the step's state satisfies the clauses, so the area that encodes it is sound; nothing gets shorter; cells are
--- always formed.
+-- always well-formed.
 -- Assumes nothing.
 use mathlib.Core.Path.{_≡_, sym, subst}
 use mathlib.Core.List.{List}
@@ -14,10 +14,10 @@ use Rattle.area.specs.Encoding.{Area, areaOf, machineOf, written}
 use Rattle.soundness.specs.Sound.{Sound, LongEnough}
 use Rattle.encoding.specs.Entries.{SoundMachine}
 use Rattle.encoding.proofs.Facts.{encoding-facts}
-use Rattle.writing.specs.Settled.{Settled}
+use Rattle.writing.specs.ValidArea.{ValidArea}
 
--- what a settled area holds satisfies the clauses
-pub machine-sound : (a : Area) → Settled a → SoundMachine (machineOf a)
+-- what a valid area holds satisfies the clauses
+pub machine-sound : (a : Area) → ValidArea a → SoundMachine (machineOf a)
 machine-sound a s = encoding-facts .clauses a (s .sound) (s .lent .store)
 
 module _ (a : Area) (m : Machine) (v : SoundMachine m) where
@@ -34,7 +34,7 @@ module _ (a : Area) (m : Machine) (v : SoundMachine m) where
   written-machine = encoding-facts .read-back m v (a .run) (a .store)
 
   -- the same of cells that hold the area
-  pub written-settled : 512 ≤ length (a .run .records) → leastStore (m .log .settings) ≤ length (a .store)
-      → (j : JobRecord) (c : List ℕ) (s : List ℤ) → areaOf j c s ≡ written a m → Settled (areaOf j c s)
-  written-settled long room j c s e =
-      record { sound = subst Sound (sym e) written-sound; lent = subst LongEnough (sym e) (written-long long room); formed = encoding-facts .formed j c s }
+  pub written-valid : 512 ≤ length (a .run .records) → leastStore (m .log .settings) ≤ length (a .store)
+      → (j : JobRecord) (c : List ℕ) (s : List ℤ) → areaOf j c s ≡ written a m → ValidArea (areaOf j c s)
+  written-valid long room j c s e =
+      record { sound = subst Sound (sym e) written-sound; lent = subst LongEnough (sym e) (written-long long room); well-formed = encoding-facts .well-formed j c s }

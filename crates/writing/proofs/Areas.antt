@@ -19,10 +19,10 @@ use Rattle.encoding.specs.Encodes.{Encodes}
 use Rattle.encoding.proofs.Places.{levels-at, state-at, indicator-at, records-length}
 use Rattle.encoding.proofs.Facts.{encoding-facts}
 use Rattle.writing.specs.Changes.{restated}
-use Rattle.writing.specs.Settled.{Settled}
+use Rattle.writing.specs.ValidArea.{ValidArea}
 use Rattle.writing.proofs.Entries.{restated-records}
 
-module _ (a : Area) (r : Settled a) where
+module _ (a : Area) (r : ValidArea a) where
   abbrev g : Settings
   g = a .job .settings
 
@@ -39,7 +39,7 @@ module _ (a : Area) (r : Settled a) where
   clauses = encoding-facts .clauses a (r .sound) (r .lent .store)
 
   encodes : Encodes a (machineOf a)
-  encodes = encoding-facts .encodes a (r .sound) (r .lent .store) (r .formed)
+  encodes = encoding-facts .encodes a (r .sound) (r .lent .store) (r .well-formed)
 
   -- ---- what the area holds is what its entries make
 

@@ -19,12 +19,12 @@ use Rattle.encoding.proofs.Facts.{range-facts}
 use Rattle.machine.specs.Log.{firstWanted, wantedIndex}
 use Rattle.machine.specs.Steps.{delivered, deliverAt}
 use Rattle.writing.specs.Changes.{restated}
-use Rattle.writing.specs.Settled.{Settled}
+use Rattle.writing.specs.ValidArea.{ValidArea}
 use Rattle.writing.proofs.Entries.{reserved-set}
 use Rattle.writing.proofs.Store.{first-free, deliver-pending, deliver-store}
 use Rattle.writing.proofs.Areas.{clauses, held-is, store-is, held-record, entry-record, entry-replaced}
 
-module _ (a : Area) (r : Settled a) where
+module _ (a : Area) (r : ValidArea a) where
   abbrev g : Settings
   g = a .job .settings
 

@@ -12,8 +12,8 @@ use lib.Dec.{ltb}
 use lib.ListN.{length, getD, set, replicate, length-set, length-append, List·getD-append}
 use lib.Seq.{ext-getD, getD-set-same, getD-set-other, getD-append-add}
 use borrow.Author.Tests.{lt-ltb, le-ltb, eq-eqb, ne-eqb}
-use Rattle.sums.specs.Lists.{tab}
-use Rattle.sums.proofs.Lists.{length-tab, getD-tab}
+use Rattle.sums.specs.Lists.{tabulate}
+use Rattle.sums.proofs.Lists.{length-tabulate, getD-tabulate}
 use Rattle.grid.specs.Index.{level, backward}
 use Rattle.grid.specs.Coefficient.{sameLevels}
 use Rattle.area.specs.declared.IndexRecord.{IndexRecord}
@@ -75,19 +75,19 @@ module _ (f : ℕ → ℕ) where
         step a h l (yes i) = rw i (getD-set-same links (8 + axis) x 0 (omega (arith, s .sixteen)) ∙ e)
         step a h l (no i) = getD-set-other links (8 + axis) (8 + a) x 0 (omega arith) ∙ s .passed a (omega arith) l
 
-  pub so-far-end : (axis : ℕ) (links : List ℕ) → 8 ≤ axis → SoFar f axis links → links ≡ replicate 8 none ++ tab 8 f
-  so-far-end axis links h s = ext-getD 0 links (replicate 8 none ++ tab 8 f) (s .sixteen ∙ sym whole) (λ i l. at i (omega (arith, s .sixteen)) (decLt i 8))
+  pub so-far-end : (axis : ℕ) (links : List ℕ) → 8 ≤ axis → SoFar f axis links → links ≡ replicate 8 none ++ tabulate 8 f
+  so-far-end axis links h s = ext-getD 0 links (replicate 8 none ++ tabulate 8 f) (s .sixteen ∙ sym whole) (λ i l. at i (omega (arith, s .sixteen)) (decLt i 8))
     where
-      whole : length (replicate 8 none ++ tab 8 f) ≡ 16
-      whole = omega (arith, length-append (replicate 8 none) (tab 8 f), length-tab 8 f, length-none 8)
+      whole : length (replicate 8 none ++ tabulate 8 f) ≡ 16
+      whole = omega (arith, length-append (replicate 8 none) (tabulate 8 f), length-tabulate 8 f, length-none 8)
 
-      at : (i : ℕ) → i < 16 → Dec (i < 8) → getD links i 0 ≡ getD (replicate 8 none ++ tab 8 f) i 0
-      at i l (yes b) = s .front i b ∙ sym (List·getD-append (replicate 8 none) (tab 8 f) 0 i (omega (arith, length-none 8)) ∙ none-at 8 i b)
+      at : (i : ℕ) → i < 16 → Dec (i < 8) → getD links i 0 ≡ getD (replicate 8 none ++ tabulate 8 f) i 0
+      at i l (yes b) = s .front i b ∙ sym (List·getD-append (replicate 8 none) (tabulate 8 f) 0 i (omega (arith, length-none 8)) ∙ none-at 8 i b)
       at i l (no b) =
           let e : 8 + (i - 8) ≡ i = omega arith in
           rw (← e)
           (s .passed (i - 8) (omega arith) (omega arith)
-          ∙ sym (rw (length-none 8) at (getD-append-add (replicate 8 none) (tab 8 f) (i - 8) 0) ∙ getD-tab 8 f (i - 8) 0 (omega arith)))
+          ∙ sym (rw (length-none 8) at (getD-append-add (replicate 8 none) (tabulate 8 f) (i - 8) 0) ∙ getD-tabulate 8 f (i - 8) 0 (omega arith)))
 
 -- the link along an axis
 unfoldable pub linkAlong : List (List ℕ) → List ℕ → ℕ → ℕ
@@ -101,13 +101,13 @@ pub along-one : (ls : List (List ℕ)) (x : List ℕ) (a : ℕ) → level x a �
 unfolding linkAlong
 along-one ls x a h = rw (le-ltb 1 (level x a) h)
 
-pub links-are : (ls : List (List ℕ)) (x : List ℕ) → replicate 8 none ++ tab 8 (linkAlong ls x) ≡ newLinks ls x
+pub links-are : (ls : List (List ℕ)) (x : List ℕ) → replicate 8 none ++ tabulate 8 (linkAlong ls x) ≡ newLinks ls x
 unfolding newLinks linkAlong
 links-are ls x = refl
 
 pub new-link : (ls : List (List ℕ)) (x : List ℕ) (a : ℕ) → a < 8 → getD (newLinks ls x) (8 + a) 0 ≡ linkAlong ls x a
 unfolding newLinks linkAlong
-new-link ls x a h = rw (length-none 8) at (getD-append-add (replicate 8 none) (tab 8 (linkAlong ls x)) a 0) ∙ getD-tab 8 (linkAlong ls x) a 0 h
+new-link ls x a h = rw (length-none 8) at (getD-append-add (replicate 8 none) (tabulate 8 (linkAlong ls x)) a 0) ∙ getD-tabulate 8 (linkAlong ls x) a 0 h
 
 -- ---- a place that is looked up is held, or none
 place-held-from : (p : ℕ) (ls : List (List ℕ)) (k : List ℕ) → (placeFrom p ls k ≡ none) ⊎ (placeFrom p ls k < p + length ls)

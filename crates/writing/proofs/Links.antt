@@ -11,8 +11,8 @@ use borrow.Author.Tests.{lt-ltb, le-ltb}
 use lib.Dec.{ltb}
 use lib.ListN.{length, getD, replicate, length-append, getD-replicate, List·getD-append}
 use lib.Seq.{ext-getD, getD-append-add}
-use Rattle.sums.specs.Lists.{tab}
-use Rattle.sums.proofs.Lists.{length-tab, getD-tab}
+use Rattle.sums.specs.Lists.{tabulate}
+use Rattle.sums.proofs.Lists.{length-tabulate, getD-tabulate}
 use Rattle.grid.specs.Index.{level, forward, backward}
 use Rattle.area.specs.Encoding.{none, placeOf, linksOf}
 use Rattle.encoding.proofs.Links.{forward-at, backward-at}
@@ -23,8 +23,8 @@ module _ (ls : List (List ℕ)) (k : List ℕ) where
   pub links-length : length (linksOf ls k) ≡ 16
   unfolding linksOf
   links-length =
-      length-append (tab 8 (λ a. placeOf ls (forward k a))) (tab 8 (λ a. placeOf ls (backward k a)))
-      ∙ ap₂ _+_ (length-tab 8 (λ a. placeOf ls (forward k a))) (length-tab 8 (λ a. placeOf ls (backward k a)))
+      length-append (tabulate 8 (λ a. placeOf ls (forward k a))) (tabulate 8 (λ a. placeOf ls (backward k a)))
+      ∙ ap₂ _+_ (length-tabulate 8 (λ a. placeOf ls (forward k a))) (length-tabulate 8 (λ a. placeOf ls (backward k a)))
 
   -- sixteen links are an index's if they are its neighbours' places
   pub links-are : (m : List ℕ) → length m ≡ 16 → ((a : ℕ) → a < 8 → getD m a 0 ≡ placeOf ls (forward k a))
@@ -45,15 +45,15 @@ module _ (ls : List (List ℕ)) (x : List ℕ) where
 
   pub new-length : length (newLinks ls x) ≡ 16
   unfolding newLinks
-  new-length = length-append (replicate 8 none) (tab 8 behind) ∙ ap (λ n. 8 + n) (length-tab 8 behind)
+  new-length = length-append (replicate 8 none) (tabulate 8 behind) ∙ ap (λ n. 8 + n) (length-tabulate 8 behind)
 
   pub new-forward : (a : ℕ) → a < 8 → getD (newLinks ls x) a 0 ≡ none
   unfolding newLinks
-  new-forward a h = List·getD-append (replicate 8 none) (tab 8 behind) 0 a h ∙ getD-replicate 8 a none 0 h
+  new-forward a h = List·getD-append (replicate 8 none) (tabulate 8 behind) 0 a h ∙ getD-replicate 8 a none 0 h
 
   new-backward : (a : ℕ) → a < 8 → getD (newLinks ls x) (8 + a) 0 ≡ behind a
   unfolding newLinks
-  new-backward a h = getD-append-add (replicate 8 none) (tab 8 behind) a 0 ∙ getD-tab 8 behind a 0 h
+  new-backward a h = getD-append-add (replicate 8 none) (tabulate 8 behind) a 0 ∙ getD-tabulate 8 behind a 0 h
 
   pub new-above : (a : ℕ) → a < 8 → 1 < level x a → getD (newLinks ls x) (8 + a) 0 ≡ placeOf ls (backward x a)
   new-above a h l = new-backward a h ∙ rw (lt-ltb 1 (level x a) l)

@@ -24,12 +24,12 @@ use Rattle.encoding.specs.Entries.{entryAt}
 use Rattle.machine.specs.Log.{wanted}
 use Rattle.machine.specs.Promote.{retired, retire, admittedAxes, refine, fits}
 use Rattle.writing.specs.Changes.{restated, appendedAll, sizesOf}
-use Rattle.writing.specs.Settled.{Settled}
+use Rattle.writing.specs.ValidArea.{ValidArea}
 use Rattle.writing.proofs.Entries.{ahead, reserved-set, pending-set, store-set, reserved-ahead, pending-ahead, store-ahead, pendingAt}
 use Rattle.writing.proofs.Admitted.{refine-run}
 use Rattle.writing.proofs.Areas.{clauses, held-is, store-is, levels-is, state-is, indicator-is, entry-replaced}
 
-module _ (a : Area) (r : Settled a) where
+module _ (a : Area) (r : ValidArea a) where
   abbrev g : Settings
   g = a .job .settings
 

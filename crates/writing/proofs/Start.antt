@@ -7,7 +7,7 @@ use native.Mathlib.Omega.{arith}
 use lib.IntN.{ℤ, pos}
 use lib.ListN.{length, set, drop}
 use Rattle.rule.specs.Points.{newCount}
-use Rattle.sums.specs.Lists.{tab}
+use Rattle.sums.specs.Lists.{tabulate}
 use Rattle.grid.specs.Index.{root, forward, backward}
 use Rattle.grid.specs.Block.{blockSize}
 use Rattle.grid.specs.Coefficient.{sameLevels}
@@ -20,7 +20,7 @@ use Rattle.machine.specs.Steps.{started}
 use Rattle.writing.specs.Changes.{admittedRecord, rootRecord}
 
 root-records : (g : Settings) → recordsFor g (wanted root ∷ []) ≡ rootRecord ∷ []
-unfolding recordsFor indicesOf encodedFrom encoded linksOf tab placeOf placeFrom sameLevels forward backward root wanted rootRecord admittedRecord
+unfolding recordsFor indicesOf encodedFrom encoded linksOf tabulate placeOf placeFrom sameLevels forward backward root wanted rootRecord admittedRecord
 root-records g = refl
 
 pub root-job : (g : Settings) → jobWith (started g) ≡ record { settings = g; held = 1; reserved = 1; pending = 0; mean = pos 0 }

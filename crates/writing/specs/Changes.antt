@@ -4,7 +4,7 @@ use mathlib.Core.List.{List, [], _∷_, _++_}
 use Prim.Native.Nat.{ℕ, zero, suc, _+_}
 use lib.Dec.{ltb, eqb}
 use lib.ListN.{getD, set, take, replicate}
-use Rattle.sums.specs.Lists.{tab}
+use Rattle.sums.specs.Lists.{tabulate}
 use Rattle.grid.specs.Index.{level, root, forward, backward}
 use Rattle.grid.specs.Block.{blockSize}
 use Rattle.area.specs.declared.IndexRecord.{IndexRecord}
@@ -31,7 +31,7 @@ rootRecord = admittedRecord (replicate 16 none) root 0
 
 -- The links of an index just admitted: no forward neighbour is held; every backward neighbour is, and is looked up.
 unfoldable pub newLinks : List (List ℕ) → List ℕ → List ℕ
-newLinks ls x = replicate 8 none ++ tab 8 (λ a. cond (ltb 1 (level x a)) (placeOf ls (backward x a)) none)
+newLinks ls x = replicate 8 none ++ tabulate 8 (λ a. cond (ltb 1 (level x a)) (placeOf ls (backward x a)) none)
 
 -- Those whose backward link is in `links` get the place n as their forward link, along m axes from a on.
 unfoldable pub namedFrom : ℕ → ℕ → List ℕ → ℕ → List IndexRecord → List IndexRecord

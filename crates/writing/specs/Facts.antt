@@ -8,7 +8,7 @@ use lib.ListN.{length, set}
 use lib.Seq.{sets}
 use Rattle.area.specs.declared.Settings.{Settings}
 use Rattle.area.specs.Settings.{readingsFor, readingCount}
-use Rattle.area.specs.Log.{holding}
+use Rattle.area.specs.Log.{machineWithEntries}
 use Rattle.area.specs.Encoding.{Area, entriesOf, machineOf, written}
 use Rattle.area.specs.Records.{stored}
 use Rattle.quadrature.specs.Readings.{recordAt}
@@ -16,7 +16,7 @@ use Rattle.soundness.specs.Held.{levelsAt, stateAt}
 use Rattle.machine.specs.Log.{firstWanted, wantedIndex}
 use Rattle.machine.specs.Promote.{retire, admittedAxes, refine, fits}
 use Rattle.machine.specs.Steps.{started, deliver}
-use Rattle.writing.specs.Settled.{Settled}
+use Rattle.writing.specs.ValidArea.{ValidArea}
 use Rattle.writing.specs.Changes.{restated, rootRecord, appendedAll, sizesOf}
 
 pub record WriteFacts : Type 0 where
@@ -28,7 +28,7 @@ pub record WriteFacts : Type 0 where
         store = a .store;
       }
   -- deliver changes the first wanted record's state and indicator, its block of the store, pending error and mean
-  pub deliver : (a : Area) (rs : List ℤ) (i : ℕ) → Settled a → firstWanted (entriesOf a) < length (entriesOf a)
+  pub deliver : (a : Area) (rs : List ℤ) (i : ℕ) → ValidArea a → firstWanted (entriesOf a) < length (entriesOf a)
       → length rs ≡ readingCount (a .job .settings) (wantedIndex (entriesOf a))
       → written a (deliver (machineOf a) rs i) ≡ record {
         job = record {
@@ -43,9 +43,9 @@ pub record WriteFacts : Type 0 where
       }
   -- refining an active place p, where nothing is wanted and it fits, changes its state, appends the admitted, whose readings begin where
   -- those of the reserved points end, and adds their counts
-  pub refine : (a : Area) (p : ℕ) → Settled a → length (entriesOf a) ≤ firstWanted (entriesOf a) → p < a .job .held → stateAt (a .run .records) p ≡ 1
+  pub refine : (a : Area) (p : ℕ) → ValidArea a → length (entriesOf a) ≤ firstWanted (entriesOf a) → p < a .job .held → stateAt (a .run .records) p ≡ 1
       → fits (a .job .settings .budget) (refine (a .job .settings .axes) (entriesOf a) p) ≡ true
-      → written a (holding (machineOf a) (refine (a .job .settings .axes) (entriesOf a) p)) ≡ record {
+      → written a (machineWithEntries (machineOf a) (refine (a .job .settings .axes) (entriesOf a) p)) ≡ record {
         job = record {
           settings = a .job .settings;
           held = a .job .held + length (admittedAxes (a .job .settings .axes) (retire (entriesOf a) p) (levelsAt (a .run .records) p));

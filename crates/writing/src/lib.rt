@@ -55,8 +55,8 @@ fn place_of(held: usize, levels: [u32; 8], cells: &[u32]) -> u32
     ensures { λ r. ⌜ r ≡ placeOf (levelsOf (heldIn (now (cells .entry)) held)) levels ⌝ }
 {
     match area::lookup(cells, held, levels) {
-        area::Found::At(place) => place as u32,
-        area::Found::Nothing => area::NONE,
+        area::LookupResult::At(place) => place as u32,
+        area::LookupResult::NotFound => area::NONE,
     }
 }
 

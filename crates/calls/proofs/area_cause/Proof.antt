@@ -11,7 +11,7 @@ use Rattle.soundness.specs.Clauses.{isSound}
 use Rattle.calls.specs.Replies.{lengthsOf}
 use Rattle.calls.proofs.Tests.{few-records, few-readings, enough}
 use Rattle.calls.proofs.Causes.{common-short, common-unsound, common-none}
-use Rattle.calls.proofs.Settling.{checked-sound}
+use Rattle.calls.proofs.Validity.{checked-sound}
 use Rattle.calls.proofs.area_cause.Statement.{statement}
 use Rattle.calls.proofs.area_cause.Tie as tie
 

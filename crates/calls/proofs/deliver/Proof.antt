@@ -13,7 +13,7 @@ use Rattle.area.specs.Encoding.{Area, areaOf, entriesOf, machineOf}
 use Rattle.soundness.specs.Clauses.{isSound}
 use Rattle.machine.specs.Log.{firstWanted, wantedIndex}
 use Rattle.machine.specs.Causes.{firstCause, inRange}
-use Rattle.writing.specs.Settled.{Settled}
+use Rattle.writing.specs.ValidArea.{ValidArea}
 use Rattle.calls.specs.Replies.{lengthsOf}
 use lib.IntN.{ℤ}
 use Rattle.calls.specs.Replies.{accepted, replyOf}
@@ -23,7 +23,7 @@ use Rattle.area.specs.Records.{heldIn}
 use Rattle.machine.specs.Causes.{deliverCauses}
 use Rattle.writing.specs.Heads.{headsOf}
 use Rattle.calls.proofs.Accepted.{Deliverable, deliverable}
-use Rattle.calls.proofs.Settling.{settled, held-there, entries-count, wanted-place}
+use Rattle.calls.proofs.Validity.{valid, held-there, entries-count, wanted-place}
 use Rattle.calls.proofs.deliver.Statement.{statement}
 use Rattle.calls.proofs.deliver.Tie as tie
 
@@ -32,8 +32,8 @@ module _ (j : JobRecord) (cells : List ℕ) (store rs : List ℤ) (n : ℕ)
   open-to : Deliverable (lengthsOf (areaOf j cells store)) (isSound (areaOf j cells store)) (machineOf (areaOf j cells store) .log) rs
   open-to = deliverable (lengthsOf (areaOf j cells store)) (isSound (areaOf j cells store)) (machineOf (areaOf j cells store) .log) rs (sym is ∙ none)
 
-  st : Settled (areaOf j cells store)
-  st = settled j cells store (open-to .clear)
+  st : ValidArea (areaOf j cells store)
+  st = valid j cells store (open-to .clear)
 
   at-first : (p : ℕ) → p ≡ firstWanted (headsOf (heldIn cells (j .held))) → (p ≡ firstWanted (entriesOf (areaOf j cells store))) × (p < j .held)
   unfolding machineOf

@@ -8,7 +8,7 @@ use borrow.Author.Tests.{not-true, not-false}
 use Rattle.area.specs.Encoding.{areaOf, machineOf}
 use Rattle.soundness.specs.Clauses.{isSound}
 use Rattle.calls.specs.Replies.{lengthsOf}
-use Rattle.calls.proofs.Settling.{held-there, st, nothing, something, within, count-is}
+use Rattle.calls.proofs.Validity.{held-there, st, nothing, something, within, count-is}
 use Rattle.calls.proofs.Causes.{deliver-common, deliver-nothing, deliver-count, deliver-range, deliver-fits}
 use Rattle.calls.proofs.deliver_cause.Statement.{statement}
 use Rattle.calls.proofs.deliver_cause.Tie as tie

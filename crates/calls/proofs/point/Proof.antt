@@ -15,7 +15,7 @@ use Rattle.quadrature.specs.Readings.{recordAt}
 use Rattle.soundness.specs.Clauses.{isSound}
 use Rattle.machine.specs.Log.{firstWanted, wantedIndex}
 use Rattle.machine.specs.Causes.{firstCause}
-use Rattle.writing.specs.Settled.{Settled}
+use Rattle.writing.specs.ValidArea.{ValidArea}
 use Rattle.calls.specs.Replies.{lengthsOf}
 use lib.IntN.{ℤ}
 use Rattle.calls.specs.Replies.{accepted, replyOf}
@@ -27,7 +27,7 @@ use Rattle.area.specs.Records.{heldIn}
 use Rattle.machine.specs.Causes.{pointCauses}
 use Rattle.writing.specs.Heads.{headsOf}
 use Rattle.calls.proofs.Accepted.{Pointable, pointable}
-use Rattle.calls.proofs.Settling.{settled, held-there, entries-count, wanted-place, wanted-levels, wanted-within}
+use Rattle.calls.proofs.Validity.{valid, held-there, entries-count, wanted-place, wanted-levels, wanted-within}
 use Rattle.calls.proofs.point.Statement.{statement}
 use Rattle.calls.proofs.point.Tie as tie
 
@@ -36,8 +36,8 @@ module _ (j : JobRecord) (cells : List ℕ) (store : List ℤ) (m w n : ℕ)
   open-to : Pointable (lengthsOf (areaOf j cells store)) (isSound (areaOf j cells store)) (machineOf (areaOf j cells store) .log) m w
   open-to = pointable (lengthsOf (areaOf j cells store)) (isSound (areaOf j cells store)) (machineOf (areaOf j cells store) .log) m w (sym is ∙ none)
 
-  st : Settled (areaOf j cells store)
-  st = settled j cells store (open-to .clear)
+  st : ValidArea (areaOf j cells store)
+  st = valid j cells store (open-to .clear)
 
   module _ (p : ℕ) (e : p ≡ firstWanted (headsOf (heldIn cells (j .held)))) where
     at : p ≡ firstWanted (entriesOf (areaOf j cells store))

@@ -7,7 +7,7 @@ use denote.Ref.{now}
 use Rattle.area.specs.Encoding.{areaOf, machineOf}
 use Rattle.soundness.specs.Clauses.{isSound}
 use Rattle.calls.specs.Replies.{lengthsOf}
-use Rattle.calls.proofs.Settling.{held-there, st, nothing, something, within, size-is}
+use Rattle.calls.proofs.Validity.{held-there, st, nothing, something, within, size-is}
 use Rattle.calls.proofs.Causes.{point-buffer, point-common, point-nothing, point-past, point-fits}
 use Rattle.calls.proofs.point_cause.Statement.{statement}
 use Rattle.calls.proofs.point_cause.Tie as tie

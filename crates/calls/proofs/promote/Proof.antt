@@ -10,7 +10,7 @@ use Rattle.area.specs.Encoding.{areaOf, entriesOf, machineOf}
 use Rattle.soundness.specs.Clauses.{isSound}
 use Rattle.machine.specs.Log.{firstWanted}
 use Rattle.machine.specs.Causes.{firstCause}
-use Rattle.writing.specs.Settled.{Settled}
+use Rattle.writing.specs.ValidArea.{ValidArea}
 use Rattle.calls.specs.Replies.{lengthsOf}
 use lib.IntN.{ℤ}
 use Rattle.calls.specs.Replies.{promotion, replyOf}
@@ -19,7 +19,7 @@ use Rattle.calls.proofs.Rows.{promote-refuses, promote-accepts}
 use Rattle.machine.specs.Areas.{AreaPromotion}
 use Rattle.machine.specs.Causes.{promoteCauses}
 use Rattle.calls.proofs.Accepted.{Promotable, promotable}
-use Rattle.calls.proofs.Settling.{settled}
+use Rattle.calls.proofs.Validity.{valid}
 use Rattle.calls.proofs.promote.Statement.{statement}
 use Rattle.calls.proofs.promote.Tie as tie
 
@@ -27,9 +27,9 @@ module _ (j : JobRecord) (cells : List ℕ) (store : List ℤ) (n : ℕ) (is : n
   open-to : Promotable (lengthsOf (areaOf j cells store)) (isSound (areaOf j cells store)) (machineOf (areaOf j cells store) .log)
   open-to = promotable (lengthsOf (areaOf j cells store)) (isSound (areaOf j cells store)) (machineOf (areaOf j cells store) .log) (sym is ∙ none)
 
-  ready : Settled (areaOf j cells store) × (length (entriesOf (areaOf j cells store)) ≤ firstWanted (entriesOf (areaOf j cells store)))
+  ready : ValidArea (areaOf j cells store) × (length (entriesOf (areaOf j cells store)) ≤ firstWanted (entriesOf (areaOf j cells store)))
   unfolding machineOf
-  ready = (settled j cells store (open-to .clear), open-to .free)
+  ready = (valid j cells store (open-to .clear), open-to .free)
 
 promote-cause-requires : tie.Need-promote-cause-requires
 promote-cause-requires c κs = search needs

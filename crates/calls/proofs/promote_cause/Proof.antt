@@ -6,7 +6,7 @@ use denote.Ref.{now}
 use Rattle.area.specs.Encoding.{areaOf, machineOf}
 use Rattle.soundness.specs.Clauses.{isSound}
 use Rattle.calls.specs.Replies.{lengthsOf}
-use Rattle.calls.proofs.Settling.{held-there, st, nothing, something}
+use Rattle.calls.proofs.Validity.{held-there, st, nothing, something}
 use Rattle.calls.proofs.Causes.{promote-common, promote-wanted, promote-free}
 use Rattle.calls.proofs.promote_cause.Statement.{statement}
 use Rattle.calls.proofs.promote_cause.Tie as tie

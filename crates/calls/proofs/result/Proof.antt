@@ -1,14 +1,14 @@
--- `calls::result` meets its contract: refused by its cause, or the counts of a settled area. Assumes nothing.
+-- `calls::result` meets its contract: refused by its cause, or the counts of a valid area. Assumes nothing.
 use borrow.Author.Needs.{needs}
 use mathlib.Core.Path.{sym, ap, _∙_}
 use Prim.Native.Nat.{_-_}
 use denote.Ref.{now}
 use Rattle.area.specs.Encoding.{areaOf}
-use Rattle.calls.specs.Replies.{counts, resultedOf}
+use Rattle.calls.specs.Replies.{counts, replyOfResult}
 use Rattle.machine.specs.Counts.{Counts}
 use Rattle.calls.specs.Table.{answer}
 use Rattle.calls.proofs.Rows.{result-refuses, result-accepts}
-use Rattle.calls.proofs.Settling.{settled}
+use Rattle.calls.proofs.Validity.{valid}
 use Rattle.calls.proofs.result.Statement.{statement}
 use Rattle.calls.proofs.result.Tie as tie
 
@@ -16,17 +16,17 @@ area-cause-requires : tie.Need-area-cause-requires
 area-cause-requires c κs = search needs
 
 returns : tie.Need-returns
-unfolding resultedOf
+unfolding replyOfResult
 returns c =
     let s = c .before .before .before in
     let a = areaOf (s .args .job) (now (s .args .cells)) (now (s .args .store)) in
     result-refuses a (c .before .area-cause .result) (c .before .area-cause .ensures) (c .if1 .taken)
 
 result-requires : tie.Need-result-requires
-result-requires c κs = let s = c .before .before .before in settled (s .args .job) (now (s .args .cells)) (now (s .args .store)) (sym (c .before .area-cause .ensures) ∙ c .if1 .left)
+result-requires c κs = let s = c .before .before .before in valid (s .args .job) (now (s .args .cells)) (now (s .args .store)) (sym (c .before .area-cause .ensures) ∙ c .if1 .left)
 
 returns-2 : tie.Need-returns-2
-unfolding resultedOf
+unfolding replyOfResult
 returns-2 c =
     let s = c .before .before .before .before in
     let a = areaOf (s .args .job) (now (s .args .cells)) (now (s .args .store)) in

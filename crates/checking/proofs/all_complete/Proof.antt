@@ -6,19 +6,19 @@ use denote.Ref.{now}
 use Rattle.area.specs.Records.{recordsOf}
 use Rattle.soundness.proofs.Exactly.{all-go, all-stop, all-end}
 use borrow.Author.Tests.{not-true, not-false}
-use Rattle.soundness.specs.Test.{allFrom, completeTest, allCompleteTest}
+use Rattle.soundness.specs.Test.{allFrom, placeCompleteTest, allCompleteTest}
 use Rattle.checking.proofs.all_complete.Statement.{statement}
 use Rattle.checking.proofs.all_complete.Tie as tie
 
 abbrev Inv-loop : tie.InvT-loop
-Inv-loop axes held cells place₀ place = (place ≤ held) × (allCompleteTest axes (recordsOf cells) ≡ allFrom (held - place) place (completeTest axes (recordsOf cells)))
+Inv-loop axes held cells place₀ place = (place ≤ held) × (allCompleteTest axes (recordsOf cells) ≡ allFrom (held - place) place (placeCompleteTest axes (recordsOf cells)))
 
 abbrev μ-loop : tie.MeasureT-loop
 μ-loop axes held cells place₀ place = held - place
 
 loop-holds : tie.Need-loop-holds Inv-loop μ-loop
 unfolding allCompleteTest
-loop-holds c = (omega arith, ap (λ n. allFrom n 0 (completeTest (c .before .args .axes) (recordsOf (now (c .before .args .cells))))) (omega arith))
+loop-holds c = (omega arith, ap (λ n. allFrom n 0 (placeCompleteTest (c .before .args .axes) (recordsOf (now (c .before .args .cells))))) (omega arith))
 
 place-complete-requires : tie.Need-place-complete-requires Inv-loop μ-loop
 place-complete-requires c κs = (c .before .before .before .pre .0, omega (arith, c .before .before .before .pre .1))
@@ -29,7 +29,7 @@ returns c =
     let l = c .before .before .before .loop in
     sym
     (l .inv .1
-    ∙ all-stop (completeTest (s .args .axes) (recordsOf (now (s .args .cells)))) (s .args .held) (l .place) (omega arith)
+    ∙ all-stop (placeCompleteTest (s .args .axes) (recordsOf (now (s .args .cells)))) (s .args .held) (l .place) (omega arith)
     (sym (c .before .place-complete .ensures) ∙ not-true (c .before .place-complete .result) (c .if1 .taken)))
 
 add-place : tie.Need-add-place Inv-loop μ-loop
@@ -44,7 +44,7 @@ loop-again c =
     let l = c .before .before .before .loop in (
       omega arith,
       l .inv .1
-          ∙ all-go (completeTest (s .args .axes) (recordsOf (now (s .args .cells)))) (s .args .held) (l .place) (omega arith)
+          ∙ all-go (placeCompleteTest (s .args .axes) (recordsOf (now (s .args .cells)))) (s .args .held) (l .place) (omega arith)
           (sym (c .before .place-complete .ensures) ∙ not-false (c .before .place-complete .result) (c .if1 .left)),
     )
 
@@ -52,7 +52,7 @@ returns-2 : tie.Need-returns-2 Inv-loop μ-loop
 returns-2 c =
     let s = c .before .before .before in
     let l = c .before .loop in
-    sym (l .inv .1 ∙ all-end (completeTest (s .args .axes) (recordsOf (now (s .args .cells)))) (s .args .held) (l .place) (omega arith))
+    sym (l .inv .1 ∙ all-end (placeCompleteTest (s .args .axes) (recordsOf (now (s .args .cells)))) (s .args .held) (l .place) (omega arith))
 
 pub all-complete-spec : {M : Type 1} → statement M
 all-complete-spec =

@@ -13,7 +13,7 @@ use Rattle.grid.specs.Index.{Within}
 use Rattle.area.specs.Settings.{readingsFor, readingCount}
 use Rattle.area.proofs.Readings.{reading-facts}
 use Rattle.grid.specs.Block.{blockSize}
-use Rattle.grid.proofs.Turns.{size-small}
+use Rattle.grid.proofs.LoopSteps.{size-small}
 use Rattle.area.specs.Records.{recordsOf}
 use Rattle.area.proofs.Records.{length-recordsOf}
 use Rattle.soundness.specs.Held.{levelsAt, countAt}

@@ -21,8 +21,8 @@ abbrev μ-loop : tie.MeasureT-loop
 loop-holds : tie.Need-loop-holds Inv-loop μ-loop
 loop-holds c = (omega arith, refl)
 
-back-fits-requires : tie.Need-back-fits-requires Inv-loop μ-loop
-back-fits-requires c κs = ((omega arith, omega arith, omega arith), c .before .before .before .pre .1)
+backward-link-fits-requires : tie.Need-backward-link-fits-requires Inv-loop μ-loop
+backward-link-fits-requires c κs = ((omega arith, omega arith, omega arith), c .before .before .before .pre .1)
 
 returns : tie.Need-returns Inv-loop μ-loop
 returns c =
@@ -32,10 +32,10 @@ returns c =
     sym
     (l .inv .1
     ∙ all-stop (axisTest rs (s .args .place)) 8 (l .axis) (omega arith)
-    (axis-no-back rs (s .args .place) (l .axis) (sym (c .before .back-fits .ensures) ∙ not-true (c .before .back-fits .result) (c .if1 .taken))))
+    (axis-no-back rs (s .args .place) (l .axis) (sym (c .before .backward-link-fits .ensures) ∙ not-true (c .before .backward-link-fits .result) (c .if1 .taken))))
 
-ahead-fits-requires : tie.Need-ahead-fits-requires Inv-loop μ-loop
-ahead-fits-requires c κs = (omega arith, omega arith, omega arith)
+forward-link-fits-requires : tie.Need-forward-link-fits-requires Inv-loop μ-loop
+forward-link-fits-requires c κs = (omega arith, omega arith, omega arith)
 
 returns-2 : tie.Need-returns-2 Inv-loop μ-loop
 returns-2 c =
@@ -45,8 +45,8 @@ returns-2 c =
     sym
     (l .inv .1
     ∙ all-stop (axisTest rs (s .args .place)) 8 (l .axis) (omega arith)
-    (axis-ahead rs (s .args .place) (l .axis) (sym (c .before .before .before .back-fits .ensures) ∙ not-false (c .before .before .before .back-fits .result) (c .before .before .if1 .left))
-    ∙ (sym (c .before .ahead-fits .ensures) ∙ not-true (c .before .ahead-fits .result) (c .if2 .taken))))
+    (axis-ahead rs (s .args .place) (l .axis) (sym (c .before .before .before .backward-link-fits .ensures) ∙ not-false (c .before .before .before .backward-link-fits .result) (c .before .before .if1 .left))
+    ∙ (sym (c .before .forward-link-fits .ensures) ∙ not-true (c .before .forward-link-fits .result) (c .if2 .taken))))
 
 add-axis : tie.Need-add-axis Inv-loop μ-loop
 add-axis c = omega arith
@@ -62,8 +62,8 @@ loop-again c =
       omega arith,
       l .inv .1
           ∙ all-go (axisTest rs (s .args .place)) 8 (l .axis) (omega arith)
-          (axis-ahead rs (s .args .place) (l .axis) (sym (c .before .before .before .back-fits .ensures) ∙ not-false (c .before .before .before .back-fits .result) (c .before .before .if1 .left))
-          ∙ (sym (c .before .ahead-fits .ensures) ∙ not-false (c .before .ahead-fits .result) (c .if2 .left))),
+          (axis-ahead rs (s .args .place) (l .axis) (sym (c .before .before .before .backward-link-fits .ensures) ∙ not-false (c .before .before .before .backward-link-fits .result) (c .before .before .if1 .left))
+          ∙ (sym (c .before .forward-link-fits .ensures) ∙ not-false (c .before .forward-link-fits .result) (c .if2 .left))),
     )
 
 returns-3 : tie.Need-returns-3 Inv-loop μ-loop
@@ -79,9 +79,9 @@ links-fit-spec =
     Inv-loop
     μ-loop
     loop-holds
-    back-fits-requires
+    backward-link-fits-requires
     returns
-    ahead-fits-requires
+    forward-link-fits-requires
     returns-2
     add-axis
     loop-less

@@ -8,7 +8,7 @@ use Rattle.soundness.proofs.Exactly.{all-go, all-stop, all-end}
 use mathlib.Core.Path.{subst}
 use borrow.Author.Tests.{not-true, not-false}
 use Rattle.grid.specs.Index.{excess, Within}
-use Rattle.soundness.specs.Test.{allFrom, openTest, completeTest}
+use Rattle.soundness.specs.Test.{allFrom, axisCompleteTest, placeCompleteTest}
 use Rattle.checking.proofs.Cells.{in-cells}
 use Rattle.checking.proofs.Passes.{place-index, complete-not-old, complete-full, complete-axes}
 use Rattle.checking.proofs.place_complete.Statement.{statement}
@@ -16,7 +16,7 @@ use Rattle.checking.proofs.place_complete.Tie as tie
 
 abbrev Inv-loop : tie.InvT-loop
 Inv-loop axes place cells axis₀ axis =
-    (axis ≤ axes) × (completeTest axes (recordsOf cells) place ≡ allFrom (axes - axis) axis (openTest axes (recordsOf cells) place))
+    (axis ≤ axes) × (placeCompleteTest axes (recordsOf cells) place ≡ allFrom (axes - axis) axis (axisCompleteTest axes (recordsOf cells) place))
 
 abbrev μ-loop : tie.MeasureT-loop
 μ-loop axes place cells axis₀ axis = axes - axis
@@ -51,7 +51,7 @@ loop-holds c =
       omega arith,
       complete-axes (s .args .axes) rs (s .args .place) (sym (c .before .before .before .before .state-at .ensures) ∙ c .before .before .before .if1 .left)
           (omega (arith, ap excess (c .before .before .levels-at .ensures), c .before .excess-of .ensures, c .if2 .left))
-          ∙ ap (λ n. allFrom n 0 (openTest (s .args .axes) rs (s .args .place))) (omega arith),
+          ∙ ap (λ n. allFrom n 0 (axisCompleteTest (s .args .axes) rs (s .args .place))) (omega arith),
     )
 
 axis-complete-requires : tie.Need-axis-complete-requires Inv-loop μ-loop
@@ -63,7 +63,7 @@ returns-3 c =
     let l = c .before .before .before .loop in
     sym
     (l .inv .1
-    ∙ all-stop (openTest (s .args .axes) (recordsOf (now (s .args .cells))) (s .args .place)) (s .args .axes) (l .axis) (omega arith)
+    ∙ all-stop (axisCompleteTest (s .args .axes) (recordsOf (now (s .args .cells))) (s .args .place)) (s .args .axes) (l .axis) (omega arith)
     (sym (c .before .axis-complete .ensures) ∙ not-true (c .before .axis-complete .result) (c .if3 .taken)))
 
 add-axis : tie.Need-add-axis Inv-loop μ-loop
@@ -78,7 +78,7 @@ loop-again c =
     let l = c .before .before .before .loop in (
       omega arith,
       l .inv .1
-          ∙ all-go (openTest (s .args .axes) (recordsOf (now (s .args .cells))) (s .args .place)) (s .args .axes) (l .axis) (omega arith)
+          ∙ all-go (axisCompleteTest (s .args .axes) (recordsOf (now (s .args .cells))) (s .args .place)) (s .args .axes) (l .axis) (omega arith)
           (sym (c .before .axis-complete .ensures) ∙ not-false (c .before .axis-complete .result) (c .if3 .left)),
     )
 
@@ -86,7 +86,7 @@ returns-4 : tie.Need-returns-4 Inv-loop μ-loop
 returns-4 c =
     let s = c .before .before .before .before .before .before .before .before in
     let l = c .before .loop in
-    sym (l .inv .1 ∙ all-end (openTest (s .args .axes) (recordsOf (now (s .args .cells))) (s .args .place)) (s .args .axes) (l .axis) (omega arith))
+    sym (l .inv .1 ∙ all-end (axisCompleteTest (s .args .axes) (recordsOf (now (s .args .cells))) (s .args .place)) (s .args .axes) (l .axis) (omega arith))
 
 pub place-complete-spec : {M : Type 1} → statement M
 place-complete-spec =

@@ -20,29 +20,29 @@ use Rattle.area.specs.Settings.{readingCount}
 use Rattle.area.specs.Records.{recordsOf, runOf, stored}
 use Rattle.area.specs.Entry.{readingIn}
 use Rattle.area.specs.Encoding.{areaOf, entriesOf}
-use Rattle.quadrature.specs.Readings.{recordAt, fetched}
+use Rattle.quadrature.specs.Readings.{recordAt, storedReading}
 use Rattle.quadrature.specs.Ready.{Ready}
 use Rattle.machine.specs.Log.{firstWanted, wantedIndex}
 use Rattle.machine.specs.Steps.{deliverAt}
 use Rattle.machine.specs.Areas.{deliverOn}
 use Rattle.machine.specs.Causes.{inRange}
 use Rattle.writing.specs.Changes.{restated}
-use Rattle.writing.specs.Settled.{Settled}
-use Rattle.delivery.proofs.Delivering.{held-there, block-there, pending-fits, mean-fits, ready, difference-is, area-is, settled-after}
+use Rattle.writing.specs.ValidArea.{ValidArea}
+use Rattle.delivery.proofs.Delivering.{held-there, block-there, pending-fits, mean-fits, ready, difference-is, area-is, valid-after}
 use Rattle.delivery.proofs.deliver.Statement.{statement}
 use Rattle.delivery.proofs.deliver.Tie as tie
 
 -- the laws at a place that is known to be the first wanted
-module _ (j : JobRecord) (c : List ℕ) (s rs : List ℤ) (i place : ℕ) (settled : Settled (areaOf j c s)) (is : place ≡ firstWanted (entriesOf (areaOf j c s))) (wanted : place < j .held)
+module _ (j : JobRecord) (c : List ℕ) (s rs : List ℤ) (i place : ℕ) (valid : ValidArea (areaOf j c s)) (is : place ≡ firstWanted (entriesOf (areaOf j c s))) (wanted : place < j .held)
     (whole : length rs ≡ readingCount (j .settings) (wantedIndex (entriesOf (areaOf j c s)))) (range : inRange rs ≡ true) where
   wanted-first : firstWanted (entriesOf (areaOf j c s)) < j .held
   wanted-first = omega (arith, is, wanted)
 
   room : place * 27 + 27 ≤ length c
-  room = omega (arith, held-there j c s rs i settled wanted-first whole range, wanted)
+  room = omega (arith, held-there j c s rs i valid wanted-first whole range, wanted)
 
   block-room : (f : ℕ) → f ≡ recordAt (recordsOf c) place .first → f + length rs ≤ length s
-  block-room f e = rw (e, is) (block-there j c s rs i settled wanted-first whole range)
+  block-room f e = rw (e, is) (block-there j c s rs i valid wanted-first whole range)
 
   module _ (c₁ : List ℕ) (s₁ : List ℤ) (f : ℕ) (first : f ≡ recordAt (recordsOf c) place .first)
       (run : runOf c₁ ≡ stored (runOf c) place (restated (recordAt (recordsOf c) place) 1 i)) (store : s₁ ≡ sets s f rs) where
@@ -55,25 +55,25 @@ module _ (j : JobRecord) (c : List ℕ) (s rs : List ℤ) (i place : ℕ) (settl
     ready-at : (k : List ℕ) → k ≡ recordAt (recordsOf c₁) place .levels → Ready (j .settings .axes) (recordsOf c₁) s₁ k
     ready-at k e =
         subst (Ready (j .settings .axes) (recordsOf c₁) s₁) (ap (λ p. recordAt (recordsOf c₁) p .levels) (sym is) ∙ sym e)
-        (ready j c s rs i settled wanted-first whole range c₁ s₁ run-first store-first)
+        (ready j c s rs i valid wanted-first whole range c₁ s₁ run-first store-first)
 
-    difference-at : (k : List ℕ) (x : ℤ) → k ≡ recordAt (recordsOf c₁) place .levels → x ≡ scaledDifference k (fetched (recordsOf c₁) s₁)
+    difference-at : (k : List ℕ) (x : ℤ) → k ≡ recordAt (recordsOf c₁) place .levels → x ≡ scaledDifference k (storedReading (recordsOf c₁) s₁)
         → x ≡ scaledDifference (wantedIndex (entriesOf (areaOf j c s))) (readingIn (deliverAt (entriesOf (areaOf j c s)) (firstWanted (entriesOf (areaOf j c s))) rs i))
     difference-at k x e d =
-        d ∙ ap (λ l. scaledDifference l (fetched (recordsOf c₁) s₁)) (e ∙ ap (λ p. recordAt (recordsOf c₁) p .levels) is)
-        ∙ difference-is j c s rs i settled wanted-first whole range c₁ s₁ run-first store-first
+        d ∙ ap (λ l. scaledDifference l (storedReading (recordsOf c₁) s₁)) (e ∙ ap (λ p. recordAt (recordsOf c₁) p .levels) is)
+        ∙ difference-is j c s rs i valid wanted-first whole range c₁ s₁ run-first store-first
 
     abbrev JobAfter : ℤ → JobRecord
     JobAfter m = record { settings = j .settings; held = j .held; reserved = j .reserved; pending = j .pending + i; mean = m }
 
-    area-and-settled : (m : ℤ) → m ≡ j .mean +ℤ scaledDifference (wantedIndex (entriesOf (areaOf j c s))) (readingIn (deliverAt (entriesOf (areaOf j c s)) (firstWanted (entriesOf (areaOf j c s))) rs i))
-        → (areaOf (JobAfter m) c₁ s₁ ≡ deliverOn (areaOf j c s) rs i) × Settled (areaOf (JobAfter m) c₁ s₁)
-    area-and-settled m e =
-        let is-area = area-is j c s rs i settled wanted-first whole range c₁ s₁ run-first store-first m e in
-        (is-area, settled-after j c s rs i settled wanted-first whole range c₁ s₁ run-first store-first (JobAfter m) is-area)
+    area-and-valid : (m : ℤ) → m ≡ j .mean +ℤ scaledDifference (wantedIndex (entriesOf (areaOf j c s))) (readingIn (deliverAt (entriesOf (areaOf j c s)) (firstWanted (entriesOf (areaOf j c s))) rs i))
+        → (areaOf (JobAfter m) c₁ s₁ ≡ deliverOn (areaOf j c s) rs i) × ValidArea (areaOf (JobAfter m) c₁ s₁)
+    area-and-valid m e =
+        let is-area = area-is j c s rs i valid wanted-first whole range c₁ s₁ run-first store-first m e in
+        (is-area, valid-after j c s rs i valid wanted-first whole range c₁ s₁ run-first store-first (JobAfter m) is-area)
 
     mean-small : (x : ℤ) → natAbs x ≤ 2 ^ 40 → natAbs (j .mean +ℤ x) ≤ 2 ^ 62
-    mean-small x h = le-trans (abs-add (j .mean) x) (omega (arith, h, mean-fits j c s rs i settled wanted-first whole range))
+    mean-small x h = le-trans (abs-add (j .mean) x) (omega (arith, h, mean-fits j c s rs i valid wanted-first whole range))
 
 cast-axes : tie.Need-cast-axes
 cast-axes c = search needs
@@ -133,7 +133,7 @@ returns c =
     sum-is m x (m +ℤ x) (sfits-of (c .struct-told .given .1 .1 .1 .1 .0 .1)) (sfits-of (c .before .before .before .scaled-difference .ok)) refl
     (mean-small (s .args .job) (now (s .args .cells)) (now (s .args .store)) (now (s .args .readings)) (s .args .indicator) (s .args .place) (s .pre .0 .0) (s .pre .0 .1) (s .pre .0 .2) (s .pre .1 .0) (s .pre .1 .1) (c .before .before .before .before .before .before .before .before .before .before .restate .last .1 .1 .1 .0) (c .before .before .before .before .before .before .before .before .before .before .before .before .before .put-readings .last .1 .1 .0) (c .before .before .before .before .before .before .before .before .before .before .before .before .before .before .before .first-at .result) (c .before .before .before .before .before .before .before .before .before .before .before .before .before .before .before .first-at .ensures) (c .before .before .before .before .before .before .before .before .before .before .restate .ensures) (c .before .before .before .before .before .before .before .before .before .before .before .before .before .put-readings .ensures) x (c .before .before .before .scaled-difference .ensures .1)) in
     let difference = difference-at (s .args .job) (now (s .args .cells)) (now (s .args .store)) (now (s .args .readings)) (s .args .indicator) (s .args .place) (s .pre .0 .0) (s .pre .0 .1) (s .pre .0 .2) (s .pre .1 .0) (s .pre .1 .1) (c .before .before .before .before .before .before .before .before .before .before .restate .last .1 .1 .1 .0) (c .before .before .before .before .before .before .before .before .before .before .before .before .before .put-readings .last .1 .1 .0) (c .before .before .before .before .before .before .before .before .before .before .before .before .before .before .before .first-at .result) (c .before .before .before .before .before .before .before .before .before .before .before .before .before .before .before .first-at .ensures) (c .before .before .before .before .before .before .before .before .before .before .restate .ensures) (c .before .before .before .before .before .before .before .before .before .before .before .before .before .put-readings .ensures) (c .before .before .before .before .before .before .levels-at .result) x (c .before .before .before .before .before .before .levels-at .ensures) (c .before .before .before .scaled-difference .ensures .0) in
-    area-and-settled (s .args .job) (now (s .args .cells)) (now (s .args .store)) (now (s .args .readings)) (s .args .indicator) (s .args .place) (s .pre .0 .0) (s .pre .0 .1) (s .pre .0 .2) (s .pre .1 .0) (s .pre .1 .1) (c .before .before .before .before .before .before .before .before .before .before .restate .last .1 .1 .1 .0) (c .before .before .before .before .before .before .before .before .before .before .before .before .before .put-readings .last .1 .1 .0) (c .before .before .before .before .before .before .before .before .before .before .before .before .before .before .before .first-at .result) (c .before .before .before .before .before .before .before .before .before .before .before .before .before .before .before .first-at .ensures) (c .before .before .before .before .before .before .before .before .before .before .restate .ensures) (c .before .before .before .before .before .before .before .before .before .before .before .before .before .put-readings .ensures) (toZ w64 (ofZ w64 (toZ w64 (ofZ w64 m) +ℤ toZ w64 (ofZ w64 x)))) (sum ∙ ap (λ d. m +ℤ d) difference)
+    area-and-valid (s .args .job) (now (s .args .cells)) (now (s .args .store)) (now (s .args .readings)) (s .args .indicator) (s .args .place) (s .pre .0 .0) (s .pre .0 .1) (s .pre .0 .2) (s .pre .1 .0) (s .pre .1 .1) (c .before .before .before .before .before .before .before .before .before .before .restate .last .1 .1 .1 .0) (c .before .before .before .before .before .before .before .before .before .before .before .before .before .put-readings .last .1 .1 .0) (c .before .before .before .before .before .before .before .before .before .before .before .before .before .before .before .first-at .result) (c .before .before .before .before .before .before .before .before .before .before .before .before .before .before .before .first-at .ensures) (c .before .before .before .before .before .before .before .before .before .before .restate .ensures) (c .before .before .before .before .before .before .before .before .before .before .before .before .before .put-readings .ensures) (toZ w64 (ofZ w64 (toZ w64 (ofZ w64 m) +ℤ toZ w64 (ofZ w64 x)))) (sum ∙ ap (λ d. m +ℤ d) difference)
 
 pub deliver-spec : {M : Type 1} → statement M
 deliver-spec =

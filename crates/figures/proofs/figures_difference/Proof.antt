@@ -5,7 +5,7 @@ use denote.Ref.{now}
 use Rattle.sums.proofs.Words.{back}
 use Rattle.grid.specs.Difference.{scaledDifference}
 use Rattle.area.specs.Records.{recordsOf}
-use Rattle.quadrature.specs.Readings.{fetched}
+use Rattle.quadrature.specs.Readings.{storedReading}
 use Rattle.quadrature.specs.Ready.{Ready}
 use Rattle.figures.proofs.figures_difference.Statement.{statement}
 use Rattle.figures.proofs.figures_difference.Tie as tie
@@ -22,7 +22,7 @@ returns : tie.Need-returns
 returns c =
     let s = c .before .before .before in
     back (c .scaled-difference .result) (sfits-of (c .scaled-difference .ok)) ∙ c .scaled-difference .ensures .0
-    ∙ ap (λ k. scaledDifference k (fetched (recordsOf (now (s .args .cells))) (now (s .args .store)))) (c .before .levels-at .ensures)
+    ∙ ap (λ k. scaledDifference k (storedReading (recordsOf (now (s .args .cells))) (now (s .args .store)))) (c .before .levels-at .ensures)
 
 pub figures-difference-spec : {M : Type 1} → statement M
 figures-difference-spec = tie.close (tie.spec levels-at-requires scaled-difference-requires returns)

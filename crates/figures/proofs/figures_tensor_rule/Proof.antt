@@ -5,7 +5,7 @@ use denote.Ref.{now}
 use Rattle.sums.proofs.Words.{back}
 use Rattle.grid.specs.Tensor.{tensorRule}
 use Rattle.area.specs.Records.{recordsOf}
-use Rattle.quadrature.specs.Readings.{fetched}
+use Rattle.quadrature.specs.Readings.{storedReading}
 use Rattle.quadrature.specs.Ready.{Ready}
 use Rattle.figures.proofs.figures_tensor_rule.Statement.{statement}
 use Rattle.figures.proofs.figures_tensor_rule.Tie as tie
@@ -22,7 +22,7 @@ returns : tie.Need-returns
 returns c =
     let s = c .before .before .before in
     back (c .tensor-rule .result) (sfits-of (c .tensor-rule .ok)) ∙ c .tensor-rule .ensures .0
-    ∙ ap (λ k. tensorRule k (fetched (recordsOf (now (s .args .cells))) (now (s .args .store)))) (c .before .levels-at .ensures)
+    ∙ ap (λ k. tensorRule k (storedReading (recordsOf (now (s .args .cells))) (now (s .args .store)))) (c .before .levels-at .ensures)
 
 pub figures-tensor-rule-spec : {M : Type 1} → statement M
 figures-tensor-rule-spec = tie.close (tie.spec levels-at-requires tensor-rule-requires returns)

@@ -11,7 +11,7 @@ use lib.ListN.{length, drop}
 use Rattle.rule.specs.Points.{newCount}
 use Rattle.grid.specs.Index.{level, Within}
 use Rattle.grid.specs.Block.{blockSize}
-use Rattle.grid.proofs.Turns.{size-step, size-done, size-small, size-left-pos, factor-le}
+use Rattle.grid.proofs.LoopSteps.{size-step, size-done, size-small, size-left-pos, factor-le}
 use Rattle.grid.proofs.block_size.Statement.{statement}
 use Rattle.grid.proofs.block_size.Tie as tie
 

@@ -7,7 +7,7 @@ use lib.ListN.{length}
 use mathlib.Core.List.{List}
 use lib.ListN.{drop}
 use Rattle.grid.specs.Index.{level, excess}
-use Rattle.grid.proofs.Turns.{axis-left, none-left}
+use Rattle.grid.proofs.LoopSteps.{axis-left, none-left}
 use Rattle.grid.proofs.excess_of.Statement.{statement}
 use Rattle.grid.proofs.excess_of.Tie as tie
 

@@ -11,7 +11,7 @@ use Rattle.rule.specs.Points.{newCount, newPoint}
 use Rattle.grid.specs.Index.{level, Within}
 use Rattle.grid.specs.Block.{blockSize, pointOf}
 use Rattle.grid.proofs.Blocks.{high-digit, low-digit}
-use Rattle.grid.proofs.Turns.{size-step, size-left-pos, count-pos, count-out, point-step, point-done, store-next}
+use Rattle.grid.proofs.LoopSteps.{size-step, size-left-pos, count-pos, count-out, point-step, point-done, store-next}
 use Rattle.grid.proofs.point_of.Statement.{statement}
 use Rattle.grid.proofs.point_of.Tie as tie
 

@@ -9,7 +9,7 @@ use lib.ListN.{length, length-set}
 use lib.Seq.{getD-set-other}
 use Rattle.grid.specs.Index.{level}
 use Rattle.grid.specs.Coefficient.{raisedOn, marks}
-use Rattle.grid.proofs.Turns.{raising, raising-start, raising-in, raising-out, raising-done}
+use Rattle.grid.proofs.LoopSteps.{raising, raising-start, raising-in, raising-out, raising-done}
 use Rattle.grid.proofs.raised_on.Statement.{statement}
 use Rattle.grid.proofs.raised_on.Tie as tie
 

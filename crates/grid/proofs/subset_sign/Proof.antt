@@ -7,7 +7,7 @@ use Prim.Native.Nat.{ℕ, _+_, _-_, _/_, _^_, _≤_}
 use native.Mathlib.Omega.{arith}
 use lib.IntN.{pos}
 use Rattle.grid.specs.Coefficient.{sign, marks}
-use Rattle.grid.proofs.Turns.{turned, sign-start, sign-in, sign-out, sign-done}
+use Rattle.grid.proofs.LoopSteps.{turned, sign-start, sign-in, sign-out, sign-done}
 use Rattle.grid.proofs.subset_sign.Statement.{statement}
 use Rattle.grid.proofs.subset_sign.Tie as tie
 

@@ -8,7 +8,7 @@ use native.Mathlib.Omega.{arith}
 use lib.Dec.{leb}
 use lib.ListN.{length, drop}
 use Rattle.grid.specs.Index.{excess, levelsWithin}
-use Rattle.grid.proofs.Turns.{levels-step, levels-low, levels-high, levels-done, excess-step, excess-done, within-no, within-yes}
+use Rattle.grid.proofs.LoopSteps.{levels-step, levels-low, levels-high, levels-done, excess-step, excess-done, within-no, within-yes}
 use Rattle.grid.proofs.within_ceilings.Statement.{statement}
 use Rattle.grid.proofs.within_ceilings.Tie as tie
 

@@ -32,16 +32,16 @@ fail-requires : tie.Need-fail-requires
 fail-requires c κs = search needs
 
 -- src/main.rt:92:20
-enum-known-got : tie.Need-enum-known-got
-enum-known-got c = search needs
+enum-known-received : tie.Need-enum-known-received
+enum-known-received c = search needs
 
 -- src/main.rt:92:43
 array-share-prefix-file : tie.Need-array-share-prefix-file
-array-share-prefix-file c = file-room _ _ _ (c .before .got .given .1) (c .before .before .before .before .read-file .ensures)
+array-share-prefix-file c = file-room _ _ _ (c .before .received .given .1) (c .before .before .before .before .read-file .ensures)
 
 -- src/main.rt:92:43
 slice-aggregate-print-report : tie.Need-slice-aggregate-print-report
-slice-aggregate-print-report c = sym (length-take-le _ _ (file-room _ _ _ (c .before .before .got .given .1) (c .before .before .before .before .before .read-file .ensures)))
+slice-aggregate-print-report c = sym (length-take-le _ _ (file-room _ _ _ (c .before .before .received .given .1) (c .before .before .before .before .before .read-file .ensures)))
 
 -- src/main.rt:92:30
 print-report-requires : tie.Need-print-report-requires
@@ -64,7 +64,7 @@ main-spec =
     enum-told
     slice-aggregate-fail
     fail-requires
-    enum-known-got
+    enum-known-received
     array-share-prefix-file
     slice-aggregate-print-report
     print-report-requires

@@ -23,16 +23,16 @@ enum-told : tie.Need-enum-told
 enum-told c = search needs
 
 -- src/main.rt:76:31
-enum-known-ran : tie.Need-enum-known-ran
-enum-known-ran c = search needs
+enum-known-status : tie.Need-enum-known-status
+enum-known-status c = search needs
 
 -- src/main.rt:77:59
 array-share-prefix-report : tie.Need-array-share-prefix-report
-array-share-prefix-report c = report-room _ _ _ _ _ (c .before .before .before .before .run .ensures) (search needs) (c .before .ran .given .1)
+array-share-prefix-report c = report-room _ _ _ _ _ (c .before .before .before .before .run .ensures) (search needs) (c .before .status .given .1)
 
 -- src/main.rt:77:59
 slice-aggregate-write-all : tie.Need-slice-aggregate-write-all
-slice-aggregate-write-all c = sym (length-take-le _ _ (report-room _ _ _ _ _ (c .before .before .before .before .before .run .ensures) (search needs) (c .before .before .ran .given .1)))
+slice-aggregate-write-all c = sym (length-take-le _ _ (report-room _ _ _ _ _ (c .before .before .before .before .before .run .ensures) (search needs) (c .before .before .status .given .1)))
 
 -- src/main.rt:77:17
 write-all-requires : tie.Need-write-all-requires
@@ -65,7 +65,7 @@ print-report-spec =
     slice-aggregate-run
     run-requires
     enum-told
-    enum-known-ran
+    enum-known-status
     array-share-prefix-report
     slice-aggregate-write-all
     write-all-requires

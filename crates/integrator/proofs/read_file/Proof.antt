@@ -47,12 +47,12 @@ returns : tie.Need-returns Inv-loop μ-loop
 returns c = search needs
 
 -- src/main.rt:60:24
-enum-known-got : tie.Need-enum-known-got Inv-loop μ-loop
-enum-known-got c = search needs
+enum-known-received : tie.Need-enum-known-received Inv-loop μ-loop
+enum-known-received c = search needs
 
 -- src/main.rt:64:17
 add-at : tie.Need-add-at Inv-loop μ-loop
-add-at c = let fits = read-room _ _ _ _ _ _ (c .before .before .got .given .1) (c .before .before .before .before .before .before .before .before .read-more .ensures) in omega (arith, fits)
+add-at c = let fits = read-room _ _ _ _ _ _ (c .before .before .received .given .1) (c .before .before .before .before .before .before .before .before .read-more .ensures) in omega (arith, fits)
 
 -- src/main.rt:56:5
 loop-less : tie.Need-loop-less Inv-loop μ-loop
@@ -60,7 +60,7 @@ loop-less c = search needs
 
 -- src/main.rt:56:5
 loop-again : tie.Need-loop-again Inv-loop μ-loop
-loop-again c = let fits = read-room _ _ _ _ _ _ (c .before .before .got .given .1) (c .before .before .before .before .before .before .before .before .read-more .ensures) in search (needs, fits)
+loop-again c = let fits = read-room _ _ _ _ _ _ (c .before .before .received .given .1) (c .before .before .before .before .before .before .before .before .read-more .ensures) in search (needs, fits)
 
 -- src/main.rt:50:1
 same-length-2 : tie.Need-same-length-2 Inv-loop μ-loop
@@ -91,7 +91,7 @@ read-file-spec =
     enum-told
     same-length
     returns
-    enum-known-got
+    enum-known-received
     add-at
     loop-less
     loop-again

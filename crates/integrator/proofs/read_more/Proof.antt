@@ -8,18 +8,18 @@ use Rattle.integrator.proofs.read_more.Statement.{statement}
 use Rattle.integrator.proofs.read_more.Tie as tie
 use Rattle.integrator.proofs.read_more.Reads as reads
 use Rattle.integrator.proofs.read_more.Lts as lts
-use Rattle.integrator.proofs.least.Reads as least-reads
+use Rattle.integrator.proofs.min_of.Reads as min-of-reads
 use Rattle.integrator.proofs.put_chunk.Reads as put-chunk-reads
 use Rattle.io.proofs.count.Reads as count-reads
 use Rattle.libc.proofs.read.Reads as read-reads
 
 -- src/main.rt:39:22
-sub-least : tie.Need-sub-least
-sub-least c = search needs
+sub-min-of : tie.Need-sub-min-of
+sub-min-of c = search needs
 
 -- src/main.rt:39:9
-least-requires : tie.Need-least-requires
-least-requires c κs = search needs
+min-of-requires : tie.Need-min-of-requires
+min-of-requires c κs = search needs
 
 -- src/main.rt:40:40
 slice-relend-prefix-read : tie.Need-slice-relend-prefix-read
@@ -27,7 +27,7 @@ slice-relend-prefix-read c = search needs
 
 -- src/main.rt:40:40
 slice-aggregate-read : tie.Need-slice-aggregate-read
-slice-aggregate-read c = let s = c .before .before .before .before in sym (length-take-le (c .before .least .result) (now (s .args .chunk)) (omega arith))
+slice-aggregate-read c = let s = c .before .before .before .before in sym (length-take-le (c .before .min-of .result) (now (s .args .chunk)) (omega arith))
 
 -- src/main.rt:40:9
 read-requires : tie.Need-read-requires
@@ -46,8 +46,8 @@ count-requires : tie.Need-count-requires
 count-requires c κs = search needs
 
 -- src/main.rt:44:9
-least-requires-2 : tie.Need-least-requires-2
-least-requires-2 c κs = search needs
+min-of-requires-2 : tie.Need-min-of-requires-2
+min-of-requires-2 c κs = search needs
 
 -- src/main.rt:45:5
 put-chunk-requires : tie.Need-put-chunk-requires
@@ -69,15 +69,15 @@ pub read-more-spec : {M : Type 1} → statement M
 read-more-spec =
     tie.close
     (tie.spec
-    sub-least
-    least-requires
+    sub-min-of
+    min-of-requires
     slice-relend-prefix-read
     slice-aggregate-read
     read-requires
     same-length
     returns
     count-requires
-    least-requires-2
+    min-of-requires-2
     put-chunk-requires
     same-length-2
     same-length-3

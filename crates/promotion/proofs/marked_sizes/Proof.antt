@@ -11,7 +11,7 @@ use Rattle.promotion.proofs.Marks.{marked, passing-on, passing-off, pas
 use Rattle.machine.specs.Promote.{passing}
 use Rattle.grid.specs.Index.{Within, forward}
 use Rattle.grid.specs.Block.{blockSize}
-use Rattle.grid.proofs.Turns.{size-small}
+use Rattle.grid.proofs.LoopSteps.{size-small}
 use Rattle.writing.specs.Changes.{sizesOf}
 use Rattle.promotion.proofs.marked_sizes.Statement.{statement}
 use Rattle.promotion.proofs.marked_sizes.Tie as tie

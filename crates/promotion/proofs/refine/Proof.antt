@@ -3,7 +3,7 @@ use borrow.Author.Needs.{needs}
 use native.Mathlib.Omega.{arith}
 use denote.Ref.{now}
 use lib.ListN.{length}
-use Rattle.promotion.proofs.Refining.{refinable, place-inside, scan-asks, indicator-pending, Scanned, marks-ask, Counted, too-many, too-large, append-asks, Changed, promoted-is, promoted-settled}
+use Rattle.promotion.proofs.Refining.{refinable, place-inside, scan-asks, indicator-pending, Scanned, marks-ask, Counted, too-many, too-large, append-asks, Changed, promoted-is, promoted-valid}
 use Rattle.promotion.proofs.refine.Statement.{statement}
 use Rattle.promotion.proofs.refine.Tie as tie
 
@@ -146,7 +146,7 @@ returns-3 c =
     let f = c .before .before .before .append-marked in
     let w : Changed (s .args .job) (now (s .args .cells)) (s .args .place) (l .result) (m .result) (i .result) (c .before .before .before .before .before .readings-for .result) (e .last .1 .1 .1 .0) (f .last .1 .1 .1 .1 .1 .1 .0) =
     record { first-is = c .before .before .before .before .before .readings-for .ensures; indicator-is = i .ensures; restated-is = e .ensures; appended-is = f .ensures } in
-    (promoted-is t u v few within w, promoted-settled t u v few within w)
+    (promoted-is t u v few within w, promoted-valid t u v few within w)
 
 pub refine-spec : {M : Type 1} → statement M
 refine-spec =

@@ -19,15 +19,15 @@ use Rattle.grid.specs.Index.{level, forward}
 use Rattle.grid.specs.Difference.{Readings, units, behind, differenceWalk}
 use Rattle.grid.specs.Terms.{InRange}
 use Rattle.grid.proofs.Levels.{Levels, within-levels}
-use Rattle.grid.proofs.Turns.{count-pos, levels-drop}
+use Rattle.grid.proofs.LoopSteps.{count-pos, levels-drop}
 use Rattle.area.specs.declared.IndexRecord.{IndexRecord}
 use Rattle.area.specs.Records.{recordsOf}
 use Rattle.area.proofs.Records.{length-recordsOf}
-use Rattle.quadrature.specs.Readings.{recordAt, placeIn, fetched}
-use Rattle.quadrature.specs.Ready.{Ready, Stands}
+use Rattle.quadrature.specs.Readings.{recordAt, placeIn, storedReading}
+use Rattle.quadrature.specs.Ready.{Ready, WalkInvariant}
 use Rattle.quadrature.specs.Parts.{left, leftAt, pointsLeft, walkLeft}
 use Rattle.quadrature.proofs.Walks.{behind-left, walk-behind, walk-all, walk-past, walk-ones}
-use Rattle.quadrature.proofs.Standing.{place-in, stands-higher, level-higher, left-higher, link-is, take-next, stands-further, stands-past, left-past, left-range, target-ones, left-one, reading-in, reading-range, rank-in}
+use Rattle.quadrature.proofs.WalkInvariants.{place-in, invariant-higher, level-higher, left-higher, link-is, take-next, invariant-further, invariant-past, left-past, left-range, target-ones, left-one, reading-in, reading-range, rank-in}
 use Rattle.quadrature.proofs.Steps.{axis-of, count-small, room-points, room-weight, room-below, room-past, room-alone, level-adds, level-last, level-size, point-adds, points-last, points-bound}
 use borrow.Fn.Kinds.{In}
 use borrow.Fn.PlainCycle.{Measures, is, falls, and}
@@ -38,7 +38,7 @@ use Rattle.quadrature.proofs.point_walk.Reads as point-walk
 use Rattle.quadrature.proofs.point_walk.Kinds as point-walk-kinds
 use Rattle.quadrature.proofs.+level_walk+point_walk.Lts-point_walk as point-walk-lts
 use Rattle.area.proofs.link_at.Reads as link-at-reads
-use Rattle.quadrature.proofs.weighed_reading.Reads as weighed-reading-reads
+use Rattle.quadrature.proofs.weighted_reading.Reads as weighted-reading-reads
 use Rattle.rule.proofs.difference_weight.Reads as difference-weight-reads
 use Rattle.rule.proofs.new_count.Reads as new-count-reads
 use Rattle.quadrature.proofs.+level_walk+point_walk.{statement}
@@ -76,7 +76,7 @@ point-walk-below t =
 
 -- what the calls of each ask and give
 abbrev level-calls : ℕ → level-walk-lts.Claims
-level-calls t = (level-walk-below t, level-walk.Post, difference-weight-reads.Asked, difference-weight-reads.Learnt, point-walk-below t, point-walk.Post, link-at-reads.Asked, link-at-reads.Learnt, weighed-reading-reads.Asked, weighed-reading-reads.Learnt)
+level-calls t = (level-walk-below t, level-walk.Post, difference-weight-reads.Asked, difference-weight-reads.Learnt, point-walk-below t, point-walk.Post, link-at-reads.Asked, link-at-reads.Learnt, weighted-reading-reads.Asked, weighted-reading-reads.Learnt)
 
 abbrev point-calls : ℕ → point-walk-lts.Claims
 point-calls t = (new-count-reads.Asked, new-count-reads.Learnt, level-walk-below t, level-walk.Post, point-walk-below t, point-walk.Post)
@@ -102,8 +102,8 @@ module _ (t : ℕ) (s : level-walk-lts.Start (level-calls t) (level-walk-at t) l
   ready : Ready (s .args .axes) rs store k
   ready = s .pre .1 .0 .0
 
-  stands : Stands rs k (s .args .axis) (s .args .place) (s .args .rank)
-  stands = s .pre .1 .0 .1
+  invariant : WalkInvariant rs k (s .args .axis) (s .args .place) (s .args .rank)
+  invariant = s .pre .1 .0 .1
 
   room : natAbs (s .args .weight) * 2 ^ units (drop (s .args .axis) k) ≤ 2 ^ 20
   room = s .pre .1 .1 .1
@@ -129,10 +129,10 @@ module _ (t : ℕ) (s : level-walk-lts.Start (level-calls t) (level-walk-at t) l
     level-is = s .pre .1 .1 .0 .1 a
 
     low : 1 ≤ s .args .level
-    low = subst (λ x. 1 ≤ x) (sym level-is) (stands .lower .low (s .args .axis) inside)
+    low = subst (λ x. 1 ≤ x) (sym level-is) (invariant .lower .low (s .args .axis) inside)
 
     high : s .args .level ≤ level k (s .args .axis)
-    high = subst (λ x. x ≤ level k (s .args .axis)) (sym level-is) (stands .lower .high (s .args .axis) inside)
+    high = subst (λ x. x ≤ level k (s .args .axis)) (sym level-is) (invariant .lower .high (s .args .axis) inside)
 
     high-eight : s .args .level ≤ 8
     high-eight = let h : level k (s .args .axis) ≤ 8 = ready .ceilings .high (s .args .axis) inside in let q : s .args .level ≤ level k (s .args .axis) = high in omega arith
@@ -145,13 +145,13 @@ module _ (t : ℕ) (s : level-walk-lts.Start (level-calls t) (level-walk-at t) l
       at-one : level levels (s .args .axis) ≡ 1
       at-one = sym level-is ∙ level-one
 
-      past-stands : Stands rs k (s .args .axis + 1) (s .args .place) (s .args .rank)
-      past-stands = stands-past ready stands below-eight at-one
+      past-invariant : WalkInvariant rs k (s .args .axis + 1) (s .args .place) (s .args .rank)
+      past-invariant = invariant-past ready invariant below-eight at-one
 
       -- what is left is what the next axis has left
       past-left : walkLeft (s .args .axes) k (s .args .axis + 1) 1 (leftAt rs store (s .args .axis + 1) (s .args .place) (s .args .rank)) ≡ walkLeft (s .args .axes) k (s .args .axis) (s .args .level) Q
       past-left =
-          ap (λ q. walkLeft (s .args .axes) k (s .args .axis + 1) 1 q) (left-past ready stands below-eight at-one)
+          ap (λ q. walkLeft (s .args .axes) k (s .args .axis + 1) 1 q) (left-past ready invariant below-eight at-one)
           ∙ sym (ap (λ l. walkLeft (s .args .axes) k (s .args .axis) l Q) level-one ∙ walk-past (s .args .axes) k (s .args .axis) Q (omega (arith, ready .axes, eight)) a o)
 
     abbrev v : ℤ
@@ -166,7 +166,7 @@ module _ (t : ℕ) (s : level-walk-lts.Start (level-calls t) (level-walk-at t) l
     sum-small : natAbs (s .args .weight *ℤ walkLeft (s .args .axes) k (s .args .axis) (s .args .level) Q) ≤ 2 ^ 62
     sum-small =
         let h : natAbs (s .args .weight *ℤ walkLeft (s .args .axes) k (s .args .axis) (s .args .level) Q) ≤ 2 ^ 40 =
-        level-size (s .args .axes) k (s .args .axis) (s .args .level) (s .args .weight) Q v8 inside a low high (left-range ready stands) room in
+        level-size (s .args .axes) k (s .args .axis) (s .args .level) (s .args .weight) Q v8 inside a low high (left-range ready invariant) room in
         omega arith
 
     -- where a higher level is left
@@ -177,14 +177,14 @@ module _ (t : ℕ) (s : level-walk-lts.Start (level-calls t) (level-walk-at t) l
       abbrev next : ℕ
       next = placeIn rs (forward levels (s .args .axis))
 
-      next-stands : Stands rs k (s .args .axis) next (s .args .rank)
-      next-stands = stands-higher ready stands below-eight below
+      next-invariant : WalkInvariant rs k (s .args .axis) next (s .args .rank)
+      next-invariant = invariant-higher ready invariant below-eight below
 
       next-level : s .args .level + 1 ≡ level (recordAt rs next .levels) (s .args .axis)
-      next-level = ap (λ x. x + 1) level-is ∙ sym (level-higher ready stands below-eight below)
+      next-level = ap (λ x. x + 1) level-is ∙ sym (level-higher ready invariant below-eight below)
 
       next-left : leftAt rs store (s .args .axis) next (s .args .rank) ≡ Q
-      next-left = left-higher ready stands below-eight below
+      next-left = left-higher ready invariant below-eight below
 
 level-walk-mul-top : (t : ℕ) → level-walk-lts.Need-mul-top (level-calls t) (level-walk-at t) level-walk.Post
 level-walk-mul-top t c = omega (arith, below-eight t (c .before .before) (c .if1 .taken))
@@ -203,9 +203,9 @@ level-walk-level-walk-requires t c κs =
     let less : level-left (s .args .axes) (s .args .axis + 1) 1 < t = omega (arith, s .pre .0, high-eight t s a, a) in (
       less,
       (
-        (ready t s, past-stands t s a o),
+        (ready t s, past-invariant t s a o),
         (
-          (omega (arith, a), λ q. sym (stands t s .ones (s .args .axis + 1) (omega arith) (omega (arith, ready t s .axes)))),
+          (omega (arith, a), λ q. sym (invariant t s .ones (s .args .axis + 1) (omega arith) (omega (arith, ready t s .axes)))),
           rw (w-back t s) (room-past (k t s) (s .args .axis) (s .args .weight) (inside t s a) o (room t s)),
         ),
       ),
@@ -243,7 +243,7 @@ level-walk-point-walk-requires t c κs =
 level-walk-link-at-requires : (t : ℕ) → level-walk-lts.Need-link-at-requires (level-calls t) (level-walk-at t) level-walk.Post
 level-walk-link-at-requires t c κs =
     let s = c .before .before .before .before .before .before .before in (
-      omega (arith, place-in (ready t s) (stands t s), length-recordsOf (s .args .cells .now)),
+      omega (arith, place-in (ready t s) (invariant t s), length-recordsOf (s .args .cells .now)),
       omega (arith, below-eight t s (c .before .before .before .before .before .if1 .taken)),
     )
 
@@ -261,7 +261,7 @@ next-is : (t : ℕ) (c : level-walk-lts.After-link-at (level-calls t) (level-wal
 next-is t c =
     let s = c .before .before .before .before .before .before .before .before in
     let a = c .before .before .before .before .before .before .if1 .taken in
-    c .link-at .ensures ∙ link-is (ready t s) (stands t s) (below-eight t s a) (below t s a (c .before .if3 .taken))
+    c .link-at .ensures ∙ link-is (ready t s) (invariant t s) (below-eight t s a) (below t s a (c .before .if3 .taken))
 
 level-walk-level-walk-requires-2 : (t : ℕ) → level-walk-lts.Need-level-walk-requires-2 (level-calls t) (level-walk-at t) level-walk.Post
 level-walk-level-walk-requires-2 t c κs =
@@ -271,7 +271,7 @@ level-walk-level-walk-requires-2 t c κs =
     let less : level-left (s .args .axes) (s .args .axis) (s .args .level + 1) < t = omega (arith, high-eight t s a, s .pre .0) in (
       less,
       (
-        (ready t s, subst (λ p. Stands (rs t s) (k t s) (s .args .axis) p (s .args .rank)) (sym (next-is t c)) (next-stands t s a b)),
+        (ready t s, subst (λ p. WalkInvariant (rs t s) (k t s) (s .args .axis) p (s .args .rank)) (sym (next-is t c)) (next-invariant t s a b)),
         (
           (s .pre .1 .1 .0 .0, λ h. subst (λ p. s .args .level + 1 ≡ level (recordAt (rs t s) p .levels) (s .args .axis)) (sym (next-is t c)) (next-level t s a b)),
           rw (w-back t s) (room t s),
@@ -296,12 +296,12 @@ level-walk-add-result t c =
     sum-fits (c .before .before .before .point-walk .result) (c .level-walk2 .result) _ (sfits-of (c .before .before .before .point-walk .ok)) (sfits-of (c .level-walk2 .ok)) (level-sum t c)
     (sum-small t (c .before .before .before .before .before .before .before .before .before) (c .before .before .before .before .before .before .before .if1 .taken))
 
-level-walk-weighed-reading-requires : (t : ℕ) → level-walk-lts.Need-weighed-reading-requires (level-calls t) (level-walk-at t) level-walk.Post
-level-walk-weighed-reading-requires t c κs =
+level-walk-weighted-reading-requires : (t : ℕ) → level-walk-lts.Need-weighted-reading-requires (level-calls t) (level-walk-at t) level-walk.Post
+level-walk-weighted-reading-requires t c κs =
     let s = c .before .before in
     let e : s .args .axis ≡ s .args .axes = omega (arith, s .pre .1 .1 .0 .0) in (
-      (place-in (ready t s) (stands t s), reading-in (ready t s) (stands t s) e),
-      (rw (w-back t s) (room-alone (s .args .weight) (units (drop (s .args .axis) (k t s))) (room t s)), reading-range (ready t s) (stands t s) e),
+      (place-in (ready t s) (invariant t s), reading-in (ready t s) (invariant t s) e),
+      (rw (w-back t s) (room-alone (s .args .weight) (units (drop (s .args .axis) (k t s))) (room t s)), reading-range (ready t s) (invariant t s) e),
     )
 
 level-walk-returns-2 : (t : ℕ) → level-walk-lts.Need-returns-2 (level-calls t) (level-walk-at t) level-walk.Post
@@ -321,9 +321,9 @@ level-walk-returns-4 : (t : ℕ) → level-walk-lts.Need-returns-4 (level-calls 
 level-walk-returns-4 t c =
     let s = c .before .before .before in
     let e : s .args .axis ≡ s .args .axes = omega (arith, s .pre .1 .1 .0 .0) in
-    back (c .weighed-reading .result) (sfits-of (c .weighed-reading .ok)) ∙ c .weighed-reading .ensures
+    back (c .weighted-reading .result) (sfits-of (c .weighted-reading .ok)) ∙ c .weighted-reading .ensures
     ∙ ap₂ _*ℤ_ (w-back t s)
-    (sym (walk-behind (s .args .axes) (k t s) (s .args .axis) (s .args .level) (Q t s) (omega arith) ∙ ap (λ m. differenceWalk m (Q t s)) (target-ones (ready t s) (stands t s) e) ∙ walk-ones (8 - s .args .axis) (Q t s) ∙ left-one (ready t s) (stands t s) e))
+    (sym (walk-behind (s .args .axes) (k t s) (s .args .axis) (s .args .level) (Q t s) (omega arith) ∙ ap (λ m. differenceWalk m (Q t s)) (target-ones (ready t s) (invariant t s) e) ∙ walk-ones (8 - s .args .axis) (Q t s) ∙ left-one (ready t s) (invariant t s) e))
 
 -- ---- the point walk: what holds at its entry
 
@@ -349,7 +349,7 @@ module _ (t : ℕ) (s : point-walk-lts.Start (point-calls t) (point-walk-at t) p
   pready : Ready (s .args .axes) prs pstore pk
   pready = s .pre .1 .0 .0
 
-  pstands : Stands prs pk (s .args .axis) (s .args .place) (s .args .rank)
+  pstands : WalkInvariant prs pk (s .args .axis) (s .args .place) (s .args .rank)
   pstands = s .pre .1 .0 .1
 
   p-eight : s .args .axis < 8
@@ -386,16 +386,16 @@ module _ (t : ℕ) (s : point-walk-lts.Start (point-calls t) (point-walk-at t) p
   point-in : s .args .point < count
   point-in = s .pre .1 .1 .0 .2
 
-  further : Stands prs pk (s .args .axis + 1) (s .args .place) (s .args .rank * count + s .args .point)
+  further : WalkInvariant prs pk (s .args .axis + 1) (s .args .place) (s .args .rank * count + s .args .point)
   further =
-      subst (λ l. Stands prs pk (s .args .axis + 1) (s .args .place) (s .args .rank * newCount l + s .args .point)) (sym p-level)
-      (stands-further pready pstands p-eight (s .args .point) (subst (λ l. s .args .point < newCount l) p-level point-in))
+      subst (λ l. WalkInvariant prs pk (s .args .axis + 1) (s .args .place) (s .args .rank * newCount l + s .args .point)) (sym p-level)
+      (invariant-further pready pstands p-eight (s .args .point) (subst (λ l. s .args .point < newCount l) p-level point-in))
 
   -- the readings left below the point
   further-left : leftAt prs pstore (s .args .axis + 1) (s .args .place) (s .args .rank * count + s .args .point) ≡ behind P (s .args .level) (s .args .point)
   further-left =
-      sym (behind-left (fetched prs pstore) (take (s .args .axis) plevels) (s .args .rank) (s .args .level) (s .args .point)
-      ∙ ap (λ l. left (fetched prs pstore) l (s .args .rank * count + s .args .point)) (ap (λ x. take (s .args .axis) plevels ++ (x ∷ [])) p-level ∙ sym (take-next pready pstands p-eight)))
+      sym (behind-left (storedReading prs pstore) (take (s .args .axis) plevels) (s .args .rank) (s .args .level) (s .args .point)
+      ∙ ap (λ l. left (storedReading prs pstore) l (s .args .rank * count + s .args .point)) (ap (λ x. take (s .args .axis) plevels ++ (x ∷ [])) p-level ∙ sym (take-next pready pstands p-eight)))
 
   rank-small : s .args .rank * count + s .args .point < length pstore
   rank-small = rank-in pready further
@@ -423,7 +423,7 @@ point-walk-level-walk-requires t c κs =
     let less : level-left (s .args .axes) (s .args .axis + 1) 1 < t = omega (arith, s .pre .0, s .pre .1 .1 .0 .0) in (
       less,
       (
-        (pready t s, subst (λ r. Stands (prs t s) (pk t s) (s .args .axis + 1) (s .args .place) r) (sym (below-is t c)) (further t s)),
+        (pready t s, subst (λ r. WalkInvariant (prs t s) (pk t s) (s .args .axis + 1) (s .args .place) r) (sym (below-is t c)) (further t s)),
         (
           (omega (arith, s .pre .1 .1 .0 .0), λ q. sym (pstands t s .ones (s .args .axis + 1) (omega arith) (omega (arith, pready t s .axes)))),
           rw (p-back t s) (room-below (s .args .weight) (s .args .level) (units (drop (s .args .axis + 1) (pk t s))) (p-low t s) (p-room t s)),
@@ -478,5 +478,5 @@ point-walk-returns-2 t c =
 pub +level-walk+point-walk-spec : {M : Type 1} → statement M
 +level-walk+point-walk-spec =
     close μ-level-walk μ-point-walk
-    (λ t. level-walk-lts.spec (level-calls t) (level-walk-at t) level-walk.Post (level-walk-mul-top t) (level-walk-element-copy-out-top t) (level-walk-add-level-walk t) (level-walk-level-walk-requires t) (level-walk-returns t) (level-walk-difference-weight-requires t) (level-walk-mul-inner t) (level-walk-point-walk-requires t) (level-walk-link-at-requires t) (level-walk-cast-next t) (level-walk-add-level-walk-2 t) (level-walk-level-walk-requires-2 t) (level-walk-add-result t) (level-walk-weighed-reading-requires t) (level-walk-returns-2 t) (level-walk-returns-3 t) (level-walk-returns-4 t))
+    (λ t. level-walk-lts.spec (level-calls t) (level-walk-at t) level-walk.Post (level-walk-mul-top t) (level-walk-element-copy-out-top t) (level-walk-add-level-walk t) (level-walk-level-walk-requires t) (level-walk-returns t) (level-walk-difference-weight-requires t) (level-walk-mul-inner t) (level-walk-point-walk-requires t) (level-walk-link-at-requires t) (level-walk-cast-next t) (level-walk-add-level-walk-2 t) (level-walk-level-walk-requires-2 t) (level-walk-add-result t) (level-walk-weighted-reading-requires t) (level-walk-returns-2 t) (level-walk-returns-3 t) (level-walk-returns-4 t))
     (λ t. point-walk-lts.spec (point-calls t) (point-walk-at t) point-walk.Post (point-walk-new-count-requires t) (point-walk-mul-below t) (point-walk-add-below t) (point-walk-add-level-walk t) (point-walk-level-walk-requires t) (point-walk-add-next t) (point-walk-point-walk-requires t) (point-walk-add-result t) (point-walk-returns t) (point-walk-returns-2 t))

@@ -22,9 +22,9 @@ use Rattle.area.specs.declared.IndexRecord.{IndexRecord}
 use Rattle.area.specs.Records.{recordsOf}
 use Rattle.area.proofs.Records.{length-recordsOf}
 use Rattle.quadrature.specs.Readings.{recordAt}
-use Rattle.quadrature.specs.Ready.{Ready, Stands}
+use Rattle.quadrature.specs.Ready.{Ready, WalkInvariant}
 use Rattle.quadrature.specs.Parts.{left, leftAt, tensorDone}
-use Rattle.quadrature.proofs.Standing.{place-in, target-ones, left-one, reading-in, reading-range}
+use Rattle.quadrature.proofs.WalkInvariants.{place-in, target-ones, left-one, reading-in, reading-range}
 use Rattle.quadrature.proofs.Tensors.{tensor-ones}
 use Rattle.quadrature.proofs.Rounds.{Round, round-start, round-point, round-higher, round-last, round-end, level-eight, count-eight, further, rank-small, next-one, further-left, term-small, sum-next, sum-small}
 use borrow.Fn.Kinds.{In}
@@ -33,7 +33,7 @@ use Rattle.quadrature.proofs.tensor_sum.Reads as tensor-sum
 use Rattle.quadrature.proofs.tensor_sum.Kinds as tensor-sum-kinds
 use Rattle.quadrature.proofs.+tensor_sum.Lts-tensor_sum as tensor-sum-lts
 use Rattle.area.proofs.link_at.Reads as link-at-reads
-use Rattle.quadrature.proofs.weighed_reading.Reads as weighed-reading-reads
+use Rattle.quadrature.proofs.weighted_reading.Reads as weighted-reading-reads
 use Rattle.rule.proofs.new_count.Reads as new-count-reads
 use Rattle.rule.proofs.whole_weight.Reads as whole-weight-reads
 use Rattle.quadrature.proofs.+tensor_sum.{statement}
@@ -52,7 +52,7 @@ tensor-sum-below t =
 
 -- what the calls ask and give
 abbrev calls : ℕ → tensor-sum-lts.Claims
-calls t = (weighed-reading-reads.Asked, weighed-reading-reads.Learnt, new-count-reads.Asked, new-count-reads.Learnt, tensor-sum-below t, tensor-sum.Post, whole-weight-reads.Asked, whole-weight-reads.Learnt, link-at-reads.Asked, link-at-reads.Learnt)
+calls t = (weighted-reading-reads.Asked, weighted-reading-reads.Learnt, new-count-reads.Asked, new-count-reads.Learnt, tensor-sum-below t, tensor-sum.Post, whole-weight-reads.Asked, whole-weight-reads.Learnt, link-at-reads.Asked, link-at-reads.Learnt)
 
 abbrev Inv : tensor-sum-lts.InvT-loop
 Inv axes axis place rank cells store target top total₀ level₀ point₀ at₀ total level point at =
@@ -79,8 +79,8 @@ module _ (t : ℕ) (s : tensor-sum-lts.Start (calls t) (tensor-sum-at t) tensor-
   ready : Ready (s .args .axes) rs store k
   ready = s .pre .1 .0 .0
 
-  stands : Stands rs k (s .args .axis) (s .args .place) (s .args .rank)
-  stands = s .pre .1 .0 .1
+  invariant : WalkInvariant rs k (s .args .axis) (s .args .place) (s .args .rank)
+  invariant = s .pre .1 .0 .1
 
 -- ---- what holds in the loop
 
@@ -98,10 +98,10 @@ module _ (t : ℕ) (i : tensor-sum-lts.In-loop (calls t) (tensor-sum-at t) tenso
   round = i .before .loop .inv
 
   eight-in : i .before .loop .level ≤ 8
-  eight-in = level-eight (ready t start) left-in (stands t start) round (i .loop-test .taken)
+  eight-in = level-eight (ready t start) left-in (invariant t start) round (i .loop-test .taken)
 
   count-in : newCount (i .before .loop .level) ≤ 64
-  count-in = count-eight (ready t start) left-in (stands t start) round (i .loop-test .taken)
+  count-in = count-eight (ready t start) left-in (invariant t start) round (i .loop-test .taken)
 
 -- in the arm where a point is left
 point-in : (t : ℕ) (c : tensor-sum-lts.Then2 (calls t) (tensor-sum-at t) tensor-sum.Post Inv μ)
@@ -120,7 +120,7 @@ rank-fits : (t : ℕ) (c : tensor-sum-lts.Then2 (calls t) (tensor-sum-at t) tens
 rank-fits t c =
     let i = c .before .before in
     let s = start t i in
-    rank-small (ready t s) (left-in t i) (stands t s) (round t i) (i .loop-test .taken) (point-in t c)
+    rank-small (ready t s) (left-in t i) (invariant t s) (round t i) (i .loop-test .taken) (point-in t c)
 
 -- after the call: the rule of the later axes below the point
 abbrev below : (t : ℕ) → tensor-sum-lts.After-tensor-sum (calls t) (tensor-sum-at t) tensor-sum.Post Inv μ → ℤ
@@ -135,7 +135,7 @@ below-ensures t c =
     c .tensor-sum .ensures
     ∙ ap (λ q. tensorSum (drop (s .args .axis + 1) (k t s)) q)
     (ap (λ r. leftAt (rs t s) (store t s) (s .args .axis + 1) (i .before .loop .at) r) (below-is t (c .before))
-    ∙ further-left (ready t s) (left-in t i) (stands t s) (round t i) (i .loop-test .taken) (point-in t (c .before)))
+    ∙ further-left (ready t s) (left-in t i) (invariant t s) (round t i) (i .loop-test .taken) (point-in t (c .before)))
 
 -- after both calls: the product, and the sum
 module _ (t : ℕ) (c : tensor-sum-lts.After-whole-weight (calls t) (tensor-sum-at t) tensor-sum.Post Inv μ) where
@@ -157,24 +157,24 @@ module _ (t : ℕ) (c : tensor-sum-lts.After-whole-weight (calls t) (tensor-sum-
   product-small : natAbs (c .whole-weight .result *ℤ below t (c .before)) ≤ 2 ^ 62
   product-small =
       subst (λ w. natAbs (w *ℤ below t (c .before)) ≤ 2 ^ 62) (sym weight-is)
-      (term-small (ready t entry) (left-in t turn) (stands t entry) (round t turn) (turn .loop-test .taken) (point-in t (c .before .before)))
+      (term-small (ready t entry) (left-in t turn) (invariant t entry) (round t turn) (turn .loop-test .taken) (point-in t (c .before .before)))
 
   total-next : toZ w64 (turn .before .loop .total) +ℤ toZ w64 (ofZ w64 (toZ w64 (ofZ w64 (c .whole-weight .result)) *ℤ toZ w64 (ofZ w64 (c .before .tensor-sum .result)))) ≡ next
   total-next =
       ap (λ x. toZ w64 (turn .before .loop .total) +ℤ x)
       (product-is (c .whole-weight .result) (c .before .tensor-sum .result) (below t (c .before)) (sfits-of (c .whole-weight .ok)) (sfits-of (c .before .tensor-sum .ok)) (below-ensures t (c .before)) product-small
       ∙ ap (λ w. w *ℤ below t (c .before)) weight-is)
-      ∙ sum-next (ready t entry) (left-in t turn) (stands t entry) (round t turn) (turn .loop-test .taken) (point-in t (c .before .before))
+      ∙ sum-next (ready t entry) (left-in t turn) (invariant t entry) (round t turn) (turn .loop-test .taken) (point-in t (c .before .before))
 
   total-small : natAbs next ≤ 2 ^ 62
-  total-small = sum-small (ready t entry) (left-in t turn) (stands t entry) (round t turn) (turn .loop-test .taken) (point-in t (c .before .before))
+  total-small = sum-small (ready t entry) (left-in t turn) (invariant t entry) (round t turn) (turn .loop-test .taken) (point-in t (c .before .before))
 
-tensor-sum-weighed-reading-requires : (t : ℕ) → tensor-sum-lts.Need-weighed-reading-requires (calls t) (tensor-sum-at t) tensor-sum.Post Inv μ
-tensor-sum-weighed-reading-requires t c κs =
+tensor-sum-weighted-reading-requires : (t : ℕ) → tensor-sum-lts.Need-weighted-reading-requires (calls t) (tensor-sum-at t) tensor-sum.Post Inv μ
+tensor-sum-weighted-reading-requires t c κs =
     let s = c .before .before in
     let e : s .args .axis ≡ s .args .axes = omega (arith, s .pre .1 .1 .0) in (
-      (place-in (ready t s) (stands t s), reading-in (ready t s) (stands t s) e),
-      (omega arith, reading-range (ready t s) (stands t s) e),
+      (place-in (ready t s) (invariant t s), reading-in (ready t s) (invariant t s) e),
+      (omega arith, reading-range (ready t s) (invariant t s) e),
     )
 
 tensor-sum-returns : (t : ℕ) → tensor-sum-lts.Need-returns (calls t) (tensor-sum-at t) tensor-sum.Post Inv μ
@@ -182,8 +182,8 @@ tensor-sum-returns t c =
     let s = c .before .before .before in
     let e : s .args .axis ≡ s .args .axes = omega (arith, s .pre .1 .1 .0) in
     let r = getD (store t s) (recordAt (rs t s) (s .args .place) .first + s .args .rank) (pos 0) in
-    back (c .weighed-reading .result) (sfits-of (c .weighed-reading .ok)) ∙ c .weighed-reading .ensures ∙ one-*ℤ r
-    ∙ sym (ap (λ m. tensorSum m (Q t s)) (target-ones (ready t s) (stands t s) e) ∙ tensor-ones (8 - s .args .axis) (Q t s) ∙ left-one (ready t s) (stands t s) e)
+    back (c .weighted-reading .result) (sfits-of (c .weighted-reading .ok)) ∙ c .weighted-reading .ensures ∙ one-*ℤ r
+    ∙ sym (ap (λ m. tensorSum m (Q t s)) (target-ones (ready t s) (invariant t s) e) ∙ tensor-ones (8 - s .args .axis) (Q t s) ∙ left-one (ready t s) (invariant t s) e)
 
 tensor-sum-mul-top : (t : ℕ) → tensor-sum-lts.Need-mul-top (calls t) (tensor-sum-at t) tensor-sum.Post Inv μ
 tensor-sum-mul-top t c = omega (arith, ready t (c .before .before) .axes)
@@ -194,10 +194,10 @@ tensor-sum-array-read-top t c = omega (arith, ready t (c .before .before) .axes)
 tensor-sum-loop-holds : (t : ℕ) → tensor-sum-lts.Need-loop-holds (calls t) (tensor-sum-at t) tensor-sum.Post Inv μ
 tensor-sum-loop-holds t c =
     let s = c .before .before in
-    round-start (ready t s) (c .if1 .left) (stands t s) (s .pre .1 .1 .1 (c .if1 .left)) refl refl
+    round-start (ready t s) (c .if1 .left) (invariant t s) (s .pre .1 .1 .1 (c .if1 .left)) refl refl
 
 tensor-sum-new-count-requires : (t : ℕ) → tensor-sum-lts.Need-new-count-requires (calls t) (tensor-sum-at t) tensor-sum.Post Inv μ
-tensor-sum-new-count-requires t c κs = level-eight (ready t (start t c)) (left-in t c) (stands t (start t c)) (round t c) (c .loop-test .taken)
+tensor-sum-new-count-requires t c κs = level-eight (ready t (start t c)) (left-in t c) (invariant t (start t c)) (round t c) (c .loop-test .taken)
 
 tensor-sum-add-tensor-sum : (t : ℕ) → tensor-sum-lts.Need-add-tensor-sum (calls t) (tensor-sum-at t) tensor-sum.Post Inv μ
 tensor-sum-add-tensor-sum t c = omega (arith, ready t (start t (c .before .before)) .axes, left-in t (c .before .before))
@@ -218,10 +218,10 @@ tensor-sum-tensor-sum-requires t c κs =
       (
         (
           ready t s,
-          subst (λ r. Stands (rs t s) (k t s) (s .args .axis + 1) (i .before .loop .at) r) (sym (below-is t c))
-              (further (ready t s) a (stands t s) (round t i) (i .loop-test .taken) (point-in t c)),
+          subst (λ r. WalkInvariant (rs t s) (k t s) (s .args .axis + 1) (i .before .loop .at) r) (sym (below-is t c))
+              (further (ready t s) a (invariant t s) (round t i) (i .loop-test .taken) (point-in t c)),
         ),
-        (omega arith, next-one (ready t s) a (stands t s) (round t i) (i .loop-test .taken) (point-in t c)),
+        (omega arith, next-one (ready t s) a (invariant t s) (round t i) (i .loop-test .taken) (point-in t c)),
       ),
     )
 
@@ -245,14 +245,14 @@ tensor-sum-loop-again : (t : ℕ) → tensor-sum-lts.Need-loop-again (calls t) (
 tensor-sum-loop-again t c =
     let i = c .before .before .before .before in
     let s = start t i in
-    round-point (ready t s) (left-in t i) (stands t s) (round t i) (i .loop-test .taken) (point-in t (c .before .before))
+    round-point (ready t s) (left-in t i) (invariant t s) (round t i) (i .loop-test .taken) (point-in t (c .before .before))
     (ap (λ x. toZ w64 (ofZ w64 x)) (total-next t c) ∙ back-small _ (total-small t c))
 
 tensor-sum-link-at-requires : (t : ℕ) → tensor-sum-lts.Need-link-at-requires (calls t) (tensor-sum-at t) tensor-sum.Post Inv μ
 tensor-sum-link-at-requires t c κs =
     let i = c .before .before .before in
     let s = start t i in (
-      omega (arith, place-in (ready t s) (round t i .on (i .loop-test .taken) .stands), length-recordsOf (s .args .cells .now)),
+      omega (arith, place-in (ready t s) (round t i .on (i .loop-test .taken) .invariant), length-recordsOf (s .args .cells .now)),
       omega (arith, ready t s .axes, left-in t i),
     )
 
@@ -273,13 +273,13 @@ tensor-sum-loop-again-2 t c =
     let a = left-in t i in
     let full = subst (λ n. n ≤ i .before .loop .point) (c .before .before .new-count .ensures) (c .before .if2 .left) in
     ⊎-elim
-    (λ w. round-higher (ready t s) a (stands t s) (round t i) up full (w .0 .taken) (w .2 ∙ w .1 .ensures))
-    (λ w. round-last (ready t s) a (stands t s) (round t i) up full (w .0 .left)) (c .if3 .came)
+    (λ w. round-higher (ready t s) a (invariant t s) (round t i) up full (w .0 .taken) (w .2 ∙ w .1 .ensures))
+    (λ w. round-last (ready t s) a (invariant t s) (round t i) up full (w .0 .left)) (c .if3 .came)
 
 tensor-sum-returns-2 : (t : ℕ) → tensor-sum-lts.Need-returns-2 (calls t) (tensor-sum-at t) tensor-sum.Post Inv μ
 tensor-sum-returns-2 t c =
     let s = c .before .before .before .before in
-    round-end (ready t s) (c .before .before .if1 .left) (stands t s) (c .before .loop .inv) (c .loop-test .left)
+    round-end (ready t s) (c .before .before .if1 .left) (invariant t s) (c .before .loop .inv) (c .loop-test .left)
 
 pub +tensor-sum-spec : {M : Type 1} → statement M
 +tensor-sum-spec = close μ-tensor-sum λ t. tensor-sum-lts.spec (calls t)
@@ -287,7 +287,7 @@ pub +tensor-sum-spec : {M : Type 1} → statement M
     tensor-sum.Post
     Inv
     μ
-    (tensor-sum-weighed-reading-requires t)
+    (tensor-sum-weighted-reading-requires t)
     (tensor-sum-returns t)
     (tensor-sum-mul-top t)
     (tensor-sum-array-read-top t)

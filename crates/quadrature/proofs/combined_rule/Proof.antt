@@ -13,7 +13,7 @@ use Rattle.grid.specs.Tensor.{tensorRule}
 use Rattle.grid.specs.Coefficient.{coefficient}
 use Rattle.area.specs.declared.IndexRecord.{IndexRecord}
 use Rattle.area.specs.Records.{recordsOf, heldIn}
-use Rattle.quadrature.specs.Readings.{recordAt, fetched}
+use Rattle.quadrature.specs.Readings.{recordAt, storedReading}
 use Rattle.quadrature.specs.Ready.{Ready}
 use Rattle.quadrature.specs.Linked.{deliveredIn}
 use Rattle.quadrature.specs.Parts.{combinedRule}
@@ -28,7 +28,7 @@ module _ (hs rs : List IndexRecord) (store : List ℤ) (p : ℕ) where
   wanted-zero e = rw (lt-leb 1 (recordAt rs p .state) (omega arith))
 
   delivered-is : 1 ≤ recordAt rs p .state
-      → combinedRule hs rs store p ≡ coefficient (deliveredIn hs) (recordAt rs p .levels) *ℤ tensorRule (recordAt rs p .levels) (fetched rs store)
+      → combinedRule hs rs store p ≡ coefficient (deliveredIn hs) (recordAt rs p .levels) *ℤ tensorRule (recordAt rs p .levels) (storedReading rs store)
   unfolding combinedRule
   delivered-is h = rw (le-leb 1 (recordAt rs p .state) h)
 
@@ -74,7 +74,7 @@ returns-2 c =
     let own = held-record cells (s .args .held) (s .pre .0 .1) (s .args .place) (s .pre .0 .2) in (
       is
           ∙ ap₂ _*ℤ_ (c .coefficient .ensures .0 ∙ ap (λ (r : IndexRecord). coefficient (deliveredIn hs) (r .levels)) own)
-          (c .before .tensor-rule .ensures .0 ∙ ap (λ k. tensorRule k (fetched rs (now (s .args .store)))) (c .before .before .levels-at .ensures))
+          (c .before .tensor-rule .ensures .0 ∙ ap (λ k. tensorRule k (storedReading rs (now (s .args .store)))) (c .before .before .levels-at .ensures))
           ∙ sym (delivered-is hs rs (now (s .args .store)) (s .args .place) (omega (arith, c .before .before .before .before .state-at .ensures, c .before .before .before .if1 .left))),
       omega (arith, ap natAbs is, small c),
     )

@@ -12,7 +12,7 @@ use Rattle.grid.specs.Difference.{scaledDifference}
 use Rattle.area.specs.declared.IndexRecord.{IndexRecord}
 use Rattle.area.specs.Records.{recordsOf}
 use Rattle.area.proofs.Records.{length-recordsOf}
-use Rattle.quadrature.specs.Readings.{recordAt, fetched}
+use Rattle.quadrature.specs.Readings.{recordAt, storedReading}
 use Rattle.quadrature.specs.Ready.{Ready}
 use Rattle.quadrature.specs.Parts.{deliveredDifference}
 use Rattle.quadrature.proofs.delivered_difference.Statement.{statement}
@@ -23,7 +23,7 @@ module _ (rs : List IndexRecord) (store : List ℤ) (p : ℕ) where
   unfolding deliveredDifference
   wanted-zero e = rw (lt-leb 1 (recordAt rs p .state) (omega arith))
 
-  delivered-is : 1 ≤ recordAt rs p .state → deliveredDifference rs store p ≡ scaledDifference (recordAt rs p .levels) (fetched rs store)
+  delivered-is : 1 ≤ recordAt rs p .state → deliveredDifference rs store p ≡ scaledDifference (recordAt rs p .levels) (storedReading rs store)
   unfolding deliveredDifference
   delivered-is h = rw (le-leb 1 (recordAt rs p .state) h)
 
@@ -49,7 +49,7 @@ returns-2 c =
     let s = c .before .before .before .before .before in
     let rs = recordsOf (now (s .args .cells)) in
     let is = back (c .scaled-difference .result) (sfits-of (c .scaled-difference .ok)) in (
-      is ∙ c .scaled-difference .ensures .0 ∙ ap (λ k. scaledDifference k (fetched rs (now (s .args .store)))) (c .before .levels-at .ensures)
+      is ∙ c .scaled-difference .ensures .0 ∙ ap (λ k. scaledDifference k (storedReading rs (now (s .args .store)))) (c .before .levels-at .ensures)
           ∙ sym (delivered-is rs (now (s .args .store)) (s .args .place) (omega (arith, c .before .before .before .state-at .ensures, c .before .before .if1 .left))),
       omega (arith, ap natAbs is, c .scaled-difference .ensures .1),
     )

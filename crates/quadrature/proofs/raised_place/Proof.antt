@@ -9,10 +9,10 @@ use native.Mathlib.Omega.{arith}
 use denote.Ref.{now}
 use lib.ListN.{length, getD}
 use Rattle.grid.specs.Coefficient.{raisedOn, marks}
-use Rattle.grid.proofs.Turns.{raising, raising-start, raising-out}
+use Rattle.grid.proofs.LoopSteps.{raising, raising-start, raising-out}
 use Rattle.area.specs.Records.{recordsOf, heldIn}
-use Rattle.area.specs.declared.Found.the-variants.{At}
-use Rattle.area.specs.Lookup.{foundIn}
+use Rattle.area.specs.declared.LookupResult.the-variants.{At}
+use Rattle.area.specs.Lookup.{lookupIn}
 use Rattle.quadrature.specs.Readings.{recordAt, placeIn}
 use Rattle.quadrature.proofs.Raised.{step-held, step-none, raising-end, found-place}
 use Rattle.quadrature.proofs.Held.{held-length, held-record}
@@ -56,7 +56,7 @@ returns c =
     let rs = heldIn cells (s .args .held) in
     let n = held-length cells (s .args .held) (s .pre .1) in
     let e : getD (recordAt rs (l .at) .links) (l .axis) 0 ≡ c .before .link-at .result = link-held cells (s .args .held) (l .at) (l .axis) (c .before .link-at .result) (s .pre .1) (l .inv .1) (c .before .link-at .ensures) in
-    sym (ap (foundIn rs) (l .inv .2)
+    sym (ap (lookupIn rs) (l .inv .2)
     ∙ step-none (s .pre .0) (l .at) (omega arith) (s .args .mask) (l .axis) (omega (arith, s .pre .0 .axes)) (c .before .before .if1 .taken) (c .before .link-at .result) e (omega (arith, c .if2 .taken)))
 
 add-axis : tie.Need-add-axis Inv-loop μ-loop
@@ -98,7 +98,7 @@ returns-2 c =
     let e : raisedOn (recordAt rs (s .args .place) .levels) (marks 8 (s .args .mask)) ≡ lv =
     l .inv .2 ∙ ap (λ a. raising lv (s .args .mask) a) (omega arith) ∙ raising-end lv (s .args .mask) (s .args .axes) (s .pre .3) in
     let own : placeIn rs lv ≡ l .at = s .pre .0 .own (l .at) (omega arith) in
-    sym (ap (foundIn rs) e ∙ found-place rs lv (s .pre .0 .few) (omega arith) ∙ ap At own)
+    sym (ap (lookupIn rs) e ∙ found-place rs lv (s .pre .0 .few) (omega arith) ∙ ap At own)
 
 pub raised-place-spec : {M : Type 1} → statement M
 raised-place-spec =

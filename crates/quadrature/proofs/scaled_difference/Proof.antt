@@ -14,11 +14,11 @@ use Rattle.grid.proofs.Differences.{difference-size}
 use Rattle.grid.proofs.Levels.{units-small}
 use Rattle.grid.proofs.Rules.{difference-walk}
 use Rattle.area.specs.declared.IndexRecord.{IndexRecord}
-use Rattle.quadrature.specs.Readings.{fetched}
+use Rattle.quadrature.specs.Readings.{storedReading}
 use Rattle.quadrature.specs.Ready.{Ready}
 use Rattle.quadrature.specs.Parts.{leftAt, walkLeft}
 use Rattle.quadrature.proofs.Shifts.{left-all}
-use Rattle.quadrature.proofs.Standing.{stands-start, first-level}
+use Rattle.quadrature.proofs.WalkInvariants.{invariant-start, first-level}
 use Rattle.quadrature.proofs.Walks.{walk-all}
 use Rattle.quadrature.proofs.scaled_difference.Statement.{statement}
 use Rattle.quadrature.proofs.scaled_difference.Tie as tie
@@ -31,20 +31,20 @@ module _ {d : ℕ} {rs : List IndexRecord} {s : List ℤ} {k : List ℕ} (ready 
   room-start = omega (arith, pow-mono {i = units k} {j = 20} units-in)
 
   -- the walk from the root gives the difference in the units of k
-  walk-is : (x : ℤ) → x ≡ pos 1 *ℤ walkLeft d k 0 1 (leftAt rs s 0 0 0) → pos (2 ^ (20 - units k)) *ℤ x ≡ scaledDifference k (fetched rs s)
+  walk-is : (x : ℤ) → x ≡ pos 1 *ℤ walkLeft d k 0 1 (leftAt rs s 0 0 0) → pos (2 ^ (20 - units k)) *ℤ x ≡ scaledDifference k (storedReading rs s)
   unfolding scaledDifference
   walk-is x e =
       ap (λ y. pos (2 ^ (20 - units k)) *ℤ y)
       (e ∙ one-*ℤ (walkLeft d k 0 1 (leftAt rs s 0 0 0)) ∙ walk-all d k 0 (leftAt rs s 0 0 0) (omega (arith, ready .axes, ready .eight))
-      ∙ ap (differenceWalk k) (left-all (fetched rs s)) ∙ sym (difference-walk k (fetched rs s)))
+      ∙ ap (differenceWalk k) (left-all (storedReading rs s)) ∙ sym (difference-walk k (storedReading rs s)))
 
-  small : natAbs (scaledDifference k (fetched rs s)) ≤ 2 ^ 40
-  small = difference-size k (fetched rs s) (ready .eight) (ready .ceilings) (ready .range)
+  small : natAbs (scaledDifference k (storedReading rs s)) ≤ 2 ^ 40
+  small = difference-size k (storedReading rs s) (ready .eight) (ready .ceilings) (ready .range)
 
 level-walk-requires : tie.Need-level-walk-requires
 level-walk-requires c κs =
     let ready = c .before .before .pre in
-    ((ready, stands-start ready), ((omega arith, λ h. sym (first-level ready)), room-start ready))
+    ((ready, invariant-start ready), ((omega arith, λ h. sym (first-level ready)), room-start ready))
 
 scaled-requires : tie.Need-scaled-requires
 scaled-requires c κs =

@@ -10,9 +10,9 @@ use lib.ListN.{length}
 use Rattle.sums.proofs.Words.{back}
 use Rattle.grid.specs.Coefficient.{sign, raisedOn, marks}
 use Rattle.area.specs.declared.IndexRecord.{IndexRecord}
-use Rattle.area.specs.declared.Found.the-variants.{At, Nothing}
+use Rattle.area.specs.declared.LookupResult.the-variants.{At, NotFound}
 use Rattle.area.specs.Records.{recordsOf, heldIn}
-use Rattle.area.specs.Lookup.{foundIn}
+use Rattle.area.specs.Lookup.{lookupIn}
 use Rattle.quadrature.specs.Readings.{recordAt, placeIn}
 use Rattle.quadrature.specs.Linked.{subsetTerm, Linked}
 use Rattle.quadrature.proofs.Raised.{found-at, found-none}
@@ -31,18 +31,18 @@ module _ (axes : ℕ) (cells : List ℕ) (held place mask : ℕ) (linked : Linke
   abbrev raised : List ℕ
   raised = raisedOn levels (marks 8 mask)
 
-  at-held : (q : ℕ) → foundIn rs raised ≡ At q → q < held
+  at-held : (q : ℕ) → lookupIn rs raised ≡ At q → q < held
   at-held q e = omega (arith, found-at rs raised (linked .few) q e .1, held-length cells held room)
 
   -- the record that was found, as the cells hold it
-  state-is : (q : ℕ) → foundIn rs raised ≡ At q → recordAt rs (placeIn rs raised) .state ≡ recordAt (recordsOf cells) q .state
+  state-is : (q : ℕ) → lookupIn rs raised ≡ At q → recordAt rs (placeIn rs raised) .state ≡ recordAt (recordsOf cells) q .state
   state-is q e = ap (λ p. recordAt rs p .state) (found-at rs raised (linked .few) q e .0) ∙ ap (λ (r : IndexRecord). r .state) (held-record cells held room q (at-held q e))
 
-  wanted-term : (q : ℕ) → foundIn rs raised ≡ At q → recordAt (recordsOf cells) q .state ≡ 0 → subsetTerm rs levels mask ≡ pos 0
+  wanted-term : (q : ℕ) → lookupIn rs raised ≡ At q → recordAt (recordsOf cells) q .state ≡ 0 → subsetTerm rs levels mask ≡ pos 0
   unfolding subsetTerm
   wanted-term q e s = rw (out-wanted linked raised (state-is q e ∙ s))
 
-  delivered-term : (q : ℕ) → foundIn rs raised ≡ At q → 1 ≤ recordAt (recordsOf cells) q .state → subsetTerm rs levels mask ≡ sign (marks 8 mask)
+  delivered-term : (q : ℕ) → lookupIn rs raised ≡ At q → 1 ≤ recordAt (recordsOf cells) q .state → subsetTerm rs levels mask ≡ sign (marks 8 mask)
   unfolding subsetTerm
   delivered-term q e s =
       rw
@@ -50,7 +50,7 @@ module _ (axes : ℕ) (cells : List ℕ) (held place mask : ℕ) (linked : Linke
       (omega (arith, found-at rs raised (linked .few) q e .0, found-at rs raised (linked .few) q e .1))
       (omega (arith, state-is q e)))
 
-  absent-term : foundIn rs raised ≡ Nothing → subsetTerm rs levels mask ≡ pos 0
+  absent-term : lookupIn rs raised ≡ NotFound → subsetTerm rs levels mask ≡ pos 0
   unfolding subsetTerm
   absent-term e = rw (out-absent linked raised (found-none rs raised (linked .few) e))
 

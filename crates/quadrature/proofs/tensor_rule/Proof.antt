@@ -13,11 +13,11 @@ use Rattle.grid.specs.Tensor.{tensorSum, tensorRule}
 use Rattle.grid.proofs.Differences.{tensor-size}
 use Rattle.grid.proofs.Levels.{units-small}
 use Rattle.area.specs.declared.IndexRecord.{IndexRecord}
-use Rattle.quadrature.specs.Readings.{fetched}
+use Rattle.quadrature.specs.Readings.{storedReading}
 use Rattle.quadrature.specs.Ready.{Ready}
 use Rattle.quadrature.specs.Parts.{leftAt}
 use Rattle.quadrature.proofs.Shifts.{left-all}
-use Rattle.quadrature.proofs.Standing.{stands-start, first-level}
+use Rattle.quadrature.proofs.WalkInvariants.{invariant-start, first-level}
 use Rattle.quadrature.proofs.tensor_rule.Statement.{statement}
 use Rattle.quadrature.proofs.tensor_rule.Tie as tie
 
@@ -26,17 +26,17 @@ module _ {d : ℕ} {rs : List IndexRecord} {s : List ℤ} {k : List ℕ} (ready 
   units-in = units-small k (ready .eight) (ready .ceilings)
 
   -- the sum from the root gives the rule in the units of k
-  rule-is : (x : ℤ) → x ≡ tensorSum (drop 0 k) (leftAt rs s 0 0 0) → pos (2 ^ (20 - units k)) *ℤ x ≡ tensorRule k (fetched rs s)
+  rule-is : (x : ℤ) → x ≡ tensorSum (drop 0 k) (leftAt rs s 0 0 0) → pos (2 ^ (20 - units k)) *ℤ x ≡ tensorRule k (storedReading rs s)
   unfolding tensorRule
-  rule-is x e = ap (λ y. pos (2 ^ (20 - units k)) *ℤ y) (e ∙ ap (tensorSum k) (left-all (fetched rs s)))
+  rule-is x e = ap (λ y. pos (2 ^ (20 - units k)) *ℤ y) (e ∙ ap (tensorSum k) (left-all (storedReading rs s)))
 
-  small : natAbs (tensorRule k (fetched rs s)) ≤ 2 ^ 40
-  small = tensor-size k (fetched rs s) (ready .eight) (ready .ceilings) (ready .range)
+  small : natAbs (tensorRule k (storedReading rs s)) ≤ 2 ^ 40
+  small = tensor-size k (storedReading rs s) (ready .eight) (ready .ceilings) (ready .range)
 
 tensor-sum-requires : tie.Need-tensor-sum-requires
 tensor-sum-requires c κs =
     let ready = c .before .pre in
-    ((ready, stands-start ready), (omega arith, λ h. first-level ready))
+    ((ready, invariant-start ready), (omega arith, λ h. first-level ready))
 
 scaled-requires : tie.Need-scaled-requires
 scaled-requires c κs =

@@ -9,7 +9,7 @@ use lib.ListN.{length, drop}
 use Rattle.rule.specs.Rules.{unit}
 use Rattle.grid.specs.Index.{level}
 use Rattle.grid.specs.Difference.{units}
-use Rattle.grid.proofs.Turns.{axis-left, none-left}
+use Rattle.grid.proofs.LoopSteps.{axis-left, none-left}
 use Rattle.quadrature.proofs.unit_sum.Statement.{statement}
 use Rattle.quadrature.proofs.unit_sum.Tie as tie
 

@@ -1,15 +1,15 @@
 -- `records::capped` meets its contract. Assumes nothing.
 use borrow.Author.Tests.{lt-ltb, le-ltb}
-use Rattle.records.specs.Lent.{lesser}
+use Rattle.records.specs.Lent.{min}
 use Rattle.records.proofs.capped.Statement.{statement}
 use Rattle.records.proofs.capped.Tie as tie
 
 returns : tie.Need-returns
-unfolding lesser
+unfolding min
 returns c = rw (lt-ltb (c .before .args .count) 512 (c .if1 .taken))
 
 returns-2 : tie.Need-returns-2
-unfolding lesser
+unfolding min
 returns-2 c = rw (le-ltb (c .before .args .count) 512 (c .if1 .left))
 
 pub capped-spec : {M : Type 1} → statement M

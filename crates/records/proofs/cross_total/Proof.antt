@@ -21,11 +21,11 @@ use denote.Triple.Statement.{Triple}
 use denote.Triple.Entry.{Args}
 use denote.Triple.Spec.{Meets, tripleOf}
 use denote.Triple.Table.{entered, cited}
-use Rattle.calls.specs.Replies.{totalledOf}
+use Rattle.calls.specs.Replies.{replyOfTotal}
 use Rattle.calls.specs.Table as table
 use Rattle.calls.specs.Calls.{callOn}
-use Rattle.calls.proofs.Totalled as P
-use Rattle.calls.proofs.Totalled.Laws as P′
+use Rattle.calls.proofs.TotalAnswer as P
+use Rattle.calls.proofs.TotalAnswer.Laws as P′
 use Rattle.records.specs.Lent.{areaOn}
 use Rattle.records.proofs.Lent.{front-answer}
 use Rattle.records.proofs.Flattening.{Flatten}
@@ -46,7 +46,7 @@ abbrev Q : RattleType
 Q = P.the-row
 
 abbrev Says : Saying Q
-Says r j rs s = table.answer (totalledOf r) ≡ callOn (areaOn j rs s) table.crossTotal .answer
+Says r j rs s = table.answer (replyOfTotal r) ≡ callOn (areaOn j rs s) table.crossTotal .answer
 
 on-front : OnFront Q Says
 on-front r j rs s e = e ∙ front-answer j rs s table.crossTotal

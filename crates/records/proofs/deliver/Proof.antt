@@ -47,14 +47,14 @@ use Rattle.area.specs.declared.JobRecord.{JobRecord}
 use Rattle.area.specs.Records.{recordsOf}
 use Rattle.area.proofs.JobRecord as J
 use Rattle.area.proofs.JobRecord.Laws as J′
-use Rattle.calls.specs.declared.Answered.{Answered}
+use Rattle.calls.specs.declared.CallOutput.{CallOutput}
 use Rattle.calls.specs.Table as table
 use Rattle.calls.specs.Calls.{callOn}
-use Rattle.calls.proofs.Answered as N
-use Rattle.calls.proofs.Answered.Laws as N′
+use Rattle.calls.proofs.CallOutput as N
+use Rattle.calls.proofs.CallOutput.Laws as N′
 use Rattle.records.specs.declared.Flat.{Flat}
-use Rattle.records.specs.declared.FlatCalled.{FlatCalled}
-use Rattle.records.specs.Lent.{areaOn, calledOn, over, front}
+use Rattle.records.specs.declared.FlatOutput.{FlatOutput}
+use Rattle.records.specs.Lent.{areaOn, callResultOn, over, front}
 use Rattle.records.proofs.Shared.{LentShared, lends-shared, shared-back}
 use Rattle.records.proofs.Lent.{front-leaves}
 use Rattle.records.proofs.Words.{held-back, F, machF}
@@ -62,8 +62,8 @@ use Rattle.records.proofs.Flattening.{R, JR, machJ, Flattens, small, Fl
 use Rattle.records.proofs.Writing.{D, Q, machQ, Back, Lent, to-flatten, goes-flatten, to-back, goes-back}
 use Rattle.records.proofs.Flat as U
 use Rattle.records.proofs.Flat.Laws as U′
-use Rattle.records.proofs.FlatCalled as K
-use Rattle.records.proofs.FlatCalled.Laws as K′
+use Rattle.records.proofs.FlatOutput as K
+use Rattle.records.proofs.FlatOutput.Laws as K′
 use Rattle.records.proofs.flatten as flatten
 use Rattle.records.proofs.flatten.Symbol as flatten-def
 use Rattle.records.proofs.flatten.Symbol.{name as #records·flatten}
@@ -126,14 +126,14 @@ module _ {M : Type 1} (𝓤 : URA M) (H : Heap 𝓤) (A : Atoms 𝓤) (W : Given
   Post = walkOf 𝓤 H A call.ended stayed (call.clauses 𝓤 H A mem run) .post (((κ₀, (κ₁, (κ₂, tt))), (q₀, (q₁, (q₂, tt))), tt, a, at), tt)
 
   -- what the contract says
-  abbrev Says : Answered → List IndexRecord → List ℤ → Type 0
-  Says r l k = calledOn r l k ≡ callOn (areaOn j ys (y .now)) (table.deliver (w .now) i)
+  abbrev Says : CallOutput → List IndexRecord → List ℤ → Type 0
+  Says r l k = callResultOn r l k ≡ callOn (areaOn j ys (y .now)) (table.deliver (w .now) i)
 
   -- what the contract of the call on cells says
-  abbrev SaysFlat : FlatCalled → Flat → List ℤ → Type 0
-  SaysFlat d f k = calledOn (d .answer) (front (f .count) (d .words)) k ≡ callOn (areaOn j (front (f .count) (f .words)) (y .now)) (table.deliver (w .now) i)
+  abbrev SaysFlat : FlatOutput → Flat → List ℤ → Type 0
+  SaysFlat d f k = callResultOn (d .answer) (front (f .count) (d .words)) k ≡ callOn (areaOn j (front (f .count) (f .words)) (y .now)) (table.deliver (w .now) i)
 
-  exits : (r : Answered) (l : List IndexRecord) (k : List ℤ) → Says r l k → Is Q r (machQ r ∷ []) → length l ≡ length ys → length k ≡ length (y .now)
+  exits : (r : CallOutput) (l : List IndexRecord) (k : List ℤ) → Says r l k → Is Q r (machQ r ∷ []) → length l ≡ length ys → length k ≡ length (y .now)
       → ent 𝓤 (⋆ 𝓤 H A ((‵ (flft κ₁ q₁) ⊛ ‵ ftrue) ∷ (‵ (flft κ₀ q₀) ⊛ ‵ (flft κ₂ q₂) ⊛ ‵ ftrue) ∷ ‵ (finally R γ l) ∷ ‵ (finally i32 (y .name) k) ∷ ‵ Ownw ∷ [])) (Post (machQ r))
   exits r l k e r-is same same′ =
       qed W ((‵ (flft κ₁ q₁) ⊛ ‵ ftrue) ∷ (‵ (flft κ₀ q₀) ⊛ ‵ (flft κ₂ q₂) ⊛ ‵ ftrue) ∷ ‵ (finally R γ l) ∷ ‵ (finally i32 (y .name) k) ∷ ‵ Ownw ∷ []) ∵
@@ -157,7 +157,7 @@ module _ {M : Type 1} (𝓤 : URA M) (H : Heap 𝓤) (A : Atoms 𝓤) (W : Given
       nothing ! $ move ! (2 ∷ 0 ∷ []) $ fjoin ! $ owned ! F (Is F) (LL.makes U.the-type U′.the-plain 𝓤 H A) f _ f-is $ fjoin ! $ owned ! u32 (Is u32) (uint-makes 𝓤 H A W w32) i _ (refl, i-fits) $ fjoin ! $ move ! (1 ∷ 0 ∷ []) $ fjoin ! $ owned ! JR (Is JR) (LL.makes J.the-type J′.the-plain 𝓤 H A) j _ j-is $ fjoin ! $ done !
 
   -- the call on the front, with its records put back, is the call on all
-  answered : (f : Flat) (d : FlatCalled) (l : List IndexRecord) (k : List ℤ) → Flattens f ys → SaysFlat d f k → l ≡ over (f .count) (recordsOf (d .words)) ys → Says (d .answer) l k
+  answered : (f : Flat) (d : FlatOutput) (l : List IndexRecord) (k : List ℤ) → Flattens f ys → SaysFlat d f k → l ≡ over (f .count) (recordsOf (d .words)) ys → Says (d .answer) l k
   answered f d l k e called put =
       front-leaves j ys (y .now) (table.deliver (w .now) i) (d .answer) (d .words) k l (f .count) (e .0) (called ∙ ap (λ (z : List IndexRecord). callOn (areaOn j z (y .now)) (table.deliver (w .now) i)) (e .1)) put
 
@@ -191,7 +191,7 @@ module _ {M : Type 1} (𝓤 : URA M) (H : Heap 𝓤) (A : Atoms 𝓤) (W : Given
         assigns ! (agg ! (and-then ! (load ! (from ! (stop !)) (look ! 11 refl)) (and-then ! (load ! (from ! (fld ! refl (stop !))) (look-in ! 21 (sub ! 1 refl (whole !)))) (no-more !)))) (from ! (stop !)) (init ! 9 refl (tt, (tt, (record { fits = roomy .0 }, tt)))) $
         move ! (33 ∷ 34 ∷ []) $ join ! $ move ! (34 ∷ 35 ∷ []) $ join ! $ move ! (1 ∷ 0 ∷ []) $ use2 W (raw (OnCells 𝓤 H A mem run .pre (to-flat f))) (goes-flat f f-is (small f ys e)) $
         calls-at ! fm (OnCells 𝓤 H A mem run) known-flat (to-flat f) (and-then ! (load ! (from ! (stop !)) (look ! 30 refl)) (and-then ! (load ! (from ! (stop !)) (look ! 28 refl)) (and-then ! (load ! (from ! (stop !)) (look ! 26 refl)) (and-then ! (load ! (from ! (stop !)) (look ! 20 refl)) (and-then ! (load ! (from ! (stop !)) (look ! 10 refl)) (no-more !)))))) (λ v.
-        use1 W (later (some (λ (d : FlatCalled). ((‵ (flft κ₀ q₀) ⊛ ‵ (flft κ₂ q₂) ⊛ ‵ ftrue) ⊛ ‵ (D .own d (v ∷ []))) ⊛ raw (ensured 𝓤 H A flat.ended (flat.clauses 𝓤 H A mem run) (κ₀, (κ₂, tt)) (passed f) tt d)))) (id⊢ 𝓤 _) $ await ! tt $ pick ! (λ d.
+        use1 W (later (some (λ (d : FlatOutput). ((‵ (flft κ₀ q₀) ⊛ ‵ (flft κ₂ q₂) ⊛ ‵ ftrue) ⊛ ‵ (D .own d (v ∷ []))) ⊛ raw (ensured 𝓤 H A flat.ended (flat.clauses 𝓤 H A mem run) (κ₀, (κ₂, tt)) (passed f) tt d)))) (id⊢ 𝓤 _) $ await ! tt $ pick ! (λ d.
         split ! $ move ! (1 ∷ []) $ use1 W (some (λ (ws : Unit {0} × (Unit {0} × (Unit {0} × (Unit {0} × (List ℤ × Unit {0}))))). ‵ (lasts flat.ended (κ₀, (κ₂, tt)) (passed f) ws) ⊛ raw (fact 𝓤 (SaysFlat d f (ws .1 .1 .1 .1 .0))))) (id⊢ 𝓤 _) $ pick ! (λ ws.
         split ! $ move ! (1 ∷ []) $ heard ! (SaysFlat d f (ws .1 .1 .1 .1 .0)) (λ e′. fsplit ! $ drop ! $ fsplit ! $ drop ! $ fsplit ! $ drop ! $ fsplit ! $ drop ! $ fsplit ! $ fsplit ! $ move ! (1 ∷ []) $ feqL ! (λ same′.
         move ! (2 ∷ []) $ split ! $ move ! (1 ∷ []) $

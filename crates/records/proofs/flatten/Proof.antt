@@ -1,5 +1,5 @@
 -- `records::flatten` meets its contract: a walk of its MIR, by hand. Three copies of the records' slice are made, for the two calls and for the
--- exit; the array in a local is lent to `spread`, for a lifetime that is made for the call, and comes back (`Local.antt`).
+-- exit; the array in a local is lent to `serialize`, for a lifetime that is made for the call, and comes back (`Local.antt`).
 -- Assumes nothing.
 use mathlib.Core.Path.{_≡_, refl, sym, ap, _∙_, subst}
 use Prim.Native.Nat.{ℕ, _*_, _≤_, _<_, _^_}
@@ -46,9 +46,9 @@ use Rattle.area.specs.declared.IndexRecord.{IndexRecord}
 use Rattle.area.specs.Records.{runOf}
 use Rattle.area.proofs.IndexRecord as T
 use Rattle.records.specs.declared.Flat.{Flat}
-use Rattle.records.specs.Lent.{lesser, overRun, front}
+use Rattle.records.specs.Lent.{min, overRun, front}
 use Rattle.records.proofs.Local.{big-lit, lends-array, array-back}
-use Rattle.records.proofs.Overs.{lesser-left, lesser-right, flat-front}
+use Rattle.records.proofs.Overs.{min-left, min-right, flat-front}
 use Rattle.records.proofs.Words.{Words, array, words-laws, held, held-is, tells-held, F, machF, made}
 use Rattle.records.proofs.Flat as U
 use Rattle.records.proofs.Flat.Laws as U′
@@ -64,10 +64,10 @@ use Rattle.records.proofs.no_words as no-words
 use Rattle.records.proofs.no_words.Symbol as no-words-def
 use Rattle.records.proofs.no_words.Symbol.{name as #records·no-words}
 use Rattle.records.proofs.no_words.Met as no-words-thm
-use Rattle.records.proofs.spread as spread
-use Rattle.records.proofs.spread.Symbol as spread-def
-use Rattle.records.proofs.spread.Symbol.{name as #records·spread}
-use Rattle.records.proofs.spread.Met as spread-thm
+use Rattle.records.proofs.serialize as serialize
+use Rattle.records.proofs.serialize.Symbol as serialize-def
+use Rattle.records.proofs.serialize.Symbol.{name as #records·serialize}
+use Rattle.records.proofs.serialize.Met as serialize-thm
 use Rattle.records.proofs.flatten.Key.{name as #records·flatten}
 use Rattle.records.proofs.flatten as flatten
 use Rattle.records.proofs.flatten.Statement as stated
@@ -93,14 +93,14 @@ module _ {M : Type 1} (𝓤 : URA M) (H : Heap 𝓤) (A : Atoms 𝓤) (mem : Mem
   abbrev NoWords : Contract 𝓤
   NoWords = tripleOf 𝓤 H A no-words.signature (no-words.spec 𝓤 H A mem run)
 
-  abbrev Spread : Contract 𝓤
-  Spread = tripleOf 𝓤 H A spread.signature (spread.spec 𝓤 H A mem run)
+  abbrev Serialize : Contract 𝓤
+  Serialize = tripleOf 𝓤 H A serialize.signature (serialize.spec 𝓤 H A mem run)
 
   count-of : (κ : Lft) (x : RefT (List IndexRecord)) (k : ℕ) → ent 𝓤 (ensured 𝓤 H A count.ended (count.clauses 𝓤 H A mem run) (κ, tt) (x, tt) tt k) (fact 𝓤 (k ≡ length (x .now)))
   count-of κ x k = exE 𝓤 _ (λ ws. snd∗ 𝓤 (sem 𝓤 H A (lasts count.ended (κ, tt) (x, tt) ws)) (fact 𝓤 (k ≡ length (x .now))))
 
-  capped-of : (k n : ℕ) → ent 𝓤 (ensured 𝓤 H A capped.ended (capped.clauses 𝓤 H A mem run) tt (k, tt) tt n) (fact 𝓤 (n ≡ lesser k 512))
-  capped-of k n = exE 𝓤 _ (λ ws. snd∗ 𝓤 (sem 𝓤 H A (lasts capped.ended tt (k, tt) ws)) (fact 𝓤 (n ≡ lesser k 512)))
+  capped-of : (k n : ℕ) → ent 𝓤 (ensured 𝓤 H A capped.ended (capped.clauses 𝓤 H A mem run) tt (k, tt) tt n) (fact 𝓤 (n ≡ min k 512))
+  capped-of k n = exE 𝓤 _ (λ ws. snd∗ 𝓤 (sem 𝓤 H A (lasts capped.ended tt (k, tt) ws)) (fact 𝓤 (n ≡ min k 512)))
 
 module _ {M : Type 1} (𝓤 : URA M) (H : Heap 𝓤) (A : Atoms 𝓤) (W : Given 𝓤 H A) (mem : Memory → SProp 𝓤) (run : Routine → Fun 𝓤) (κ : Lft) (q : Share) (b o : ℕ) (γ : GName) (ys : List IndexRecord) (room : Room R (length ys)) where
   abbrev x : RefT (List IndexRecord)
@@ -118,7 +118,7 @@ module _ {M : Type 1} (𝓤 : URA M) (H : Heap 𝓤) (A : Atoms 𝓤) (W : Given
   abbrev Post : Val → SProp 𝓤
   Post = walkOf 𝓤 H A flatten.ended stayed (flatten.clauses 𝓤 H A mem run) .post (((κ, tt), (q, tt), tt, (x, tt), at), tt)
 
-  exits : (f : Flat) → (f .count ≡ lesser (length ys) 512) × (front (f .count) (f .words) ≡ take (f .count) ys) → Is F f (machF f ∷ []) → ent 𝓤 (⋆ 𝓤 H A (‵ (flft κ q) ∷ ‵ Own ∷ [])) (Post (machF f))
+  exits : (f : Flat) → (f .count ≡ min (length ys) 512) × (front (f .count) (f .words) ≡ take (f .count) ys) → Is F f (machF f ∷ []) → ent 𝓤 (⋆ 𝓤 H A (‵ (flft κ q) ∷ ‵ Own ∷ [])) (Post (machF f))
   exits f e g =
       qed W (‵ (flft κ q) ∷ ‵ Own ∷ []) ∵
       suffices ! _ (ends-at 𝓤 H A flatten.ended stayed (flatten.clauses 𝓤 H A mem run) W (((κ, tt), (q, tt), tt, (x, tt), at), tt) (machF f) f (tt, tt) (tt, tt)) $ says ! e $
@@ -162,32 +162,32 @@ module _ {M : Type 1} (𝓤 : URA M) (H : Heap 𝓤) (A : Atoms 𝓤) (W : Given
   abbrev Lent : ℕ → ℕ → GName → List ℕ → Fml
   Lent l ν δ xs = MutSlice (named 1) (ν ∷ []) u32 .own (x₁ l δ xs) (s₁ l ∷ [])
 
-  abbrev to-spread : ℕ → ℕ → GName → ℕ → List ℕ → Spread 𝓤 H A mem run .Ghost
-  to-spread l ν δ n xs = (((κ, (ν ∷ [], tt)), (q, (fullShare, tt)), tt, passed l δ n xs, (s ∷ [], (vint w64 n ∷ [], (s₁ l ∷ [], tt)))), tt)
+  abbrev to-serialize : ℕ → ℕ → GName → ℕ → List ℕ → Serialize 𝓤 H A mem run .Ghost
+  to-serialize l ν δ n xs = (((κ, (ν ∷ [], tt)), (q, (fullShare, tt)), tt, passed l δ n xs, (s ∷ [], (vint w64 n ∷ [], (s₁ l ∷ [], tt)))), tt)
 
-  goes-spread : (l ν : ℕ) (δ : GName) (n : ℕ) (xs : List ℕ) → n < 2 ^ 64 → n ≤ length ys → n * 27 ≤ length xs
-      → ent 𝓤 (sep 𝓤 (sep 𝓤 (A .lft κ q) (A .lft (ν ∷ []) fullShare)) (sep 𝓤 (sem 𝓤 H A Own) (sem 𝓤 H A (Lent l ν δ xs)))) (Spread 𝓤 H A mem run .pre (to-spread l ν δ n xs))
-  goes-spread l ν δ n xs fits within₀ within₁ =
+  goes-serialize : (l ν : ℕ) (δ : GName) (n : ℕ) (xs : List ℕ) → n < 2 ^ 64 → n ≤ length ys → n * 27 ≤ length xs
+      → ent 𝓤 (sep 𝓤 (sep 𝓤 (A .lft κ q) (A .lft (ν ∷ []) fullShare)) (sep 𝓤 (sem 𝓤 H A Own) (sem 𝓤 H A (Lent l ν δ xs)))) (Serialize 𝓤 H A mem run .pre (to-serialize l ν δ n xs))
+  goes-serialize l ν δ n xs fits within₀ within₁ =
       qed W ((‵ (flft κ q) ⊛ ‵ (flft (ν ∷ []) fullShare)) ∷ (‵ Own ⊛ ‵ (Lent l ν δ xs)) ∷ []) ∵ says ! (within₀, within₁) $
       split ! $ nothing ! $ move ! (2 ∷ 0 ∷ []) $ join ! $ move ! (1 ∷ 0 ∷ []) $ join ! $ frame ! $
       split ! $ nothing ! $ move ! (2 ∷ 0 ∷ []) $ fjoin ! $ owned ! usize (Is usize) (uint-makes 𝓤 H A W w64) n _ (refl, fits) $ fjoin ! $ move ! (1 ∷ 0 ∷ []) $ fjoin ! $ done !
 
   -- the facts of a count k, the number n, the words xs before and ws after
-  module _ (k n : ℕ) (e₁ : k ≡ length ys) (e₂ : n ≡ lesser k 512) where
+  module _ (k n : ℕ) (e₁ : k ≡ length ys) (e₂ : n ≡ min k 512) where
     within : n ≤ length ys
-    within = subst (λ (m : ℕ). n ≤ m) e₁ (subst (λ (m : ℕ). m ≤ k) (sym e₂) (lesser-left k 512))
+    within = subst (λ (m : ℕ). n ≤ m) e₁ (subst (λ (m : ℕ). m ≤ k) (sym e₂) (min-left k 512))
 
     small : n ≤ 512
-    small = subst (λ (m : ℕ). m ≤ 512) (sym e₂) (lesser-right k 512)
+    small = subst (λ (m : ℕ). m ≤ 512) (sym e₂) (min-right k 512)
 
     room-for : (xs : List ℕ) → length xs ≡ 13824 → n * 27 ≤ length xs
     room-for xs e = omega (arith, small, e)
 
-    holds : (xs ws : List ℕ) → runOf ws ≡ overRun n ys (runOf xs) → (n ≡ lesser (length ys) 512) × (front n ws ≡ take n ys)
-    holds xs ws e = (e₂ ∙ ap (λ (m : ℕ). lesser m 512) e₁, flat-front ys n xs ws within e)
+    holds : (xs ws : List ℕ) → runOf ws ≡ overRun n ys (runOf xs) → (n ≡ min (length ys) 512) × (front n ws ≡ take n ys)
+    holds xs ws e = (e₂ ∙ ap (λ (m : ℕ). min m 512) e₁, flat-front ys n xs ws within e)
 
   module _ (C : Calls 𝓤 H) (Λ : Loops 𝓤 H) (fm : FmC 𝓤 H (W .laws) C) (known-count : Triple 𝓤 (C #records·count) (Count 𝓤 H A mem run)) (known-capped : Triple 𝓤 (C #records·capped) (Capped 𝓤 H A mem run))
-      (known-no-words : Triple 𝓤 (C #records·no-words) (NoWords 𝓤 H A mem run)) (known-spread : Triple 𝓤 (C #records·spread) (Spread 𝓤 H A mem run)) where
+      (known-no-words : Triple 𝓤 (C #records·no-words) (NoWords 𝓤 H A mem run)) (known-serialize : Triple 𝓤 (C #records·serialize) (Serialize 𝓤 H A mem run)) where
     walk : ent 𝓤 (onEntry 𝓤 H A flatten.signature (κ, tt) (q, tt) (x, tt) at) (WpFn 𝓤 H C Λ code.function (s ∷ []) Post)
     walk =
         qed W ((‵ (flft κ q) ⊛ ‵ ftrue) ∷ ‵ (owns (ShrSlice (named 0) κ R ∷ []) (x, tt) at) ∷ []) ∵ enter ! C Λ code.function (s ∷ []) _ $
@@ -208,7 +208,7 @@ module _ {M : Type 1} (𝓤 : URA M) (H : Heap 𝓤) (A : Atoms 𝓤) (W : Given
         nothing ! $ use1 W (raw (Capped 𝓤 H A mem run .pre (to-capped k))) (goes-capped k (is₁ .1)) $
         calls-at ! fm (Capped 𝓤 H A mem run) known-capped (to-capped k) (and-then ! (load ! (from ! (stop !)) (look ! 10 refl)) (no-more !)) (λ u₂.
         use1 W (later (some (λ (n : ℕ). (‵ ftrue ⊛ ‵ (usize .own n (u₂ ∷ []))) ⊛ raw (ensured 𝓤 H A capped.ended (capped.clauses 𝓤 H A mem run) tt (k, tt) tt n)))) (id⊢ 𝓤 _) $ await ! tt $ pick ! (λ n.
-        split ! $ move ! (1 ∷ []) $ use1 W (raw (fact 𝓤 (n ≡ lesser k 512))) (capped-of 𝓤 H A mem run k n) $ heard ! (n ≡ lesser k 512) (λ e₂. split ! $ drop ! $
+        split ! $ move ! (1 ∷ []) $ use1 W (raw (fact 𝓤 (n ≡ min k 512))) (capped-of 𝓤 H A mem run k n) $ heard ! (n ≡ min k 512) (λ e₂. split ! $ drop ! $
         facts ! usize (Is usize) (shows 𝓤 H A usize) n (u₂ ∷ []) (λ is₂. land ! (from ! (stop !)) (init ! 13 refl (subst (λ (c : Val). Holds (hasTy word c) × WT c) (sym (ap only (is₂ .0))) (tt, record { fits = is₂ .1 }))) $
         rewrite ! 13 (λ (c : Val). ‵ (fat fullShare word l₂ 0 c)) (ap only (is₂ .0)) refl $
         -- `no_words`
@@ -225,12 +225,12 @@ module _ {M : Type 1} (𝓤 : URA M) (H : Heap 𝓤) (A : Atoms 𝓤) (W : Given
         lft-new ! tt (λ ν. move ! (13 ∷ 1 ∷ []) $
         use2 W (later (some (λ (δ : GName). ‵ (Lent l₃ ν δ xs) ⊛ ‵ (flent (ν ∷ []) (Held u32 13824 l₃ 0 δ)))))
         (lends-array u32 tt 𝓤 H A W (named 1) (ν ∷ []) 13824 xs u₃ l₃ 0 (is₃ .1 .0 .1) (subst (Room u32) (sym (is₃ .1 .0 .1)) (lit< tt, lit< tt))) $ await ! tt $ pick ! (λ δ. split ! $
-        -- `spread`: [the array lent; the lender's part; ν; the token; _8; …; _0; …; the slice; the slice], with no _3 but its end
+        -- `serialize`: [the array lent; the lender's part; ν; the token; _8; …; _0; …; the slice; the slice], with no _3 but its end
         move ! (3 ∷ []) $ split ! $ move ! (0 ∷ 4 ∷ []) $ join ! $ move ! (21 ∷ 2 ∷ []) $ join ! $ move ! (1 ∷ 0 ∷ []) $
-        use2 W (raw (Spread 𝓤 H A mem run .pre (to-spread l₃ ν δ n xs))) (goes-spread l₃ ν δ n xs (is₂ .1) (within k n e₁ e₂) (room-for k n e₁ e₂ xs (is₃ .1 .0 .1))) $
-        calls-at ! fm (Spread 𝓤 H A mem run) known-spread (to-spread l₃ ν δ n xs) (and-then ! (load ! (from ! (stop !)) (look ! 16 refl)) (and-then ! (load ! (from ! (stop !)) (look ! 14 refl)) (and-then ! (load ! (from ! (stop !)) (look ! 3 refl)) (no-more !)))) (λ w.
-        use1 W (later (some (λ (z : Unit {0}). ((‵ (flft κ q) ⊛ ‵ (flft (ν ∷ []) fullShare) ⊛ ‵ ftrue) ⊛ ‵ (unit .own z (w ∷ []))) ⊛ raw (ensured 𝓤 H A spread.ended (spread.clauses 𝓤 H A mem run) (κ, (ν ∷ [], tt)) (passed l₃ δ n xs) tt z)))) (id⊢ 𝓤 _) $ await ! tt $ pick ! (λ z.
-        split ! $ move ! (1 ∷ []) $ use1 W (some (λ (ws : Unit {0} × (Unit {0} × (List ℕ × Unit {0}))). ‵ (lasts spread.ended (κ, (ν ∷ [], tt)) (passed l₃ δ n xs) ws) ⊛ raw (fact 𝓤 (runOf (ws .1 .1 .0) ≡ overRun n ys (runOf xs))))) (id⊢ 𝓤 _) $ pick ! (λ ws.
+        use2 W (raw (Serialize 𝓤 H A mem run .pre (to-serialize l₃ ν δ n xs))) (goes-serialize l₃ ν δ n xs (is₂ .1) (within k n e₁ e₂) (room-for k n e₁ e₂ xs (is₃ .1 .0 .1))) $
+        calls-at ! fm (Serialize 𝓤 H A mem run) known-serialize (to-serialize l₃ ν δ n xs) (and-then ! (load ! (from ! (stop !)) (look ! 16 refl)) (and-then ! (load ! (from ! (stop !)) (look ! 14 refl)) (and-then ! (load ! (from ! (stop !)) (look ! 3 refl)) (no-more !)))) (λ w.
+        use1 W (later (some (λ (z : Unit {0}). ((‵ (flft κ q) ⊛ ‵ (flft (ν ∷ []) fullShare) ⊛ ‵ ftrue) ⊛ ‵ (unit .own z (w ∷ []))) ⊛ raw (ensured 𝓤 H A serialize.ended (serialize.clauses 𝓤 H A mem run) (κ, (ν ∷ [], tt)) (passed l₃ δ n xs) tt z)))) (id⊢ 𝓤 _) $ await ! tt $ pick ! (λ z.
+        split ! $ move ! (1 ∷ []) $ use1 W (some (λ (ws : Unit {0} × (Unit {0} × (List ℕ × Unit {0}))). ‵ (lasts serialize.ended (κ, (ν ∷ [], tt)) (passed l₃ δ n xs) ws) ⊛ raw (fact 𝓤 (runOf (ws .1 .1 .0) ≡ overRun n ys (runOf xs))))) (id⊢ 𝓤 _) $ pick ! (λ ws.
         split ! $ move ! (1 ∷ []) $ heard ! (runOf (ws .1 .1 .0) ≡ overRun n ys (runOf xs)) (λ e₄. fsplit ! $ drop ! $ fsplit ! $ drop ! $ fsplit ! $ fsplit ! $ move ! (1 ∷ []) $ feqL ! (λ same.
         move ! (2 ∷ []) $ split ! $ move ! (1 ∷ []) $ feqL ! (λ is₄.
         -- [the tokens; the last words; …; …; the lender's part; _8; …; _0; …; the slice]
@@ -249,10 +249,10 @@ module _ {M : Type 1} (𝓤 : URA M) (H : Heap 𝓤) (A : Atoms 𝓤) (W : Given
         keep ! (1 ∷ 4 ∷ []) $ by ! (exits (record { count = n; words = ws .1 .1 .0 }) (holds k n e₁ e₂ xs (ws .1 .1 .0) e₄) f-is)))))))))))))))))))))))))))))))
 
 module _ {M : Type 1} (𝓤 : URA M) (H : Heap 𝓤) (A : Atoms 𝓤) (W : Given 𝓤 H A) (mem : Memory → SProp 𝓤) (run : Routine → Fun 𝓤) (𝓣 : Tables 𝓤 H) (known-count : Triple 𝓤 (𝓣 .C #records·count) (Count 𝓤 H A mem run)) (known-capped : Triple 𝓤 (𝓣 .C #records·capped) (Capped 𝓤 H A mem run))
-    (known-no-words : Triple 𝓤 (𝓣 .C #records·no-words) (NoWords 𝓤 H A mem run)) (known-spread : Triple 𝓤 (𝓣 .C #records·spread) (Spread 𝓤 H A mem run)) where
+    (known-no-words : Triple 𝓤 (𝓣 .C #records·no-words) (NoWords 𝓤 H A mem run)) (known-serialize : Triple 𝓤 (𝓣 .C #records·serialize) (Serialize 𝓤 H A mem run)) where
   flatten-walks : Walks 𝓤 H A flatten.ended stayed (WpFn 𝓤 H (𝓣 .C) (𝓣 .Λ) code.function) (flatten.clauses 𝓤 H A mem run)
   flatten-walks = walked 𝓤 H A flatten.ended stayed (flatten.clauses 𝓤 H A mem run) (WpFn 𝓤 H (𝓣 .C) (𝓣 .Λ) code.function) (λ κs. (slice-vals, tt)) (λ κs. (shr-slice-tells (named 0) (κs .0) R, tt))
-      (λ κs qs bounds a g are. via 𝓤 _ (fst∗ 𝓤 _ (emp 𝓤)) (walk 𝓤 H A W mem run (κs .0) (qs .0) (a .0 .ptr .0) (a .0 .ptr .1) (a .0 .name) (a .0 .now) (are .0 .0 .1) (𝓣 .C) (𝓣 .Λ) (fmOf 𝓤 H (W .laws) 𝓣) known-count known-capped known-no-words known-spread))
+      (λ κs qs bounds a g are. via 𝓤 _ (fst∗ 𝓤 _ (emp 𝓤)) (walk 𝓤 H A W mem run (κs .0) (qs .0) (a .0 .ptr .0) (a .0 .ptr .1) (a .0 .name) (a .0 .now) (are .0 .0 .1) (𝓣 .C) (𝓣 .Λ) (fmOf 𝓤 H (W .laws) 𝓣) known-count known-capped known-no-words known-serialize))
 
   flatten-meets : Meets 𝓤 H A flatten.signature (WpFn 𝓤 H (𝓣 .C) (𝓣 .Λ) code.function) (flatten.spec 𝓤 H A mem run)
   flatten-meets =
@@ -268,4 +268,4 @@ flatten-spec 𝓤 H 𝓜 𝓖 𝓡 =
     (cited 𝓤 H (Count 𝓤 H (𝓖 .A) (𝓜 .mem) (𝓡 .run)) 𝓜 𝓡 code.env #records·count count-def.routine code.calls-records·count (count-thm.met 𝓤 H 𝓜 𝓖 𝓡))
     (cited 𝓤 H (Capped 𝓤 H (𝓖 .A) (𝓜 .mem) (𝓡 .run)) 𝓜 𝓡 code.env #records·capped capped-def.routine code.calls-records·capped (capped-thm.met 𝓤 H 𝓜 𝓖 𝓡))
     (cited 𝓤 H (NoWords 𝓤 H (𝓖 .A) (𝓜 .mem) (𝓡 .run)) 𝓜 𝓡 code.env #records·no-words no-words-def.routine code.calls-records·no-words (no-words-thm.met 𝓤 H 𝓜 𝓖 𝓡))
-    (cited 𝓤 H (Spread 𝓤 H (𝓖 .A) (𝓜 .mem) (𝓡 .run)) 𝓜 𝓡 code.env #records·spread spread-def.routine code.calls-records·spread (spread-thm.met 𝓤 H 𝓜 𝓖 𝓡)))
+    (cited 𝓤 H (Serialize 𝓤 H (𝓖 .A) (𝓜 .mem) (𝓡 .run)) 𝓜 𝓡 code.env #records·serialize serialize-def.routine code.calls-records·serialize (serialize-thm.met 𝓤 H 𝓜 𝓖 𝓡)))

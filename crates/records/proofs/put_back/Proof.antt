@@ -1,4 +1,4 @@
--- `records::put_back` meets its contract: a walk of its MIR, by hand. The words are lent to `gather` as a `&`, for a lifetime that is made for the
+-- `records::put_back` meets its contract: a walk of its MIR, by hand. The words are lent to `deserialize` as a `&`, for a lifetime that is made for the
 -- call, and come back (`Local.antt`); the records go at their own lifetime, share and ghost name, for good (`gave-slice`).
 -- Assumes nothing.
 use mathlib.Core.Path.{_≡_, refl, sym, ap, subst}
@@ -49,10 +49,10 @@ use Rattle.area.proofs.IndexRecord as T
 use Rattle.records.specs.Lent.{over}
 use Rattle.records.proofs.Local.{big-lit, shares-array, shared-array-back}
 use Rattle.records.proofs.Words.{Words, array, words-laws}
-use Rattle.records.proofs.gather as gather
-use Rattle.records.proofs.gather.Symbol as gather-def
-use Rattle.records.proofs.gather.Symbol.{name as #records·gather}
-use Rattle.records.proofs.gather.Met as gather-thm
+use Rattle.records.proofs.deserialize as deserialize
+use Rattle.records.proofs.deserialize.Symbol as deserialize-def
+use Rattle.records.proofs.deserialize.Symbol.{name as #records·deserialize}
+use Rattle.records.proofs.deserialize.Met as deserialize-thm
 use Rattle.records.proofs.put_back.Key.{name as #records·put-back}
 use Rattle.records.proofs.put_back as back
 use Rattle.records.proofs.put_back.Statement as stated
@@ -70,8 +70,8 @@ stayed = (gave-slice (0 ∷ []) tt (plain (λ _. R)), (stay-none (λ _. usize) y
 
 module _ {M : Type 1} (𝓤 : URA M) (H : Heap 𝓤) (A : Atoms 𝓤) (mem : Memory → SProp 𝓤) (run : Routine → Fun 𝓤) where
   -- the contract that the proof cites
-  abbrev Gather : Contract 𝓤
-  Gather = tripleOf 𝓤 H A gather.signature (gather.spec 𝓤 H A mem run)
+  abbrev Deserialize : Contract 𝓤
+  Deserialize = tripleOf 𝓤 H A deserialize.signature (deserialize.spec 𝓤 H A mem run)
 
 module _ {M : Type 1} (𝓤 : URA M) (H : Heap 𝓤) (A : Atoms 𝓤) (W : Given 𝓤 H A) (mem : Memory → SProp 𝓤) (run : Routine → Fun 𝓤) (κ : Lft) (q : Share) (b o : ℕ) (γ : GName) (ys : List IndexRecord) (n : ℕ) (ws : List ℕ)
     (room : Room R (length ys)) (n-fits : n < 2 ^ 64) (ws-is : Is Words ws (machW ws ∷ [])) (within : n ≤ length ys) (small : n ≤ 512) where
@@ -104,7 +104,7 @@ module _ {M : Type 1} (𝓤 : URA M) (H : Heap 𝓤) (A : Atoms 𝓤) (W : Given
       nothing ! $ owned ! Words (Is Words) (array-makes 𝓤 H A W u32 (uint-makes 𝓤 H A W w32) 13824) ws _ ws-is $ fjoin ! $ owned ! usize (Is usize) (uint-makes 𝓤 H A W w64) n _ (refl, n-fits) $ fjoin ! $ move ! (1 ∷ 0 ∷ []) $ fjoin ! $ frame ! $
       feqI ! (List Val) (vunit ∷ []) (vunit ∷ []) refl $ done !
 
-  -- the local's array in block l, under the name δ, and what `gather`'s triple binds outside
+  -- the local's array in block l, under the name δ, and what `deserialize`'s triple binds outside
   abbrev x₁ : ℕ → GName → RefT (List ℕ)
   x₁ l δ = record { ptr = (l, 0); name = δ; now = ws }
 
@@ -120,8 +120,8 @@ module _ {M : Type 1} (𝓤 : URA M) (H : Heap 𝓤) (A : Atoms 𝓤) (W : Given
   abbrev Lent : ℕ → ℕ → GName → Fml
   Lent l ν δ = ShrSlice (named 1) (ν ∷ []) u32 .own (x₁ l δ) (s₁ l ∷ [])
 
-  abbrev to-gather : ℕ → ℕ → GName → Gather 𝓤 H A mem run .Ghost
-  to-gather l ν δ = (((κ, (ν ∷ [], tt)), (q, (fullShare, tt)), tt, passed l δ, (s ∷ [], (vint w64 n ∷ [], (s₁ l ∷ [], tt)))), tt)
+  abbrev to-deserialize : ℕ → ℕ → GName → Deserialize 𝓤 H A mem run .Ghost
+  to-deserialize l ν δ = (((κ, (ν ∷ [], tt)), (q, (fullShare, tt)), tt, passed l δ, (s ∷ [], (vint w64 n ∷ [], (s₁ l ∷ [], tt)))), tt)
 
   count-is : length ws ≡ 13824
   count-is = ws-is .1 .0 .1
@@ -129,14 +129,14 @@ module _ {M : Type 1} (𝓤 : URA M) (H : Heap 𝓤) (A : Atoms 𝓤) (W : Given
   room-for : n * 27 ≤ length ws
   room-for = omega (arith, small, count-is)
 
-  goes-gather : (l ν : ℕ) (δ : GName)
-      → ent 𝓤 (sep 𝓤 (sep 𝓤 (A .lft κ q) (A .lft (ν ∷ []) fullShare)) (sep 𝓤 (sem 𝓤 H A Own) (sem 𝓤 H A (Lent l ν δ)))) (Gather 𝓤 H A mem run .pre (to-gather l ν δ))
-  goes-gather l ν δ =
+  goes-deserialize : (l ν : ℕ) (δ : GName)
+      → ent 𝓤 (sep 𝓤 (sep 𝓤 (A .lft κ q) (A .lft (ν ∷ []) fullShare)) (sep 𝓤 (sem 𝓤 H A Own) (sem 𝓤 H A (Lent l ν δ)))) (Deserialize 𝓤 H A mem run .pre (to-deserialize l ν δ))
+  goes-deserialize l ν δ =
       qed W ((‵ (flft κ q) ⊛ ‵ (flft (ν ∷ []) fullShare)) ∷ (‵ Own ⊛ ‵ (Lent l ν δ)) ∷ []) ∵ says ! (within, room-for) $
       split ! $ nothing ! $ move ! (2 ∷ 0 ∷ []) $ join ! $ move ! (1 ∷ 0 ∷ []) $ join ! $ frame ! $
       split ! $ nothing ! $ move ! (2 ∷ 0 ∷ []) $ fjoin ! $ owned ! usize (Is usize) (uint-makes 𝓤 H A W w64) n _ (refl, n-fits) $ fjoin ! $ move ! (1 ∷ 0 ∷ []) $ fjoin ! $ done !
 
-  module _ (C : Calls 𝓤 H) (Λ : Loops 𝓤 H) (fm : FmC 𝓤 H (W .laws) C) (known-gather : Triple 𝓤 (C #records·gather) (Gather 𝓤 H A mem run)) where
+  module _ (C : Calls 𝓤 H) (Λ : Loops 𝓤 H) (fm : FmC 𝓤 H (W .laws) C) (known-deserialize : Triple 𝓤 (C #records·deserialize) (Deserialize 𝓤 H A mem run)) where
     walk : ent 𝓤 (onEntry 𝓤 H A back.signature (κ, tt) (q, tt) a at) (WpFn 𝓤 H C Λ code.function (s ∷ vint w64 n ∷ machW ws ∷ []) Post)
     walk =
         qed W ((‵ (flft κ q) ⊛ ‵ ftrue) ∷ ‵ (owns (MutSlice (named 0) κ R ∷ usize ∷ Words ∷ []) a at) ∷ []) ∵ enter ! C Λ code.function (s ∷ vint w64 n ∷ machW ws ∷ []) _ $
@@ -153,12 +153,12 @@ module _ {M : Type 1} (𝓤 : URA M) (H : Heap 𝓤) (A : Atoms 𝓤) (W : Given
         lft-new ! tt (λ ν. owned ! Words (Is Words) (array-makes 𝓤 H A W u32 (uint-makes 𝓤 H A W w32) 13824) ws (machW ws ∷ []) ws-is $ move ! (16 ∷ 0 ∷ []) $
         use2 W (later (some (λ (δ : GName). ‵ (Lent l₄ ν δ) ⊛ ‵ (flent (ν ∷ []) (arr-parts (shares u32) 13824 .part fullShare ws l₄ 0)))))
         (shares-array u32 tt 𝓤 H A W (named 1) (ν ∷ []) 13824 ws (machW ws) l₄ 0 count-is (subst (Room u32) (sym count-is) (lit< tt, lit< tt))) $ await ! tt $ pick ! (λ δ. split ! $
-        -- `gather`: [the words lent; the lender's part; ν; the token; …; the records; …; _9; …], with no _4 but its end
+        -- `deserialize`: [the words lent; the lender's part; ν; the token; …; the records; …; _9; …], with no _4 but its end
         move ! (3 ∷ 2 ∷ []) $ join ! $ move ! (4 ∷ 1 ∷ []) $ join ! $ move ! (1 ∷ 0 ∷ []) $
-        use2 W (raw (Gather 𝓤 H A mem run .pre (to-gather l₄ ν δ))) (goes-gather l₄ ν δ) $
-        calls-at ! fm (Gather 𝓤 H A mem run) known-gather (to-gather l₄ ν δ) (and-then ! (load ! (from ! (stop !)) (look ! 8 refl)) (and-then ! (load ! (from ! (stop !)) (look ! 17 refl)) (and-then ! (load ! (from ! (stop !)) (look ! 4 refl)) (no-more !)))) (λ w.
-        use1 W (later (some (λ (z : Unit {0}). ((‵ (flft κ q) ⊛ ‵ (flft (ν ∷ []) fullShare) ⊛ ‵ ftrue) ⊛ ‵ (unit .own z (w ∷ []))) ⊛ raw (ensured 𝓤 H A gather.ended (gather.clauses 𝓤 H A mem run) (κ, (ν ∷ [], tt)) (passed l₄ δ) tt z)))) (id⊢ 𝓤 _) $ await ! tt $ pick ! (λ z.
-        split ! $ move ! (1 ∷ []) $ use1 W (some (λ (ls : List IndexRecord × (Unit {0} × (Unit {0} × Unit {0}))). ‵ (lasts gather.ended (κ, (ν ∷ [], tt)) (passed l₄ δ) ls) ⊛ raw (fact 𝓤 (ls .0 ≡ over n (recordsOf ws) ys)))) (id⊢ 𝓤 _) $ pick ! (λ ls.
+        use2 W (raw (Deserialize 𝓤 H A mem run .pre (to-deserialize l₄ ν δ))) (goes-deserialize l₄ ν δ) $
+        calls-at ! fm (Deserialize 𝓤 H A mem run) known-deserialize (to-deserialize l₄ ν δ) (and-then ! (load ! (from ! (stop !)) (look ! 8 refl)) (and-then ! (load ! (from ! (stop !)) (look ! 17 refl)) (and-then ! (load ! (from ! (stop !)) (look ! 4 refl)) (no-more !)))) (λ w.
+        use1 W (later (some (λ (z : Unit {0}). ((‵ (flft κ q) ⊛ ‵ (flft (ν ∷ []) fullShare) ⊛ ‵ ftrue) ⊛ ‵ (unit .own z (w ∷ []))) ⊛ raw (ensured 𝓤 H A deserialize.ended (deserialize.clauses 𝓤 H A mem run) (κ, (ν ∷ [], tt)) (passed l₄ δ) tt z)))) (id⊢ 𝓤 _) $ await ! tt $ pick ! (λ z.
+        split ! $ move ! (1 ∷ []) $ use1 W (some (λ (ls : List IndexRecord × (Unit {0} × (Unit {0} × Unit {0}))). ‵ (lasts deserialize.ended (κ, (ν ∷ [], tt)) (passed l₄ δ) ls) ⊛ raw (fact 𝓤 (ls .0 ≡ over n (recordsOf ws) ys)))) (id⊢ 𝓤 _) $ pick ! (λ ls.
         split ! $ move ! (1 ∷ []) $ heard ! (ls .0 ≡ over n (recordsOf ws) ys) (λ e. fsplit ! $ fsplit ! $ move ! (1 ∷ []) $ feqL ! (λ same.
         move ! (2 ∷ []) $ split ! $ move ! (1 ∷ []) $ feqL ! (λ is.
         -- [the tokens; the last records; …; the lender's part; …; …; _9; …]
@@ -173,12 +173,12 @@ module _ {M : Type 1} (𝓤 : URA M) (H : Heap 𝓤) (A : Atoms 𝓤) (W : Given
         move ! (15 ∷ 16 ∷ []) $ free1 ! $ move ! (13 ∷ 14 ∷ []) $ free1 ! $ move ! (11 ∷ 12 ∷ []) $ free1 ! $ move ! (9 ∷ 10 ∷ []) $ free1 ! $ move ! (7 ∷ 8 ∷ []) $ free1 ! $ free0 ! $
         keep ! (2 ∷ 3 ∷ []) $ by ! (exits (ls .0) e same))))))))))))))))))))
 
-module _ {M : Type 1} (𝓤 : URA M) (H : Heap 𝓤) (A : Atoms 𝓤) (W : Given 𝓤 H A) (mem : Memory → SProp 𝓤) (run : Routine → Fun 𝓤) (𝓣 : Tables 𝓤 H) (known-gather : Triple 𝓤 (𝓣 .C #records·gather) (Gather 𝓤 H A mem run)) where
+module _ {M : Type 1} (𝓤 : URA M) (H : Heap 𝓤) (A : Atoms 𝓤) (W : Given 𝓤 H A) (mem : Memory → SProp 𝓤) (run : Routine → Fun 𝓤) (𝓣 : Tables 𝓤 H) (known-deserialize : Triple 𝓤 (𝓣 .C #records·deserialize) (Deserialize 𝓤 H A mem run)) where
   back-walks : Walks 𝓤 H A back.ended stayed (WpFn 𝓤 H (𝓣 .C) (𝓣 .Λ) code.function) (back.clauses 𝓤 H A mem run)
   back-walks = walked 𝓤 H A back.ended stayed (back.clauses 𝓤 H A mem run) (WpFn 𝓤 H (𝓣 .C) (𝓣 .Λ) code.function)
       (λ κs. (slice-vals, (uint-vals w64, ((λ (ws : List ℕ). machW ws ∷ []), tt)))) (λ κs. (mut-slice-tells (named 0) (κs .0) R, (uint-tells w64, (words-laws .tells, tt))))
       (λ κs qs bounds a g are. needs 𝓤 ((a .1 .0 ≤ length (a .0 .now)) × (a .1 .0 ≤ 512)) _ (λ pre.
-      walk 𝓤 H A W mem run (κs .0) (qs .0) (a .0 .ptr .0) (a .0 .ptr .1) (a .0 .name) (a .0 .now) (a .1 .0) (a .1 .1 .0) (are .0 .0 .1) (are .1 .0 .1) (are .1 .1 .0) (pre .0) (pre .1) (𝓣 .C) (𝓣 .Λ) (fmOf 𝓤 H (W .laws) 𝓣) known-gather))
+      walk 𝓤 H A W mem run (κs .0) (qs .0) (a .0 .ptr .0) (a .0 .ptr .1) (a .0 .name) (a .0 .now) (a .1 .0) (a .1 .1 .0) (are .0 .0 .1) (are .1 .0 .1) (are .1 .1 .0) (pre .0) (pre .1) (𝓣 .C) (𝓣 .Λ) (fmOf 𝓤 H (W .laws) 𝓣) known-deserialize))
 
   back-meets : Meets 𝓤 H A back.signature (WpFn 𝓤 H (𝓣 .C) (𝓣 .Λ) code.function) (back.spec 𝓤 H A mem run)
   back-meets =
@@ -191,4 +191,4 @@ put-back-spec 𝓤 H 𝓜 𝓖 𝓡 =
     entered 𝓤 H (tripleOf 𝓤 H (𝓖 .A) back.signature (back.spec 𝓤 H (𝓖 .A) (𝓜 .mem) (𝓡 .run)))
     (tables 𝓤 H 𝓜 𝓡 code.env .C) (tables 𝓤 H 𝓜 𝓡 code.env .Λ) #records·put-back code.function (code.unfolded 𝓤 H 𝓜 𝓡)
     (back-meets 𝓤 H (𝓖 .A) (givenOf 𝓤 H 𝓜 𝓖) (𝓜 .mem) (𝓡 .run) (tablesOf 𝓤 H 𝓜 (tables 𝓤 H 𝓜 𝓡 code.env))
-    (cited 𝓤 H (Gather 𝓤 H (𝓖 .A) (𝓜 .mem) (𝓡 .run)) 𝓜 𝓡 code.env #records·gather gather-def.routine code.calls-records·gather (gather-thm.met 𝓤 H 𝓜 𝓖 𝓡)))
+    (cited 𝓤 H (Deserialize 𝓤 H (𝓖 .A) (𝓜 .mem) (𝓡 .run)) 𝓜 𝓡 code.env #records·deserialize deserialize-def.routine code.calls-records·deserialize (deserialize-thm.met 𝓤 H 𝓜 𝓖 𝓡)))

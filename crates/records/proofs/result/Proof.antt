@@ -21,11 +21,11 @@ use denote.Triple.Statement.{Triple}
 use denote.Triple.Entry.{Args}
 use denote.Triple.Spec.{Meets, tripleOf}
 use denote.Triple.Table.{entered, cited}
-use Rattle.calls.specs.Replies.{resultedOf}
+use Rattle.calls.specs.Replies.{replyOfResult}
 use Rattle.calls.specs.Table as table
 use Rattle.calls.specs.Calls.{callOn}
-use Rattle.calls.proofs.Resulted as P
-use Rattle.calls.proofs.Resulted.Laws as P′
+use Rattle.calls.proofs.ResultAnswer as P
+use Rattle.calls.proofs.ResultAnswer.Laws as P′
 use Rattle.records.specs.Lent.{areaOn}
 use Rattle.records.proofs.Lent.{front-answer}
 use Rattle.records.proofs.Flattening.{Flatten}
@@ -46,7 +46,7 @@ abbrev Q : RattleType
 Q = P.the-row
 
 abbrev Says : Saying Q
-Says r j rs s = table.answer (resultedOf r) ≡ callOn (areaOn j rs s) table.result .answer
+Says r j rs s = table.answer (replyOfResult r) ≡ callOn (areaOn j rs s) table.result .answer
 
 on-front : OnFront Q Says
 on-front r j rs s e = e ∙ front-answer j rs s table.result

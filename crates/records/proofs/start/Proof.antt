@@ -49,14 +49,14 @@ use Rattle.area.proofs.JobRecord as J
 use Rattle.area.proofs.JobRecord.Laws as J′
 use Rattle.area.proofs.Settings as G
 use Rattle.area.proofs.Settings.Laws as G′
-use Rattle.calls.specs.declared.Answered.{Answered}
+use Rattle.calls.specs.declared.CallOutput.{CallOutput}
 use Rattle.calls.specs.Table as table
 use Rattle.calls.specs.Calls.{callOn}
-use Rattle.calls.proofs.Answered as N
-use Rattle.calls.proofs.Answered.Laws as N′
+use Rattle.calls.proofs.CallOutput as N
+use Rattle.calls.proofs.CallOutput.Laws as N′
 use Rattle.records.specs.declared.Flat.{Flat}
-use Rattle.records.specs.declared.FlatCalled.{FlatCalled}
-use Rattle.records.specs.Lent.{areaOn, calledOn, over, front}
+use Rattle.records.specs.declared.FlatOutput.{FlatOutput}
+use Rattle.records.specs.Lent.{areaOn, callResultOn, over, front}
 use Rattle.records.proofs.Shared.{LentShared, lends-shared, shared-back}
 use Rattle.records.proofs.Lent.{front-leaves}
 use Rattle.records.proofs.Words.{held-back, F, machF}
@@ -64,8 +64,8 @@ use Rattle.records.proofs.Flattening.{R, JR, machJ, GR, machG, Flattens
 use Rattle.records.proofs.Writing.{D, Q, machQ, Back, Lent, to-flatten, goes-flatten, to-back, goes-back}
 use Rattle.records.proofs.Flat as U
 use Rattle.records.proofs.Flat.Laws as U′
-use Rattle.records.proofs.FlatCalled as K
-use Rattle.records.proofs.FlatCalled.Laws as K′
+use Rattle.records.proofs.FlatOutput as K
+use Rattle.records.proofs.FlatOutput.Laws as K′
 use Rattle.records.proofs.flatten as flatten
 use Rattle.records.proofs.flatten.Symbol as flatten-def
 use Rattle.records.proofs.flatten.Symbol.{name as #records·flatten}
@@ -122,14 +122,14 @@ module _ {M : Type 1} (𝓤 : URA M) (H : Heap 𝓤) (A : Atoms 𝓤) (W : Given
   Post = walkOf 𝓤 H A call.ended stayed (call.clauses 𝓤 H A mem run) .post (((κ₀, (κ₁, tt)), (q₀, (q₁, tt)), tt, a, at), tt)
 
   -- what the contract says
-  abbrev Says : Answered → List IndexRecord → List ℤ → Type 0
-  Says r l k = calledOn r l k ≡ callOn (areaOn j ys (y .now)) (table.start g)
+  abbrev Says : CallOutput → List IndexRecord → List ℤ → Type 0
+  Says r l k = callResultOn r l k ≡ callOn (areaOn j ys (y .now)) (table.start g)
 
   -- what the contract of the call on cells says
-  abbrev SaysFlat : FlatCalled → Flat → List ℤ → Type 0
-  SaysFlat d f k = calledOn (d .answer) (front (f .count) (d .words)) k ≡ callOn (areaOn j (front (f .count) (f .words)) (y .now)) (table.start g)
+  abbrev SaysFlat : FlatOutput → Flat → List ℤ → Type 0
+  SaysFlat d f k = callResultOn (d .answer) (front (f .count) (d .words)) k ≡ callOn (areaOn j (front (f .count) (f .words)) (y .now)) (table.start g)
 
-  exits : (r : Answered) (l : List IndexRecord) → Says r l (y .now) → Is Q r (machQ r ∷ []) → length l ≡ length ys
+  exits : (r : CallOutput) (l : List IndexRecord) → Says r l (y .now) → Is Q r (machQ r ∷ []) → length l ≡ length ys
       → ent 𝓤 (⋆ 𝓤 H A ((‵ (flft κ₀ q₀) ⊛ ‵ ftrue) ∷ (‵ (flft κ₁ q₁) ⊛ ‵ ftrue) ∷ ‵ (finally R γ l) ∷ ‵ Owny ∷ [])) (Post (machQ r))
   exits r l e r-is same =
       qed W ((‵ (flft κ₀ q₀) ⊛ ‵ ftrue) ∷ (‵ (flft κ₁ q₁) ⊛ ‵ ftrue) ∷ ‵ (finally R γ l) ∷ ‵ Owny ∷ []) ∵
@@ -153,7 +153,7 @@ module _ {M : Type 1} (𝓤 : URA M) (H : Heap 𝓤) (A : Atoms 𝓤) (W : Given
       nothing ! $ move ! (1 ∷ 0 ∷ []) $ fjoin ! $ owned ! F (Is F) (LL.makes U.the-type U′.the-plain 𝓤 H A) f _ f-is $ fjoin ! $ owned ! GR (Is GR) (LL.makes G.the-type G′.the-plain 𝓤 H A) g _ g-is $ fjoin ! $ owned ! JR (Is JR) (LL.makes J.the-type J′.the-plain 𝓤 H A) j _ j-is $ fjoin ! $ done !
 
   -- the call on the front, with its records put back, is the call on all
-  answered : (f : Flat) (d : FlatCalled) (l : List IndexRecord) (k : List ℤ) → Flattens f ys → SaysFlat d f k → l ≡ over (f .count) (recordsOf (d .words)) ys → Says (d .answer) l k
+  answered : (f : Flat) (d : FlatOutput) (l : List IndexRecord) (k : List ℤ) → Flattens f ys → SaysFlat d f k → l ≡ over (f .count) (recordsOf (d .words)) ys → Says (d .answer) l k
   answered f d l k e called put =
       front-leaves j ys (y .now) (table.start g) (d .answer) (d .words) k l (f .count) (e .0) (called ∙ ap (λ (z : List IndexRecord). callOn (areaOn j z (y .now)) (table.start g)) (e .1)) put
 
@@ -185,7 +185,7 @@ module _ {M : Type 1} (𝓤 : URA M) (H : Heap 𝓤) (A : Atoms 𝓤) (W : Given
         -- `flat_start`: [the records; the records' token; …; _11; …; _0; …; the store's token; the store; the store]
         move ! (27 ∷ 28 ∷ []) $ use2 W (raw (OnCells 𝓤 H A mem run .pre (to-flat f))) (goes-flat f f-is (small f ys e)) $
         calls-at ! fm (OnCells 𝓤 H A mem run) known-flat (to-flat f) (and-then ! (load ! (from ! (stop !)) (look ! 24 refl)) (and-then ! (load ! (from ! (stop !)) (look ! 22 refl)) (and-then ! (load ! (from ! (stop !)) (look ! 16 refl)) (and-then ! (load ! (from ! (stop !)) (look ! 18 refl)) (no-more !))))) (λ v.
-        use1 W (later (some (λ (d : FlatCalled). ((‵ (flft κ₁ q₁) ⊛ ‵ ftrue) ⊛ ‵ (D .own d (v ∷ []))) ⊛ raw (ensured 𝓤 H A flat.ended (flat.clauses 𝓤 H A mem run) (κ₁, tt) (passed f) tt d)))) (id⊢ 𝓤 _) $ await ! tt $ pick ! (λ d.
+        use1 W (later (some (λ (d : FlatOutput). ((‵ (flft κ₁ q₁) ⊛ ‵ ftrue) ⊛ ‵ (D .own d (v ∷ []))) ⊛ raw (ensured 𝓤 H A flat.ended (flat.clauses 𝓤 H A mem run) (κ₁, tt) (passed f) tt d)))) (id⊢ 𝓤 _) $ await ! tt $ pick ! (λ d.
         split ! $ move ! (1 ∷ []) $ use1 W (some (λ (ws : Unit {0} × (Unit {0} × (Unit {0} × (Unit {0} × Unit {0})))). ‵ (lasts flat.ended (κ₁, tt) (passed f) ws) ⊛ raw (fact 𝓤 (SaysFlat d f (y .now))))) (id⊢ 𝓤 _) $ pick ! (λ ws.
         split ! $ move ! (1 ∷ []) $ heard ! (SaysFlat d f (y .now)) (λ e′. drop ! $ split ! $ move ! (1 ∷ []) $
         facts ! D (Is D) (shows 𝓤 H A D) d (v ∷ []) (λ is′. land ! (from ! (stop !)) (init ! 14 refl (LL.lawful K.the-type K′.the-laws 𝓤 H A W .typed d _ is′ .0)) $

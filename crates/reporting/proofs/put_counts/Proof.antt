@@ -1,7 +1,7 @@
 -- `reporting::put_counts` meets its contract: five lines, one after the other. Assumes nothing.
 use borrow.Author.Needs.{needs}
 use native.Mathlib.Omega.{arith}
-use Rattle.reporting.specs.Code.{countLines, figuresIn}
+use Rattle.reporting.specs.Code.{countLines, reportValuesIn}
 use Rattle.reporting.proofs.Writing.{kept, then}
 use Rattle.reporting.proofs.put_counts.Statement.{statement}
 use Rattle.reporting.proofs.put_counts.Tie as tie
@@ -63,7 +63,7 @@ put-line-requires-5 c κs =
     (omega arith, omega (arith, kept w, l1 .put-line .ensures .1, l2 .put-line2 .ensures .1, l3 .put-line3 .ensures .1, l4 .put-line4 .ensures .1, l1 .before .before .before .before .before .pre))
 
 returns : tie.Need-returns
-unfolding countLines figuresIn
+unfolding countLines reportValuesIn
 returns c =
     let l5 = c .before .before in
     let l4 = l5 .before .before .before .before .before .before in

@@ -3,7 +3,7 @@ use borrow.Author.Needs.{needs, sfits-of}
 use native.Mathlib.Omega.{arith}
 use Rattle.reporting.specs.Decimal.{signedDecimal}
 use Rattle.reporting.specs.Text.{line, scaledWord}
-use Rattle.reporting.specs.Code.{sumLines, figuresIn}
+use Rattle.reporting.specs.Code.{sumLines, reportValuesIn}
 use Rattle.reporting.proofs.Writing.{kept, then}
 use Rattle.reporting.proofs.Signs.{read-says}
 use Rattle.reporting.proofs.put_sums.Statement.{statement}
@@ -54,14 +54,14 @@ put-ending-requires c κs =
     omega (arith, kept w, l1 .put-line .ensures .1, l2 .put-line2 .ensures .1, l3 .put-signed-line .ensures .1, l4 .put-line3 .ensures .1, l1 .before .before .before .before .pre)
 
 returns : tie.Need-returns
-unfolding sumLines figuresIn
+unfolding sumLines reportValuesIn
 returns c =
     let l5 = c .before .before in
     let l4 = l5 .before .before .before .before in
     let l3 = l4 .before .before .before .before .before .before in
     let l2 = l3 .before .before .before .before .before .before in
     let l1 = l2 .before .before .before .before .before .before in
-    let scaled = l1 .before .before .before .before .args .figures .scaled in
+    let scaled = l1 .before .before .before .before .args .values .scaled in
     let fits = sfits-of (l3 .before .struct-told .given .1 .1 .1 .1 .1 .1 .1 .0 .1) in
     let signed = read-says scaled fits (λ z. line scaledWord (signedDecimal z)) (l3 .put-signed-line .ensures .0) in
     then (then (then (then (l1 .put-line .ensures .0) (l2 .put-line2 .ensures .0)) signed) (l4 .put-line3 .ensures .0)) (l5 .put-ending .ensures)

@@ -3,9 +3,9 @@ use mathlib.Core.Path.{ap, sym, subst}
 use native.Mathlib.Omega.{arith}
 use denote.Ref.{now}
 use Rattle.area.specs.Encoding.{areaOf, machineOf}
-use Rattle.writing.specs.Settled.{Settled}
-use Rattle.running.specs.Code.{LeftByStep}
-use Rattle.running.proofs.Going.{over, refused, ends, delivers, promotes}
+use Rattle.writing.specs.ValidArea.{ValidArea}
+use Rattle.running.specs.Code.{StepPostcondition}
+use Rattle.running.proofs.StepCases.{over, refused, ends, delivers, promotes}
 use borrow.Author.Needs.{needs}
 use Prim.Native.Nat.{ℕ, _<_}
 use borrow.Fn.Kinds.{In}
@@ -113,8 +113,8 @@ run-from-put-ended-requires : (t : ℕ) → run-from-lts.Need-put-ended-requires
 ) (run-from-at t) run-from.Post
 run-from-put-ended-requires t c κs =
     let s = c .before .before .before .before .before .before .before .before .before .before .before .before .before .before .before .before .before .before in
-    let same = subst (λ x. LeftByStep (s .args .entries) (s .args .used) (s .args .job) (now (s .args .cells)) (now (s .args .store)) x (c .before .before .before .before .before .before .before .before .before .before .next-step .last .1 .1 .1 .1 .1 .0) (c .before .before .before .before .before .before .before .before .before .before .next-step .last .1 .1 .1 .1 .1 .1 .0)) (c .before .before .before .before .next2 .given .1) (c .before .before .before .before .before .before .before .before .before .before .next-step .ensures .1) in (
-      subst Settled (sym same) (s .pre .1 .0 .0),
+    let same = subst (λ x. StepPostcondition (s .args .entries) (s .args .used) (s .args .job) (now (s .args .cells)) (now (s .args .store)) x (c .before .before .before .before .before .before .before .before .before .before .next-step .last .1 .1 .1 .1 .1 .0) (c .before .before .before .before .before .before .before .before .before .before .next-step .last .1 .1 .1 .1 .1 .1 .0)) (c .before .before .before .before .next2 .given .1) (c .before .before .before .before .before .before .before .before .before .before .next-step .ensures .1) in (
+      subst ValidArea (sym same) (s .pre .1 .0 .0),
       omega (arith, s .pre .1 .0 .2, s .pre .1 .0 .1 .entries-at-most),
       s .pre .1 .1 .1,
     )
@@ -167,7 +167,7 @@ run-from-run-from-requires : (t : ℕ) → run-from-lts.Need-run-from-requires (
 ) (run-from-at t) run-from.Post
 run-from-run-from-requires t c κs =
     let s = c .before .before .before .before .before .before .before .before .before .before .before .before .before .before .before .before .before .before .before in
-    let gone = subst (λ x. LeftByStep (s .args .entries) (s .args .used) (s .args .job) (now (s .args .cells)) (now (s .args .store)) x (c .before .before .before .before .before .before .before .before .before .before .before .next-step .last .1 .1 .1 .1 .1 .0) (c .before .before .before .before .before .before .before .before .before .before .before .next-step .last .1 .1 .1 .1 .1 .1 .0)) (c .before .before .before .before .before .next3 .given .1) (c .before .before .before .before .before .before .before .before .before .before .before .next-step .ensures .1) in (
+    let gone = subst (λ x. StepPostcondition (s .args .entries) (s .args .used) (s .args .job) (now (s .args .cells)) (now (s .args .store)) x (c .before .before .before .before .before .before .before .before .before .before .before .next-step .last .1 .1 .1 .1 .1 .0) (c .before .before .before .before .before .before .before .before .before .before .before .next-step .last .1 .1 .1 .1 .1 .1 .0)) (c .before .before .before .before .before .next3 .given .1) (c .before .before .before .before .before .before .before .before .before .before .before .next-step .ensures .1) in (
       omega (arith, s .pre .0, c .before .before .before .before .before .before .before .before .before .before .before .before .before .before .before .if1 .left),
       ((gone .0, s .pre .1 .0 .1, s .pre .1 .0 .2, omega (arith, c .before .before .before .before .before .before .before .before .before .before .before .next-step .kept .1 .1 .1 .1 .0, s .pre .1 .0 .3)), (omega (arith, gone .1), s .pre .1 .1 .1)),
     )
@@ -208,7 +208,7 @@ run-from-run-from-requires-2 : (t : ℕ) → run-from-lts.Need-run-from-requires
 ) (run-from-at t) run-from.Post
 run-from-run-from-requires-2 t c κs =
     let s = c .before .before .before .before .before .before .before .before .before .before .before .before .before .before .before .before .before .before .before in
-    let gone = subst (λ x. LeftByStep (s .args .entries) (s .args .used) (s .args .job) (now (s .args .cells)) (now (s .args .store)) x (c .before .before .before .before .before .before .before .before .before .before .before .next-step .last .1 .1 .1 .1 .1 .0) (c .before .before .before .before .before .before .before .before .before .before .before .next-step .last .1 .1 .1 .1 .1 .1 .0)) (c .before .before .before .before .before .next4 .given .1) (c .before .before .before .before .before .before .before .before .before .before .before .next-step .ensures .1) in (
+    let gone = subst (λ x. StepPostcondition (s .args .entries) (s .args .used) (s .args .job) (now (s .args .cells)) (now (s .args .store)) x (c .before .before .before .before .before .before .before .before .before .before .before .next-step .last .1 .1 .1 .1 .1 .0) (c .before .before .before .before .before .before .before .before .before .before .before .next-step .last .1 .1 .1 .1 .1 .1 .0)) (c .before .before .before .before .before .next4 .given .1) (c .before .before .before .before .before .before .before .before .before .before .before .next-step .ensures .1) in (
       omega (arith, s .pre .0, c .before .before .before .before .before .before .before .before .before .before .before .before .before .before .before .if1 .left),
       ((gone, s .pre .1 .0 .1, s .pre .1 .0 .2, omega (arith, c .before .before .before .before .before .before .before .before .before .before .before .next-step .kept .1 .1 .1 .1 .0, s .pre .1 .0 .3)), s .pre .1 .1),
     )
@@ -335,7 +335,7 @@ run-from-returns-3 : (t : ℕ) → run-from-lts.Need-returns-3 (
 ) (run-from-at t) run-from.Post
 run-from-returns-3 t c =
     let s = c .before .before .before .before .before .before .before .before .before .before .before .before .before .before .before .before .before .before .before .before .before in
-    let same = subst (λ x. LeftByStep (s .args .entries) (s .args .used) (s .args .job) (now (s .args .cells)) (now (s .args .store)) x (c .before .before .before .before .before .before .before .before .before .before .before .before .before .next-step .last .1 .1 .1 .1 .1 .0) (c .before .before .before .before .before .before .before .before .before .before .before .before .before .next-step .last .1 .1 .1 .1 .1 .1 .0)) (c .before .before .before .before .before .before .before .next2 .given .1) (c .before .before .before .before .before .before .before .before .before .before .before .before .before .next-step .ensures .1) in
+    let same = subst (λ x. StepPostcondition (s .args .entries) (s .args .used) (s .args .job) (now (s .args .cells)) (now (s .args .store)) x (c .before .before .before .before .before .before .before .before .before .before .before .before .before .next-step .last .1 .1 .1 .1 .1 .0) (c .before .before .before .before .before .before .before .before .before .before .before .before .before .next-step .last .1 .1 .1 .1 .1 .1 .0)) (c .before .before .before .before .before .before .before .next2 .given .1) (c .before .before .before .before .before .before .before .before .before .before .before .before .before .next-step .ensures .1) in
     ends (now (s .args .bytes)) (s .args .entries) (s .args .left) (s .args .used) (machineOf (areaOf (s .args .job) (now (s .args .cells)) (now (s .args .store)))) (c .before .before .before .before .before .before .before .before .before .before .before .before .before .next-step .result) (c .before .before .before .before .before .before .before .before .before .before .before .before .before .next-step .last .1 .1 .1 .1 .1 .0) (c .before .before .before .before .before .before .before .before .before .before .before .before .before .next-step .last .1 .1 .1 .1 .1 .1 .0) (c .before .before .before .before .before .before .before .before .before .before .before .before .before .before .before .before .before .if1 .left) (c .before .before .before .before .before .before .before .before .before .before .before .before .before .next-step .ensures .0) (now (s .args .report)) _ _ _ (c .before .before .before .before .before .before .before .next2 .given .1) _ (ap machineOf same) (c .before .before .put-ended .ensures)
 
 run-from-same-length-9 : (t : ℕ) → run-from-lts.Need-same-length-9 (

@@ -10,9 +10,9 @@ use Rattle.area.specs.Encoding.{areaOf, machineOf}
 use Rattle.machine.specs.Areas.{deliverOn}
 use Rattle.machine.specs.Causes.{inRange}
 use Rattle.jobfile.specs.File.{entryOf}
-use Rattle.calls.proofs.Settling.{held-there}
-use Rattle.running.specs.Course.{firstBad, refusedAt}
-use Rattle.running.specs.Code.{afterGiven}
+use Rattle.calls.proofs.Validity.{held-there}
+use Rattle.running.specs.Execution.{firstOutOfRange, refusedAt}
+use Rattle.running.specs.Code.{afterDelivery}
 use Rattle.running.proofs.Deliveries.{levels-within, count-is, count-refused, range-refused, in-range, done, block-front, long-enough}
 use borrow.Author.Needs.{needs}
 use Rattle.running.proofs.deliver_entry.Statement.{statement}
@@ -62,7 +62,7 @@ same-length : tie.Need-same-length
 same-length c = search needs
 
 returns : tie.Need-returns
-unfolding afterGiven
+unfolding afterDelivery
 returns c =
     let s = c .before .before .before .before .before .before .before .before .before .before in (
       count-refused (s .args .job) (now (s .args .cells)) (now (s .args .store)) (s .pre .0 .0) (s .args .place) (s .pre .0 .1) (s .pre .0 .2) (now (s .args .bytes)) (s .args .i)
@@ -78,14 +78,14 @@ read-block-requires c κs =
       omega (arith, c .before .before .before .before .before .before .before .four-at2 .ensures, f .readings-at-most (s .args .i) (s .pre .1 .1), s .pre .1 .2),
     )
 
-slice-reshare-prefix-first-bad : tie.Need-slice-reshare-prefix-first-bad
-slice-reshare-prefix-first-bad c = let s = c .before .before .before .before .before .before .before .before .before .before .before .before .before in long-enough (now (s .args .bytes)) (c .before .before .before .before .before .before .before .before .before .four-at2 .result) (c .before .before .before .before .before .before .before .before .four-at3 .result) (now (s .args .block)) _ (c .before .read-block .ensures)
+slice-reshare-prefix-first-out-of-range : tie.Need-slice-reshare-prefix-first-out-of-range
+slice-reshare-prefix-first-out-of-range c = let s = c .before .before .before .before .before .before .before .before .before .before .before .before .before in long-enough (now (s .args .bytes)) (c .before .before .before .before .before .before .before .before .before .four-at2 .result) (c .before .before .before .before .before .before .before .before .four-at3 .result) (now (s .args .block)) _ (c .before .read-block .ensures)
 
-slice-aggregate-first-bad : tie.Need-slice-aggregate-first-bad
-slice-aggregate-first-bad c = let s = c .before .before .before .before .before .before .before .before .before .before .before .before .before .before in sym (length-take-le (c .before .before .before .before .before .before .before .before .before .before .four-at2 .result) _ (long-enough (now (s .args .bytes)) (c .before .before .before .before .before .before .before .before .before .before .four-at2 .result) (c .before .before .before .before .before .before .before .before .before .four-at3 .result) (now (s .args .block)) _ (c .before .before .read-block .ensures)))
+slice-aggregate-first-out-of-range : tie.Need-slice-aggregate-first-out-of-range
+slice-aggregate-first-out-of-range c = let s = c .before .before .before .before .before .before .before .before .before .before .before .before .before .before in sym (length-take-le (c .before .before .before .before .before .before .before .before .before .before .four-at2 .result) _ (long-enough (now (s .args .bytes)) (c .before .before .before .before .before .before .before .before .before .before .four-at2 .result) (c .before .before .before .before .before .before .before .before .before .four-at3 .result) (now (s .args .block)) _ (c .before .before .read-block .ensures)))
 
-first-bad-requires : tie.Need-first-bad-requires
-first-bad-requires c κs = search needs
+first-out-of-range-requires : tie.Need-first-out-of-range-requires
+first-out-of-range-requires c κs = search needs
 
 mul-t28 : tie.Need-mul-t28
 mul-t28 c = search needs
@@ -100,12 +100,12 @@ same-length-3 : tie.Need-same-length-3
 same-length-3 c = search needs
 
 returns-2 : tie.Need-returns-2
-unfolding afterGiven
+unfolding afterDelivery
 returns-2 c =
     let s = c .before .before .before .before .before .before .before .before .before .before .before .before .before .before .before .before in
     let front : take (c .before .before .before .before .before .before .before .before .before .before .before .before .four-at2 .result) (c .before .before .before .before .read-block .last .1 .1 .1 .0) ≡ entryOf (now (s .args .bytes)) (s .args .i) .readings = ap (take (c .before .before .before .before .before .before .before .before .before .before .before .before .four-at2 .result)) (c .before .before .before .before .read-block .ensures) ∙ block-front (now (s .args .bytes)) (s .args .i) (c .before .before .before .before .before .before .before .before .before .before .before .before .four-at2 .result) (c .before .before .before .before .before .before .before .before .before .before .before .four-at3 .result) (drop (c .before .before .before .before .before .before .before .before .before .before .before .before .four-at2 .result) (now (s .args .block))) (c .before .before .before .before .before .before .before .before .before .before .before .before .four-at2 .ensures) (c .before .before .before .before .before .before .before .before .before .before .before .four-at3 .ensures) in (
-      λ n. range-refused (s .args .job) (now (s .args .cells)) (now (s .args .store)) (s .pre .0 .0) (s .args .place) (s .pre .0 .1) (s .pre .0 .2) (now (s .args .bytes)) (s .args .i) (sym (c .before .before .before .before .before .before .before .before .before .before .before .before .four-at2 .ensures) ∙ c .before .before .before .before .before .before .if1 .left ∙ c .before .before .before .before .before .before .before .reading-count .ensures ∙ count-is (s .args .job) (now (s .args .cells)) (now (s .args .store)) (s .pre .0 .0) (s .args .place) (s .pre .0 .1) (s .pre .0 .2) (c .before .before .before .before .before .before .before .before .levels-at .result) (c .before .before .before .before .before .before .before .before .levels-at .ensures)) (omega (arith, c .before .first-bad .ensures, ap firstBad front, c .if2 .taken, c .before .before .before .before .before .before .before .before .before .before .before .before .four-at2 .ensures)) n
-          ∙ ap₂ (λ x y. refusedAt 8 (x + 4 * y)) (sym (c .before .before .before .before .before .before .before .before .before .before .before .four-at3 .ensures)) (sym (c .before .first-bad .ensures ∙ ap firstBad front)),
+      λ n. range-refused (s .args .job) (now (s .args .cells)) (now (s .args .store)) (s .pre .0 .0) (s .args .place) (s .pre .0 .1) (s .pre .0 .2) (now (s .args .bytes)) (s .args .i) (sym (c .before .before .before .before .before .before .before .before .before .before .before .before .four-at2 .ensures) ∙ c .before .before .before .before .before .before .if1 .left ∙ c .before .before .before .before .before .before .before .reading-count .ensures ∙ count-is (s .args .job) (now (s .args .cells)) (now (s .args .store)) (s .pre .0 .0) (s .args .place) (s .pre .0 .1) (s .pre .0 .2) (c .before .before .before .before .before .before .before .before .levels-at .result) (c .before .before .before .before .before .before .before .before .levels-at .ensures)) (omega (arith, c .before .first-out-of-range .ensures, ap firstOutOfRange front, c .if2 .taken, c .before .before .before .before .before .before .before .before .before .before .before .before .four-at2 .ensures)) n
+          ∙ ap₂ (λ x y. refusedAt 8 (x + 4 * y)) (sym (c .before .before .before .before .before .before .before .before .before .before .before .four-at3 .ensures)) (sym (c .before .first-out-of-range .ensures ∙ ap firstOutOfRange front)),
       tt,
     )
 
@@ -120,7 +120,7 @@ unfolding machineOf
 deliver-requires c κs =
     let s = c .before .before .before .before .before .before .before .before .before .before .before .before .before .before .before .before .before .before .before in
     let front : take (c .before .before .before .before .before .before .before .before .before .before .before .before .before .before .before .four-at2 .result) (c .before .before .before .before .before .before .before .read-block .last .1 .1 .1 .0) ≡ entryOf (now (s .args .bytes)) (s .args .i) .readings = ap (take (c .before .before .before .before .before .before .before .before .before .before .before .before .before .before .before .four-at2 .result)) (c .before .before .before .before .before .before .before .read-block .ensures) ∙ block-front (now (s .args .bytes)) (s .args .i) (c .before .before .before .before .before .before .before .before .before .before .before .before .before .before .before .four-at2 .result) (c .before .before .before .before .before .before .before .before .before .before .before .before .before .before .four-at3 .result) (drop (c .before .before .before .before .before .before .before .before .before .before .before .before .before .before .before .four-at2 .result) (now (s .args .block))) (c .before .before .before .before .before .before .before .before .before .before .before .before .before .before .before .four-at2 .ensures) (c .before .before .before .before .before .before .before .before .before .before .before .before .before .before .four-at3 .ensures) in
-    let fits = in-range (s .args .job) (now (s .args .cells)) (now (s .args .store)) (s .pre .0 .0) (s .args .place) (s .pre .0 .1) (s .pre .0 .2) (now (s .args .bytes)) (s .args .i) (sym (c .before .before .before .before .before .before .before .before .before .before .before .before .before .before .before .four-at2 .ensures) ∙ c .before .before .before .before .before .before .before .before .before .if1 .left ∙ c .before .before .before .before .before .before .before .before .before .before .reading-count .ensures ∙ count-is (s .args .job) (now (s .args .cells)) (now (s .args .store)) (s .pre .0 .0) (s .args .place) (s .pre .0 .1) (s .pre .0 .2) (c .before .before .before .before .before .before .before .before .before .before .before .levels-at .result) (c .before .before .before .before .before .before .before .before .before .before .before .levels-at .ensures)) (omega (arith, c .before .before .before .before .first-bad .ensures, ap firstBad front, c .before .before .before .if2 .left, c .before .before .before .before .before .before .before .before .before .before .before .before .before .before .before .four-at2 .ensures)) in (
+    let fits = in-range (s .args .job) (now (s .args .cells)) (now (s .args .store)) (s .pre .0 .0) (s .args .place) (s .pre .0 .1) (s .pre .0 .2) (now (s .args .bytes)) (s .args .i) (sym (c .before .before .before .before .before .before .before .before .before .before .before .before .before .before .before .four-at2 .ensures) ∙ c .before .before .before .before .before .before .before .before .before .if1 .left ∙ c .before .before .before .before .before .before .before .before .before .before .reading-count .ensures ∙ count-is (s .args .job) (now (s .args .cells)) (now (s .args .store)) (s .pre .0 .0) (s .args .place) (s .pre .0 .1) (s .pre .0 .2) (c .before .before .before .before .before .before .before .before .before .before .before .levels-at .result) (c .before .before .before .before .before .before .before .before .before .before .before .levels-at .ensures)) (omega (arith, c .before .before .before .before .first-out-of-range .ensures, ap firstOutOfRange front, c .before .before .before .if2 .left, c .before .before .before .before .before .before .before .before .before .before .before .before .before .before .before .four-at2 .ensures)) in (
       s .pre .0,
       (length-take-le (c .before .before .before .before .before .before .before .before .before .before .before .before .before .before .before .four-at2 .result) _ (long-enough (now (s .args .bytes)) (c .before .before .before .before .before .before .before .before .before .before .before .before .before .before .before .four-at2 .result) (c .before .before .before .before .before .before .before .before .before .before .before .before .before .before .four-at3 .result) (now (s .args .block)) _ (c .before .before .before .before .before .before .before .read-block .ensures)) ∙ c .before .before .before .before .before .before .before .before .before .before .before .before .before .before .before .four-at2 .ensures ∙ (sym (c .before .before .before .before .before .before .before .before .before .before .before .before .before .before .before .four-at2 .ensures) ∙ c .before .before .before .before .before .before .before .before .before .if1 .left ∙ c .before .before .before .before .before .before .before .before .before .before .reading-count .ensures ∙ count-is (s .args .job) (now (s .args .cells)) (now (s .args .store)) (s .pre .0 .0) (s .args .place) (s .pre .0 .1) (s .pre .0 .2) (c .before .before .before .before .before .before .before .before .before .before .before .levels-at .result) (c .before .before .before .before .before .before .before .before .before .before .before .levels-at .ensures)), ap inRange front ∙ fits),
     )
@@ -135,11 +135,11 @@ same-length-6 : tie.Need-same-length-6
 same-length-6 c = search needs
 
 returns-3 : tie.Need-returns-3
-unfolding afterGiven entryOf
+unfolding afterDelivery entryOf
 returns-3 c =
     let s = c .before .before .before .before .before .before .before .before .before .before .before .before .before .before .before .before .before .before .before .before .before .before .before in
     let front : take (c .before .before .before .before .before .before .before .before .before .before .before .before .before .before .before .before .before .before .before .four-at2 .result) (c .before .before .before .before .before .before .before .before .before .before .before .read-block .last .1 .1 .1 .0) ≡ entryOf (now (s .args .bytes)) (s .args .i) .readings = ap (take (c .before .before .before .before .before .before .before .before .before .before .before .before .before .before .before .before .before .before .before .four-at2 .result)) (c .before .before .before .before .before .before .before .before .before .before .before .read-block .ensures) ∙ block-front (now (s .args .bytes)) (s .args .i) (c .before .before .before .before .before .before .before .before .before .before .before .before .before .before .before .before .before .before .before .four-at2 .result) (c .before .before .before .before .before .before .before .before .before .before .before .before .before .before .before .before .before .before .four-at3 .result) (drop (c .before .before .before .before .before .before .before .before .before .before .before .before .before .before .before .before .before .before .before .four-at2 .result) (now (s .args .block))) (c .before .before .before .before .before .before .before .before .before .before .before .before .before .before .before .before .before .before .before .four-at2 .ensures) (c .before .before .before .before .before .before .before .before .before .before .before .before .before .before .before .before .before .before .four-at3 .ensures) in (
-      done (s .args .job) (now (s .args .cells)) (now (s .args .store)) (s .pre .0 .0) (s .args .place) (s .pre .0 .1) (s .pre .0 .2) (now (s .args .bytes)) (s .args .i) (sym (c .before .before .before .before .before .before .before .before .before .before .before .before .before .before .before .before .before .before .before .four-at2 .ensures) ∙ c .before .before .before .before .before .before .before .before .before .before .before .before .before .if1 .left ∙ c .before .before .before .before .before .before .before .before .before .before .before .before .before .before .reading-count .ensures ∙ count-is (s .args .job) (now (s .args .cells)) (now (s .args .store)) (s .pre .0 .0) (s .args .place) (s .pre .0 .1) (s .pre .0 .2) (c .before .before .before .before .before .before .before .before .before .before .before .before .before .before .before .levels-at .result) (c .before .before .before .before .before .before .before .before .before .before .before .before .before .before .before .levels-at .ensures)) (omega (arith, c .before .before .before .before .before .before .before .before .first-bad .ensures, ap firstBad front, c .before .before .before .before .before .before .before .if2 .left, c .before .before .before .before .before .before .before .before .before .before .before .before .before .before .before .before .before .before .before .four-at2 .ensures)) _
+      done (s .args .job) (now (s .args .cells)) (now (s .args .store)) (s .pre .0 .0) (s .args .place) (s .pre .0 .1) (s .pre .0 .2) (now (s .args .bytes)) (s .args .i) (sym (c .before .before .before .before .before .before .before .before .before .before .before .before .before .before .before .before .before .before .before .four-at2 .ensures) ∙ c .before .before .before .before .before .before .before .before .before .before .before .before .before .if1 .left ∙ c .before .before .before .before .before .before .before .before .before .before .before .before .before .before .reading-count .ensures ∙ count-is (s .args .job) (now (s .args .cells)) (now (s .args .store)) (s .pre .0 .0) (s .args .place) (s .pre .0 .1) (s .pre .0 .2) (c .before .before .before .before .before .before .before .before .before .before .before .before .before .before .before .levels-at .result) (c .before .before .before .before .before .before .before .before .before .before .before .before .before .before .before .levels-at .ensures)) (omega (arith, c .before .before .before .before .before .before .before .before .first-out-of-range .ensures, ap firstOutOfRange front, c .before .before .before .before .before .before .before .if2 .left, c .before .before .before .before .before .before .before .before .before .before .before .before .before .before .before .before .before .before .before .four-at2 .ensures)) _
           (c .before .before .before .deliver .ensures .0 ∙ ap₂ (deliverOn (areaOf (s .args .job) (now (s .args .cells)) (now (s .args .store)))) front (c .before .before .before .before .before .before .before .before .before .before .before .before .before .before .before .before .before .before .before .before .four-at .ensures)),
       c .before .before .before .deliver .ensures .1,
     )
@@ -163,9 +163,9 @@ deliver-entry-spec =
     same-length
     returns
     read-block-requires
-    slice-reshare-prefix-first-bad
-    slice-aggregate-first-bad
-    first-bad-requires
+    slice-reshare-prefix-first-out-of-range
+    slice-aggregate-first-out-of-range
+    first-out-of-range-requires
     mul-t28
     add-t29
     same-length-2

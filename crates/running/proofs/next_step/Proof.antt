@@ -4,10 +4,10 @@ use Prim.Native.Nat.{_<_}
 use native.Mathlib.Omega.{arith}
 use denote.Ref.{now}
 use Rattle.area.specs.Encoding.{areaOf, machineOf}
-use Rattle.calls.proofs.Settling.{held-there}
+use Rattle.calls.proofs.Validity.{held-there}
 use Rattle.reporting.specs.Code.{endingIn}
-use Rattle.running.specs.Code.{afterStep, LeftByStep}
-use Rattle.running.proofs.Stepping.{way-short, way-deliver, way-promote, place-is, wanted-there, none-there, wanted-none, given-step, given-left, promoted-step, promoted-left}
+use Rattle.running.specs.Code.{afterStep, StepPostcondition}
+use Rattle.running.proofs.Stepping.{way-short, way-deliver, way-promote, place-is, wanted-there, none-there, wanted-none, delivery-step, delivery-left, promoted-step, promoted-left}
 use borrow.Author.Needs.{needs}
 use Rattle.running.proofs.next_step.Statement.{statement}
 use Rattle.running.proofs.next_step.Tie as tie
@@ -36,8 +36,8 @@ deliver-entry-requires c κs =
       (s .pre .1, omega (arith, s .pre .2, c .before .before .before .if2 .left), s .pre .3),
     )
 
-step-of-given-requires : tie.Need-step-of-given-requires
-step-of-given-requires c κs = search needs
+step-of-delivery-requires : tie.Need-step-of-delivery-requires
+step-of-delivery-requires c κs = search needs
 
 same-length-2 : tie.Need-same-length-2
 same-length-2 c = search needs
@@ -54,10 +54,10 @@ returns-2 c =
     let inside : s .args .used < s .args .entries = omega (arith, c .before .before .before .before .before .before .before .before .before .if2 .left) in (
       λ n. way-deliver (now (s .args .bytes)) n (machineOf (areaOf (s .args .job) (now (s .args .cells)) (now (s .args .store)))) (s .args .used) (wanted-there (s .args .job) (now (s .args .cells)) (now (s .args .store)) (s .pre .0) (c .before .before .before .before .before .before .before .before .before .before .before .first-wanted .result) (c .before .before .before .before .before .before .before .before .before .before .before .first-wanted .ensures) (c .before .before .before .before .before .before .before .before .before .before .if1 .taken)) (omega (arith, s .pre .2, inside))
           ∙ c .before .before .before .before .before .deliver-entry .ensures .0 n
-          ∙ given-step (s .args .job) (now (s .args .cells)) (now (s .args .store)) (s .pre .0) (now (s .args .bytes)) (s .args .used) (s .args .entries) inside _ _ (c .before .before .before .before .before .deliver-entry .result) n
-          ∙ ap (λ x. afterStep (now (s .args .bytes)) n (s .args .used) (machineOf (areaOf (s .args .job) (now (s .args .cells)) (now (s .args .store)))) x (c .before .before .before .before .before .deliver-entry .last .1 .1 .1 .1 .1 .0) (c .before .before .before .before .before .deliver-entry .last .1 .1 .1 .1 .1 .1 .0)) (sym (c .step-of-given .ensures)),
-      subst (λ x. LeftByStep (s .args .entries) (s .args .used) (s .args .job) (now (s .args .cells)) (now (s .args .store)) x (c .before .before .before .before .before .deliver-entry .last .1 .1 .1 .1 .1 .0) (c .before .before .before .before .before .deliver-entry .last .1 .1 .1 .1 .1 .1 .0)) (sym (c .step-of-given .ensures))
-          (given-left (s .args .job) (now (s .args .cells)) (now (s .args .store)) (s .pre .0) (now (s .args .bytes)) (s .args .used) (s .args .entries) inside _ _ (c .before .before .before .before .before .deliver-entry .result) (c .before .before .before .before .before .deliver-entry .ensures .1)),
+          ∙ delivery-step (s .args .job) (now (s .args .cells)) (now (s .args .store)) (s .pre .0) (now (s .args .bytes)) (s .args .used) (s .args .entries) inside _ _ (c .before .before .before .before .before .deliver-entry .result) n
+          ∙ ap (λ x. afterStep (now (s .args .bytes)) n (s .args .used) (machineOf (areaOf (s .args .job) (now (s .args .cells)) (now (s .args .store)))) x (c .before .before .before .before .before .deliver-entry .last .1 .1 .1 .1 .1 .0) (c .before .before .before .before .before .deliver-entry .last .1 .1 .1 .1 .1 .1 .0)) (sym (c .step-of-delivery .ensures)),
+      subst (λ x. StepPostcondition (s .args .entries) (s .args .used) (s .args .job) (now (s .args .cells)) (now (s .args .store)) x (c .before .before .before .before .before .deliver-entry .last .1 .1 .1 .1 .1 .0) (c .before .before .before .before .before .deliver-entry .last .1 .1 .1 .1 .1 .1 .0)) (sym (c .step-of-delivery .ensures))
+          (delivery-left (s .args .job) (now (s .args .cells)) (now (s .args .store)) (s .pre .0) (now (s .args .bytes)) (s .args .used) (s .args .entries) inside _ _ (c .before .before .before .before .before .deliver-entry .result) (c .before .before .before .before .before .deliver-entry .ensures .1)),
     )
 
 promote-requires : tie.Need-promote-requires
@@ -79,7 +79,7 @@ returns-3 c =
       λ n. way-promote (now (s .args .bytes)) n (machineOf (areaOf (s .args .job) (now (s .args .cells)) (now (s .args .store)))) (s .args .used) (wanted-none (s .args .job) (now (s .args .cells)) (now (s .args .store)) (s .pre .0) (c .before .before .before .before .before .before .before .before .first-wanted .result) (c .before .before .before .before .before .before .before .before .first-wanted .ensures) (c .before .before .before .before .before .before .before .if1 .left))
           ∙ promoted-step (s .args .job) (now (s .args .cells)) (now (s .args .store)) (s .pre .0) (now (s .args .bytes)) (s .args .used) (s .args .entries) free (c .before .before .before .before .promote .result .job) _ (c .before .before .before .before .promote .result .outcome) (c .before .before .before .before .promote .ensures .0) n
           ∙ ap (λ x. afterStep (now (s .args .bytes)) n (s .args .used) (machineOf (areaOf (s .args .job) (now (s .args .cells)) (now (s .args .store)))) x (c .before .before .before .before .promote .last .1 .0) (now (s .args .store))) (sym (c .step-of-promotion .ensures)),
-      subst (λ x. LeftByStep (s .args .entries) (s .args .used) (s .args .job) (now (s .args .cells)) (now (s .args .store)) x (c .before .before .before .before .promote .last .1 .0) (now (s .args .store))) (sym (c .step-of-promotion .ensures))
+      subst (λ x. StepPostcondition (s .args .entries) (s .args .used) (s .args .job) (now (s .args .cells)) (now (s .args .store)) x (c .before .before .before .before .promote .last .1 .0) (now (s .args .store))) (sym (c .step-of-promotion .ensures))
           (promoted-left (s .args .job) (now (s .args .cells)) (now (s .args .store)) (s .pre .0) (now (s .args .bytes)) (s .args .used) (s .args .entries) free (c .before .before .before .before .promote .result .job) _ (c .before .before .before .before .promote .result .outcome) (c .before .before .before .before .promote .ensures .0) (c .before .before .before .before .promote .ensures .1)),
     )
 
@@ -92,7 +92,7 @@ next-step-spec =
     same-length
     returns
     deliver-entry-requires
-    step-of-given-requires
+    step-of-delivery-requires
     same-length-2
     same-length-3
     same-length-4

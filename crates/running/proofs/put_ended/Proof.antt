@@ -6,7 +6,7 @@ use Rattle.sums.proofs.Words.{back}
 use Rattle.area.specs.Encoding.{areaOf, machineOf}
 use Rattle.reporting.specs.Text.{reportText}
 use Rattle.running.specs.Code.{Printed}
-use Rattle.running.proofs.Reports.{figures-are}
+use Rattle.running.proofs.Reports.{report-values-are}
 use borrow.Author.Needs.{needs}
 use Rattle.running.proofs.put_ended.Statement.{statement}
 use Rattle.running.proofs.put_ended.Tie as tie
@@ -28,7 +28,7 @@ unfolding machineOf
 returns c =
     let s = c .before .before .before .before .before .before .before .before in
     subst (λ f. Printed (reportText f) (now (s .args .report)) (c .before .before .put-report .last .1 .0) (c .before .before .put-report .result))
-    (figures-are (machineOf (areaOf (s .args .job) (now (s .args .cells)) (now (s .args .store)))) (s .args .ending) (s .args .unused) (c .before .before .before .before .before .result .result) _ (back (c .before .before .before .before .before .result .result .mean) (sfits-of (c .before .before .before .before .struct-told .given .1 .1 .1 .1 .1 .0 .1))) (c .before .before .before .before .before .result .ensures))
+    (report-values-are (machineOf (areaOf (s .args .job) (now (s .args .cells)) (now (s .args .store)))) (s .args .ending) (s .args .unused) (c .before .before .before .before .before .result .result) _ (back (c .before .before .before .before .before .result .result .mean) (sfits-of (c .before .before .before .before .struct-told .given .1 .1 .1 .1 .1 .0 .1))) (c .before .before .before .before .before .result .ensures))
     (record { bytes = c .before .before .put-report .ensures .0; count = c .before .before .put-report .ensures .1 })
 
 pub put-ended-spec : {M : Type 1} → statement M

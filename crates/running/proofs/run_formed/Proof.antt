@@ -4,7 +4,7 @@ use native.Mathlib.Omega.{arith}
 use denote.Ref.{now}
 use Rattle.jobfile.proofs.Facts.{form-facts}
 use Rattle.machine.specs.Causes.{firstCause, startCauses}
-use Rattle.running.specs.Course.{ownLengths, startByte}
+use Rattle.running.specs.Execution.{ownLengths, startByte}
 use Rattle.running.proofs.Whole.{start-refused, runs, later-byte, same-run}
 use borrow.Author.Needs.{needs}
 use Rattle.running.proofs.run_formed.Statement.{statement}

@@ -1,11 +1,11 @@
--- `running::run_started` meets its contract: start leaves a settled area with the started state, and the run goes its course. Assumes nothing.
+-- `running::run_started` meets its contract: start leaves a valid area with the started state, and the run goes its course. Assumes nothing.
 use mathlib.Core.Path.{refl, subst}
 use native.Mathlib.Omega.{arith}
 use denote.Ref.{now}
-use Rattle.running.specs.Course.{course}
+use Rattle.running.specs.Execution.{execution}
 use Rattle.running.specs.Report.{textIn}
 use Rattle.running.specs.Code.{Printed}
-use Rattle.running.proofs.Whole.{start-settled, start-state}
+use Rattle.running.proofs.Whole.{start-valid, start-state}
 use borrow.Author.Needs.{needs}
 use Rattle.running.proofs.run_started.Statement.{statement}
 use Rattle.running.proofs.run_started.Tie as tie
@@ -28,7 +28,7 @@ slice-aggregate-run-from-3 c = search needs
 run-from-requires : tie.Need-run-from-requires
 run-from-requires c κs =
     let s = c .before .before .before .before .before .before .before .before .before in (
-      (start-settled (s .args .settings) (s .pre .0) (c .before .before .before .before .before .start .result) _ (c .before .before .before .before .before .start .last .1 .0) _ (c .before .before .before .before .before .start .ensures .0) (c .before .before .before .before .before .start .ensures .1) refl refl, s .pre .1, s .pre .2, omega arith),
+      (start-valid (s .args .settings) (s .pre .0) (c .before .before .before .before .before .start .result) _ (c .before .before .before .before .before .start .last .1 .0) _ (c .before .before .before .before .before .start .ensures .0) (c .before .before .before .before .before .start .ensures .1) refl refl, s .pre .1, s .pre .2, omega arith),
       (omega arith, s .pre .3),
     )
 
@@ -38,7 +38,7 @@ same-length c = search needs
 returns : tie.Need-returns
 returns c =
     let s = c .before .before .before .before .before .before .before .before .before .before .before .before .before .before .before in
-    subst (λ m. Printed (textIn (s .args .entries) (course (now (s .args .bytes)) 1025 m 0)) (now (s .args .report)) (c .before .before .before .before .before .run-from .last .1 .1 .1 .1 .1 .1 .1 .1 .0) (c .before .before .before .before .before .run-from .result))
+    subst (λ m. Printed (textIn (s .args .entries) (execution (now (s .args .bytes)) 1025 m 0)) (now (s .args .report)) (c .before .before .before .before .before .run-from .last .1 .1 .1 .1 .1 .1 .1 .1 .0) (c .before .before .before .before .before .run-from .result))
     (start-state (s .args .settings) (s .pre .0) (c .before .before .before .before .before .before .before .before .before .before .before .start .result) _ (c .before .before .before .before .before .before .before .before .before .before .before .start .last .1 .0) _ (c .before .before .before .before .before .before .before .before .before .before .before .start .ensures .0) (c .before .before .before .before .before .before .before .before .before .before .before .start .ensures .1) refl refl) (c .before .before .before .before .before .run-from .ensures)
 
 pub run-started-spec : {M : Type 1} → statement M

@@ -7,7 +7,7 @@ use Rattle.vectors.proofs.read_part.Tie as tie
 use Rattle.vectors.proofs.read_part.Reads as reads
 use Rattle.vectors.proofs.read_part.Lts as lts
 use Rattle.io.proofs.read_full.Reads as read-full-reads
-use Rattle.vectors.proofs.least.Reads as least-reads
+use Rattle.vectors.proofs.min_of.Reads as min-of-reads
 use Rattle.vectors.proofs.read_number.Reads as read-number-reads
 
 -- src/main.rt:25:24
@@ -15,8 +15,8 @@ read-number-requires : tie.Need-read-number-requires
 read-number-requires c κs = search needs
 
 -- src/main.rt:25:9
-least-requires : tie.Need-least-requires
-least-requires c κs = search needs
+min-of-requires : tie.Need-min-of-requires
+min-of-requires c κs = search needs
 
 -- src/main.rt:26:33
 slice-relend-prefix-read-full : tie.Need-slice-relend-prefix-read-full
@@ -43,7 +43,7 @@ read-part-spec =
     tie.close
     (tie.spec
     read-number-requires
-    least-requires
+    min-of-requires
     slice-relend-prefix-read-full
     slice-aggregate-read-full
     read-full-requires

@@ -4,7 +4,7 @@ use borrow.Author.Needs.{needs, sfits-of}
 use mathlib.Core.Path.{sym, ap, _∙_}
 use denote.Ref.{now}
 use Rattle.sums.proofs.Words.{back}
-use Rattle.calls.specs.Replies.{total, totalledOf}
+use Rattle.calls.specs.Replies.{total, replyOfTotal}
 use Rattle.wihupya.specs.Exports.{numberOf, totalAfter}
 use Rattle.area.specs.declared.JobRecord.{JobRecord}
 use Rattle.area.specs.Encoding.{areaOf}
@@ -29,17 +29,17 @@ total-words-requires : tie.Need-total-words-requires
 total-words-requires c κs = search needs
 
 returns : tie.Need-returns
-unfolding totalledOf numberOf totalAfter
+unfolding replyOfTotal numberOf totalAfter
 returns c =
     let s = c .before .before .before .before .before .before in
-    let is = ap totalledOf (sym (c .before .totalled .given .1)) ∙ ap (λ (x : table.Answer). x .reply) (c .before .before .before .cross-total .ensures) ∙ ap (λ (j : JobRecord). callOn (areaOf j (now (s .args .cells)) (now (s .args .store))) table.crossTotal .answer .reply) (c .before .before .before .before .job-of .ensures) in
+    let is = ap replyOfTotal (sym (c .before .totalled .given .1)) ∙ ap (λ (x : table.Answer). x .reply) (c .before .before .before .cross-total .ensures) ∙ ap (λ (j : JobRecord). callOn (areaOf j (now (s .args .cells)) (now (s .args .store))) table.crossTotal .answer .reply) (c .before .before .before .before .job-of .ensures) in
     (ap numberOf is, ap (λ x. totalAfter x (now (s .args .total))) is)
 
 returns-2 : tie.Need-returns-2
-unfolding totalledOf numberOf totalAfter
+unfolding replyOfTotal numberOf totalAfter
 returns-2 c =
     let s = c .before .before .before .before .before .before .before in
-    let is = ap totalledOf (sym (c .before .before .totalled2 .given .1)) ∙ ap (λ (x : table.Answer). x .reply) (c .before .before .before .before .cross-total .ensures) ∙ ap (λ (j : JobRecord). callOn (areaOf j (now (s .args .cells)) (now (s .args .store))) table.crossTotal .answer .reply) (c .before .before .before .before .before .job-of .ensures) in
+    let is = ap replyOfTotal (sym (c .before .before .totalled2 .given .1)) ∙ ap (λ (x : table.Answer). x .reply) (c .before .before .before .before .cross-total .ensures) ∙ ap (λ (j : JobRecord). callOn (areaOf j (now (s .args .cells)) (now (s .args .store))) table.crossTotal .answer .reply) (c .before .before .before .before .before .job-of .ensures) in
     let words = c .total-words .ensures ∙ ap (λ z. totalAfter (total z) []) (back (c .before .before .totalled2 .given .0 .0) (sfits-of (c .before .known-told2 .given .0 .1))) in
     (ap numberOf is, words ∙ ap (λ x. totalAfter x (now (s .args .total))) is)
 

@@ -8,7 +8,7 @@ use Rattle.area.specs.declared.JobRecord.{JobRecord}
 use Rattle.area.specs.Records.{runOf}
 use Rattle.area.specs.Encoding.{areaOf}
 use Rattle.calls.specs.Table as table
-use Rattle.calls.specs.Calls.{Called, callOn}
+use Rattle.calls.specs.Calls.{CallResult, callOn}
 use Rattle.wihupya.proofs.wihupya_promote.Statement.{statement}
 use Rattle.wihupya.proofs.wihupya_promote.Tie as tie
 
@@ -38,7 +38,7 @@ returns c =
     let store = now (s .args .store) in
     let is = c .before .before .before .before .before .before .before .promote .ensures ∙ ap (λ (j : JobRecord). callOn (areaOf j cells store) table.promote) (c .before .before .before .before .before .before .before .before .before .job-of .ensures) in (
       (λ i. record { number = c .number-of .ensures i; job = c .before .before .before .words-of .ensures i; run = runOf (c .before .before .before .before .before .before .before .promote .last .1 .0); store = store }) ∙ ap exported is,
-      c .before .outcome-word .ensures ∙ ap (λ (x : Called). outcomeAfter (x .answer .reply) (now (s .args .outcome))) is,
+      c .before .outcome-word .ensures ∙ ap (λ (x : CallResult). outcomeAfter (x .answer .reply) (now (s .args .outcome))) is,
     )
 
 pub wihupya-promote-spec : {M : Type 1} → statement M

@@ -8,8 +8,8 @@ use denote.Ref.{now}
 use lib.ListN.{length}
 use Rattle.area.specs.Records.{heldIn, levelsOf}
 use Rattle.area.specs.Encoding.{none, placeOf}
-use Rattle.area.specs.declared.Found.the-variants.{At, Nothing}
-use Rattle.area.specs.Lookup.{foundIn}
+use Rattle.area.specs.declared.LookupResult.the-variants.{At, NotFound}
+use Rattle.area.specs.Lookup.{lookupIn}
 use Rattle.quadrature.proofs.Raised.{found-at, found-none, not-held}
 use Rattle.quadrature.proofs.Held.{held-length}
 use Rattle.writing.proofs.place_of.Statement.{statement}
@@ -19,13 +19,13 @@ module _ (cells : List ℕ) (held : ℕ) (k : List ℕ) (room : held * 27 ≤ le
   few-held : length (heldIn cells held) ≤ 512
   few-held = omega (arith, held-length cells held room)
 
-  at-place : (q : ℕ) → foundIn (heldIn cells held) k ≡ At q → q ≡ placeOf (levelsOf (heldIn cells held)) k
+  at-place : (q : ℕ) → lookupIn (heldIn cells held) k ≡ At q → q ≡ placeOf (levelsOf (heldIn cells held)) k
   at-place q e = sym (found-at (heldIn cells held) k few-held q e .0)
 
-  at-small : (q : ℕ) → foundIn (heldIn cells held) k ≡ At q → q < 512
+  at-small : (q : ℕ) → lookupIn (heldIn cells held) k ≡ At q → q < 512
   at-small q e = omega (arith, found-at (heldIn cells held) k few-held q e .1, few-held)
 
-  no-place : foundIn (heldIn cells held) k ≡ Nothing → none ≡ placeOf (levelsOf (heldIn cells held)) k
+  no-place : lookupIn (heldIn cells held) k ≡ NotFound → none ≡ placeOf (levelsOf (heldIn cells held)) k
   no-place e = sym (not-held (heldIn cells held) k few-held (found-none (heldIn cells held) k few-held e))
 
 lookup-requires : tie.Need-lookup-requires

@@ -20,9 +20,9 @@ use Rattle.machine.specs.Means.{meanOf, crossOf}
 use Rattle.machine.proofs.Means.{mean-facts}
 use Rattle.calls.specs.Replies.{counts, total, verdict, lengthsOf}
 use Rattle.calls.specs.Table.{result, crossTotal, check, answer, row, causesOf, effectOf, fitting, acceptedAnswer, refusedAnswer, refusal}
-use Rattle.calls.specs.Calls.{Called, areaAfter, callOn}
-use Rattle.calls.proofs.Settling.{sound-there, long-there}
-use Rattle.calls.proofs.Ways.{call-accepts, call-ways}
+use Rattle.calls.specs.Calls.{CallResult, areaAfter, callOn}
+use Rattle.calls.proofs.Validity.{sound-there, long-there}
+use Rattle.calls.proofs.CauseCases.{call-accepts, call-ways}
 
 module _ (a : Area) where
   module _ (none : firstCause (resultCauses (lengthsOf a) (isSound a) (machineOf a .log)) ≡ 0) where
@@ -36,7 +36,7 @@ module _ (a : Area) where
   pub cross-mean : (x : ℤ) → callOn a crossTotal .answer .reply ≡ total x → x ≡ meanOf (entriesOf a)
   unfolding row causesOf refusal acceptedAnswer refusedAnswer resultCauses machineOf
   cross-mean x =
-      call-ways a crossTotal (λ (r : Called). r .answer .reply ≡ total x → x ≡ meanOf (entriesOf a))
+      call-ways a crossTotal (λ (r : CallResult). r .answer .reply ≡ total x → x ≡ meanOf (entriesOf a))
       (λ none e. let same : x ≡ crossOf (entriesOf a) = cc in same ∙ crossed none)
       (λ some e. let z : _≡_ {A = ℕ} 0 1 = cc in absurd (omega arith))
 
@@ -50,7 +50,7 @@ module _ (a : Area) where
   pub result-recorded : (c : Counts) → callOn a result .answer .reply ≡ counts c → Recorded c
   unfolding row causesOf refusal acceptedAnswer refusedAnswer resultCauses
   result-recorded c =
-      call-ways a result (λ (r : Called). r .answer .reply ≡ counts c → Recorded c)
+      call-ways a result (λ (r : CallResult). r .answer .reply ≡ counts c → Recorded c)
       (λ none e. let same : countsOf (machineOf a) ≡ c = cc in subst Recorded same (recorded (sound-there a none)))
       (λ some e. let z : _≡_ {A = ℕ} 0 1 = cc in absurd (omega arith))
 
@@ -66,4 +66,4 @@ module _ (a : Area) where
 
   pub check-answer : callOn a check ≡ record { answer = answer (verdict (checked a)); area = a }
   unfolding row causesOf effectOf refusal firstCause acceptedAnswer areaAfter
-  check-answer = sym (call-accepts a check 0 refl refl) ∙ ap {B = Called} (λ (t : Bool). record { answer = answer (verdict t); area = a }) fitting-checked
+  check-answer = sym (call-accepts a check 0 refl refl) ∙ ap {B = CallResult} (λ (t : Bool). record { answer = answer (verdict t); area = a }) fitting-checked

@@ -1,4 +1,4 @@
--- `records::spread` meets its contract: a walk of its MIR, by hand, with a loop. In each turn a copy of the records' slice goes to `load`,
+-- `records::serialize` meets its contract: a walk of its MIR, by hand, with a loop. In each turn a copy of the records' slice goes to `load`,
 -- and the cells are lent again to `area::store`, for a lifetime that is made for the call, and come back (`Again.antt`).
 -- Assumes nothing.
 use mathlib.Core.Path.{_≡_, refl, sym, ap, _∙_, subst}
@@ -61,21 +61,21 @@ use Rattle.area.proofs.store.Met as put-thm
 use Rattle.records.specs.Lent.{overRun}
 use Rattle.records.proofs.Again.{LentAgain, lends-again, comes-back}
 use Rattle.records.proofs.Orders.{less-or}
-use Rattle.records.proofs.Overs.{spread-none, spread-next}
+use Rattle.records.proofs.Overs.{serialize-none, serialize-next}
 use Rattle.records.proofs.load as load′
 use Rattle.records.proofs.load.Symbol as load-def
 use Rattle.records.proofs.load.Symbol.{name as #records·load}
 use Rattle.records.proofs.load.Met as load-thm
-use Rattle.records.proofs.spread.Key.{name as #records·spread}
-use Rattle.records.proofs.spread as spread
-use Rattle.records.proofs.spread.Statement as stated
-use Rattle.records.proofs.spread.Code as code
-use Rattle.records.proofs.spread.Code.Mir as text
+use Rattle.records.proofs.serialize.Key.{name as #records·serialize}
+use Rattle.records.proofs.serialize as serialize
+use Rattle.records.proofs.serialize.Statement as stated
+use Rattle.records.proofs.serialize.Code as code
+use Rattle.records.proofs.serialize.Code.Mir as text
 
 abbrev R : RattleType
 R = T.the-row
 
-abbrev stayed : Stays (spread.ended .signature .params) (spread.ended .kept)
+abbrev stayed : Stays (serialize.ended .signature .params) (serialize.ended .kept)
 stayed = (stay-none-slice (0 ∷ []) tt (plain (λ _. R)) yes, (stay-none (λ _. usize) yes, (stay-slice (1 ∷ []) tt (plain (λ _. u32)), tt)))
 
 -- the types of the locals
@@ -122,7 +122,7 @@ module _ {M : Type 1} (𝓤 : URA M) (H : Heap 𝓤) (A : Atoms 𝓤) (W : Given
   abbrev a : Arg
   a = (x₀, (n, (x₁ γ₁ cs, tt)))
 
-  abbrev at : Vals spread.signature (κ₀, (κ₁, tt))
+  abbrev at : Vals serialize.signature (κ₀, (κ₁, tt))
   at = (s₀ ∷ [], (vint w64 n ∷ [], (s₁ (length cs) ∷ [], tt)))
 
   abbrev Own₀ : Fml
@@ -132,13 +132,13 @@ module _ {M : Type 1} (𝓤 : URA M) (H : Heap 𝓤) (A : Atoms 𝓤) (W : Given
   Own₁ l m = MutSlice (named 1) κ₁ u32 .own (x₁ γ₁ l) (s₁ m ∷ [])
 
   abbrev Post : Val → SProp 𝓤
-  Post = walkOf 𝓤 H A spread.ended stayed (spread.clauses 𝓤 H A mem run) .post (((κ₀, (κ₁, tt)), (q₀, (q₁, tt)), tt, a, at), tt)
+  Post = walkOf 𝓤 H A serialize.ended stayed (serialize.clauses 𝓤 H A mem run) .post (((κ₀, (κ₁, tt)), (q₀, (q₁, tt)), tt, a, at), tt)
 
   exits : (l : List ℕ) → runOf l ≡ overRun n ys (runOf cs) → length l ≡ length cs
       → ent 𝓤 (⋆ 𝓤 H A (‵ (flft κ₀ q₀) ∷ ‵ (flft κ₁ q₁) ∷ ‵ Own₀ ∷ ‵ (Own₁ l (length cs)) ∷ [])) (Post vunit)
   exits l e same =
       qed W (‵ (flft κ₀ q₀) ∷ ‵ (flft κ₁ q₁) ∷ ‵ Own₀ ∷ ‵ (Own₁ l (length cs)) ∷ []) ∵
-      suffices ! _ (ends-at 𝓤 H A spread.ended stayed (spread.clauses 𝓤 H A mem run) W (((κ₀, (κ₁, tt)), (q₀, (q₁, tt)), tt, a, at), tt) vunit tt (tt, (tt, (l, tt))) (tt, (tt, (same, tt)))) $ says ! e $
+      suffices ! _ (ends-at 𝓤 H A serialize.ended stayed (serialize.clauses 𝓤 H A mem run) W (((κ₀, (κ₁, tt)), (q₀, (q₁, tt)), tt, a, at), tt) vunit tt (tt, (tt, (l, tt))) (tt, (tt, (same, tt)))) $ says ! e $
       nothing ! $ move ! (2 ∷ 0 ∷ []) $ join ! $ move ! (1 ∷ 0 ∷ []) $ join ! $ frame ! $
       nothing ! $ move ! (2 ∷ 0 ∷ []) $ fjoin ! $ owned ! usize (Is usize) (uint-makes 𝓤 H A W w64) n _ (refl, n-fits) $ fjoin ! $ move ! (1 ∷ 0 ∷ []) $ fjoin ! $ frame ! $
       feqI ! (List Val) (vunit ∷ []) (vunit ∷ []) refl $ done !
@@ -180,13 +180,13 @@ module _ {M : Type 1} (𝓤 : URA M) (H : Heap 𝓤) (A : Atoms 𝓤) (W : Given
   Nearer-wf = InvImage·wf (λ (t : State). n - t .0) (Nat·lt-wfRel .wf)
 
   begun : Facts 0 cs
-  begun = record { upto = zero-le; same = refl; laid = spread-none ys cs }
+  begun = record { upto = zero-le; same = refl; laid = serialize-none ys cs }
 
   kept : (t : State) → t .0 < n → (r : IndexRecord) (l : List ℕ) → r ≡ getD ys (t .0) blank → runOf l ≡ stored (runOf (t .1)) (t .0) r → length l ≡ length (t .1) → Facts (t .0 + 1) l
   kept t less r l e e₁ same = record {
     upto = add-one-le less;
     same = same ∙ t .2 .same;
-    laid = spread-next ys cs (t .1) l (t .0) n r less within₀ within₁ (t .2 .laid) e e₁;
+    laid = serialize-next ys cs (t .1) l (t .0) n r less within₀ within₁ (t .2 .laid) e e₁;
   }
 
   ended : (t : State) → n ≤ t .0 → runOf (t .1) ≡ overRun n ys (runOf cs)
@@ -284,7 +284,7 @@ module _ {M : Type 1} (𝓤 : URA M) (H : Heap 𝓤) (A : Atoms 𝓤) (W : Given
           keep ! (7 ∷ 8 ∷ 9 ∷ 10 ∷ 11 ∷ 12 ∷ 13 ∷ 14 ∷ 15 ∷ 16 ∷ 17 ∷ 18 ∷ 19 ∷ 20 ∷ 21 ∷ 22 ∷ 23 ∷ 24 ∷ 25 ∷ 26 ∷ 6 ∷ 4 ∷ 3 ∷ 0 ∷ []) $
           first ! $ blocks ! $ loops ! 𝓣 Nearer Nearer-wf At turns (0, cs, begun)
 
-    walk : ent 𝓤 (onEntry 𝓤 H A spread.signature (κ₀, (κ₁, tt)) (q₀, (q₁, tt)) a at) (WpFn 𝓤 H C Λ code.function (s₀ ∷ vint w64 n ∷ s₁ (length cs) ∷ []) Post)
+    walk : ent 𝓤 (onEntry 𝓤 H A serialize.signature (κ₀, (κ₁, tt)) (q₀, (q₁, tt)) a at) (WpFn 𝓤 H C Λ code.function (s₀ ∷ vint w64 n ∷ s₁ (length cs) ∷ []) Post)
     walk =
         qed W ((‵ (flft κ₀ q₀) ⊛ ‵ (flft κ₁ q₁) ⊛ ‵ ftrue) ∷ ‵ (owns (ShrSlice (named 0) κ₀ R ∷ usize ∷ MutSlice (named 1) κ₁ u32 ∷ []) a at) ∷ []) ∵ enter ! C Λ code.function (s₀ ∷ vint w64 n ∷ s₁ (length cs) ∷ []) _ $
         alloc1 ! (λ l₀. alloc1 ! (λ l₁. alloc1 ! (λ l₂. alloc1 ! (λ l₃. alloc1 ! (λ l₄. alloc1 ! (λ l₅. alloc1 ! (λ l₆. alloc1 ! (λ l₇. alloc1 ! (λ l₈. alloc1 ! (λ l₉. alloc0 ! $ params1 ! $
@@ -292,23 +292,23 @@ module _ {M : Type 1} (𝓤 : URA M) (H : Heap 𝓤) (A : Atoms 𝓤) (W : Given
         body l₀ l₁ l₂ l₃ l₄ l₅ l₆ l₇ l₈ l₉))))))))))
 
 module _ {M : Type 1} (𝓤 : URA M) (H : Heap 𝓤) (A : Atoms 𝓤) (W : Given 𝓤 H A) (mem : Memory → SProp 𝓤) (run : Routine → Fun 𝓤) (𝓣 : Tables 𝓤 H) (known-load : Triple 𝓤 (𝓣 .C #records·load) (Load 𝓤 H A mem run)) (known-put : Triple 𝓤 (𝓣 .C #area·store) (Put 𝓤 H A mem run)) where
-  spread-walks : Walks 𝓤 H A spread.ended stayed (WpFn 𝓤 H (𝓣 .C) (𝓣 .Λ) code.function) (spread.clauses 𝓤 H A mem run)
-  spread-walks = walked 𝓤 H A spread.ended stayed (spread.clauses 𝓤 H A mem run) (WpFn 𝓤 H (𝓣 .C) (𝓣 .Λ) code.function)
+  serialize-walks : Walks 𝓤 H A serialize.ended stayed (WpFn 𝓤 H (𝓣 .C) (𝓣 .Λ) code.function) (serialize.clauses 𝓤 H A mem run)
+  serialize-walks = walked 𝓤 H A serialize.ended stayed (serialize.clauses 𝓤 H A mem run) (WpFn 𝓤 H (𝓣 .C) (𝓣 .Λ) code.function)
       (λ κs. (slice-vals, (uint-vals w64, (slice-vals, tt)))) (λ κs. (shr-slice-tells (named 0) (κs .0) R, (uint-tells w64, (mut-slice-tells (named 1) (κs .1 .0) u32, tt))))
       (λ κs qs bounds a g are. needs 𝓤 ((a .1 .0 ≤ length (a .0 .now)) × (a .1 .0 * 27 ≤ length (a .1 .1 .0 .now))) _ (λ pre.
       walk 𝓤 H A W mem run (κs .0) (κs .1 .0) (qs .0) (qs .1 .0) (a .0 .ptr .0) (a .0 .ptr .1) (a .0 .name) (a .1 .1 .0 .ptr .0) (a .1 .1 .0 .ptr .1) (a .1 .1 .0 .name)
       (a .0 .now) (a .1 .0) (a .1 .1 .0 .now) (are .0 .0 .1) (are .1 .0 .1) (are .1 .1 .0 .0 .1) (pre .0) (pre .1) 𝓣 known-load known-put))
 
-  spread-meets : Meets 𝓤 H A spread.signature (WpFn 𝓤 H (𝓣 .C) (𝓣 .Λ) code.function) (spread.spec 𝓤 H A mem run)
-  spread-meets =
-      walk-meets 𝓤 H A spread.ended stayed W (goes-none-slice 𝓤 H A W 2 (0 ∷ []) tt (plain (λ _. R)) yes, (goes-none 𝓤 H A W 2 (λ _. usize) yes (λ κs x f. refl), (goes-slice 𝓤 H A W 2 1 tt (plain (λ _. u32)), tt))) (spread.clauses 𝓤 H A mem run)
-      (WpFn 𝓤 H (𝓣 .C) (𝓣 .Λ) code.function) (WpFn-mono 𝓤 H (W .laws) 𝓣 code.function) spread-walks
+  serialize-meets : Meets 𝓤 H A serialize.signature (WpFn 𝓤 H (𝓣 .C) (𝓣 .Λ) code.function) (serialize.spec 𝓤 H A mem run)
+  serialize-meets =
+      walk-meets 𝓤 H A serialize.ended stayed W (goes-none-slice 𝓤 H A W 2 (0 ∷ []) tt (plain (λ _. R)) yes, (goes-none 𝓤 H A W 2 (λ _. usize) yes (λ κs x f. refl), (goes-slice 𝓤 H A W 2 1 tt (plain (λ _. u32)), tt))) (serialize.clauses 𝓤 H A mem run)
+      (WpFn 𝓤 H (𝓣 .C) (𝓣 .Λ) code.function) (WpFn-mono 𝓤 H (W .laws) 𝓣 code.function) serialize-walks
 
-pub spread-spec : {M : Type 1} → stated.statement M
+pub serialize-spec : {M : Type 1} → stated.statement M
 unfolding code.routine tablesOf
-spread-spec 𝓤 H 𝓜 𝓖 𝓡 =
-    entered 𝓤 H (tripleOf 𝓤 H (𝓖 .A) spread.signature (spread.spec 𝓤 H (𝓖 .A) (𝓜 .mem) (𝓡 .run)))
-    (tables 𝓤 H 𝓜 𝓡 code.env .C) (tables 𝓤 H 𝓜 𝓡 code.env .Λ) #records·spread code.function (code.unfolded 𝓤 H 𝓜 𝓡)
-    (spread-meets 𝓤 H (𝓖 .A) (givenOf 𝓤 H 𝓜 𝓖) (𝓜 .mem) (𝓡 .run) (tablesOf 𝓤 H 𝓜 (tables 𝓤 H 𝓜 𝓡 code.env))
+serialize-spec 𝓤 H 𝓜 𝓖 𝓡 =
+    entered 𝓤 H (tripleOf 𝓤 H (𝓖 .A) serialize.signature (serialize.spec 𝓤 H (𝓖 .A) (𝓜 .mem) (𝓡 .run)))
+    (tables 𝓤 H 𝓜 𝓡 code.env .C) (tables 𝓤 H 𝓜 𝓡 code.env .Λ) #records·serialize code.function (code.unfolded 𝓤 H 𝓜 𝓡)
+    (serialize-meets 𝓤 H (𝓖 .A) (givenOf 𝓤 H 𝓜 𝓖) (𝓜 .mem) (𝓡 .run) (tablesOf 𝓤 H 𝓜 (tables 𝓤 H 𝓜 𝓡 code.env))
     (cited 𝓤 H (Load 𝓤 H (𝓖 .A) (𝓜 .mem) (𝓡 .run)) 𝓜 𝓡 code.env #records·load load-def.routine code.calls-records·load (load-thm.met 𝓤 H 𝓜 𝓖 𝓡))
     (cited 𝓤 H (Put 𝓤 H (𝓖 .A) (𝓜 .mem) (𝓡 .run)) 𝓜 𝓡 code.env #area·store put-def.routine code.calls-area·store (put-thm.met 𝓤 H 𝓜 𝓖 𝓡)))

@@ -14,7 +14,7 @@ use Rattle.machine.specs.Causes.{Lengths, Cause, firstCause, startCauses}
 use Rattle.calls.specs.Replies.{refused}
 use Rattle.calls.specs.Table.{Call, start, point, deliver, promote, result, crossTotal, check, Answer, row, causesOf, fitting, acceptedAnswer, refusedAnswer, refusal, answerOf}
 use Rattle.calls.proofs.Numbers.{accepted-reply}
-use Rattle.calls.proofs.Ways.{refused-reply}
+use Rattle.calls.proofs.CauseCases.{refused-reply}
 use Rattle.history.specs.Calls.{LentCall, lengthsLent}
 use Rattle.history.specs.Logged.{stateOf, logStep, answerBy, answersBy}
 

@@ -14,14 +14,14 @@ use Rattle.area.specs.Settings.{leastStore}
 use Rattle.area.specs.Log.{Log}
 use Rattle.area.specs.Encoding.{Area, entriesOf, jobWith}
 use Rattle.soundness.specs.Clauses.{checked}
-use Rattle.encoding.specs.Encodes.{Formed}
+use Rattle.encoding.specs.Encodes.{WellFormed}
 use Rattle.encoding.specs.Entries.{entryAt}
 use Rattle.machine.specs.Steps.{startLog}
 use Rattle.machine.specs.Counts.{countsOf}
 use Rattle.machine.specs.Means.{meanOf, crossOf}
 use Rattle.calls.specs.Replies.{refused, accepted, counts, total}
 use Rattle.calls.specs.Table.{Call, start, result, crossTotal, Answer, answer}
-use Rattle.calls.specs.Calls.{Called, callOn}
+use Rattle.calls.specs.Calls.{CallResult, callOn}
 use Rattle.records.specs.Lent.{areaOn}
 use Rattle.history.specs.Calls.{Part, LentCall}
 use Rattle.history.specs.Logged.{stateOf, logAfter, answersBy}
@@ -63,15 +63,15 @@ abbrev pub AllLentRecords : RecordStorage → List RecordCall → Type 0
 AllLentRecords w [] = Unit {0}
 AllLentRecords w (x ∷ xs) = LentRecords w (x .part) × AllLentRecords w xs
 
-unfoldable pub calledInRecords : RecordStorage → RecordCall → Called
-calledInRecords w x = callOn (recordsLent w (x .part)) (x .call)
+unfoldable pub callInRecords : RecordStorage → RecordCall → CallResult
+callInRecords w x = callOn (recordsLent w (x .part)) (x .call)
 
 -- The area as the call leaves it, back in its place; what was not lent stays.
 unfoldable pub recordsReturned : RecordStorage → RecordPart → Area → RecordStorage
 recordsReturned w x a = record { job = a .job; records = a .run .records ++ drop (x .records) (w .records); store = a .store ++ drop (x .readings) (w .store) }
 
 unfoldable pub recordsStep : RecordStorage → RecordCall → RecordStorage
-recordsStep w x = recordsReturned w (x .part) (calledInRecords w x .area)
+recordsStep w x = recordsReturned w (x .part) (callInRecords w x .area)
 
 unfoldable pub recordsAfter : RecordStorage → List RecordCall → RecordStorage
 recordsAfter w [] = w
@@ -79,7 +79,7 @@ recordsAfter w (x ∷ xs) = recordsAfter (recordsStep w x) xs
 
 unfoldable pub recordsAnswers : RecordStorage → List RecordCall → List Answer
 recordsAnswers w [] = []
-recordsAnswers w (x ∷ xs) = calledInRecords w x .answer ∷ recordsAnswers (recordsStep w x) xs
+recordsAnswers w (x ∷ xs) = callInRecords w x .answer ∷ recordsAnswers (recordsStep w x) xs
 
 -- ---- what is found, field by field as in Found.antt
 
@@ -87,7 +87,7 @@ pub record RecordsFound (w : RecordStorage) (l : Log) : Type 0 where
   -- the held records are the log's entries in order, with its states, indicators and readings
   pub entries : entriesOf (areaOn (w .job) (w .records) (w .store)) ≡ l .entries
   -- the indicators are 0 while wanted
-  pub idle : (p : ℕ) → p < length (l .entries) → entryAt (l .entries) p .state ≡ 0 → entryAt (l .entries) p .indicator ≡ 0
+  pub wanted-indicator-zero : (p : ℕ) → p < length (l .entries) → entryAt (l .entries) p .state ≡ 0 → entryAt (l .entries) p .indicator ≡ 0
   -- the job record is worked from the log
   pub job : w .job ≡ jobWith (stateOf l)
   -- the area is sound
@@ -115,5 +115,5 @@ pub record RecordsDemand (w : RecordStorage) (first : RecordCall) (later : List 
 -- The third demand over lent records, whatever they hold. Every record of the struct's type has eight levels and sixteen links (crate
 -- `records`, proofs/Typed.antt), so that is asked of the list.
 abbrev pub ThirdDemandOnRecords : Type 0
-ThirdDemandOnRecords = (w : RecordStorage) (first : RecordCall) (later : List RecordCall) (g : Settings) → Formed (w .records) → AllLentRecords w (first ∷ later)
+ThirdDemandOnRecords = (w : RecordStorage) (first : RecordCall) (later : List RecordCall) (g : Settings) → WellFormed (w .records) → AllLentRecords w (first ∷ later)
     → first .call ≡ start g → callOn (recordsLent w (first .part)) (start g) .answer ≡ answer accepted → RecordsDemand w first later g

@@ -10,42 +10,42 @@ use Rattle.area.specs.Encoding.{Area, machineOf}
 use Rattle.soundness.specs.Clauses.{isSound}
 use Rattle.calls.specs.Replies.{refused, lengthsOf}
 use Rattle.calls.specs.Table.{Call, Row, free, onJob, row, effectOf, fitting, acceptedAnswer, refusedAnswer, answerOf}
-use Rattle.calls.specs.Calls.{Called, areaAfter, refusalOn, callOn}
+use Rattle.calls.specs.Calls.{CallResult, areaAfter, refusalOn, callOn}
 
 module _ (a : Area) (c : Call) where
   -- what the call leaves if no cause refuses it, and if cause n does
-  abbrev pub taken : Called
-  taken =
+  abbrev pub acceptedCall : CallResult
+  acceptedCall =
       record {
         answer = acceptedAnswer (fitting (lengthsOf a) (isSound a) (machineOf a .log)) (machineOf a) (row c);
         area = areaAfter a (effectOf (machineOf a) (row c));
       }
 
-  abbrev pub turned : ℕ → Called
-  turned n = record { answer = refusedAnswer n (row c); area = a }
+  abbrev pub refusedCall : ℕ → CallResult
+  refusedCall n = record { answer = refusedAnswer n (row c); area = a }
 
-  pub either : callOn a c ≡ cond (eqb (refusalOn a c) 0) taken (turned (refusalOn a c))
+  pub either : callOn a c ≡ cond (eqb (refusalOn a c) 0) acceptedCall (refusedCall (refusalOn a c))
   unfolding callOn answerOf
   either = step (eqb (refusalOn a c) 0)
     where
       step : (t : Bool)
-          → _≡_ {A = Called} (record { answer = cond t (taken .answer) (refusedAnswer (refusalOn a c) (row c)); area = cond t (areaAfter a (effectOf (machineOf a) (row c))) a })
-          (cond t taken (turned (refusalOn a c)))
+          → _≡_ {A = CallResult} (record { answer = cond t (acceptedCall .answer) (refusedAnswer (refusalOn a c) (row c)); area = cond t (areaAfter a (effectOf (machineOf a) (row c))) a })
+          (cond t acceptedCall (refusedCall (refusalOn a c)))
       step true = refl
       step false = refl
 
   -- with the cause known
-  pub call-accepts : (n : ℕ) → n ≡ refusalOn a c → n ≡ 0 → taken ≡ callOn a c
+  pub call-accepts : (n : ℕ) → n ≡ refusalOn a c → n ≡ 0 → acceptedCall ≡ callOn a c
   call-accepts n is e = rw (either, sym is, eq-eqb n 0 e) refl
 
-  pub call-refuses : (n : ℕ) → n ≡ refusalOn a c → (n ≡ 0 → ⊥) → turned n ≡ callOn a c
+  pub call-refuses : (n : ℕ) → n ≡ refusalOn a c → (n ≡ 0 → ⊥) → refusedCall n ≡ callOn a c
   call-refuses n is f = rw (either, sym is, ne-eqb n 0 f) refl
 
   -- to show something of what it leaves, show it of both
-  pub call-ways : (P : Called → Type 0) → (refusalOn a c ≡ 0 → P taken) → ((refusalOn a c ≡ 0 → ⊥) → P (turned (refusalOn a c))) → P (callOn a c)
+  pub call-ways : (P : CallResult → Type 0) → (refusalOn a c ≡ 0 → P acceptedCall) → ((refusalOn a c ≡ 0 → ⊥) → P (refusedCall (refusalOn a c))) → P (callOn a c)
   call-ways P f g = rw either (step (eqb (refusalOn a c) 0) refl)
     where
-      step : (t : Bool) → eqb (refusalOn a c) 0 ≡ t → P (cond t taken (turned (refusalOn a c)))
+      step : (t : Bool) → eqb (refusalOn a c) 0 ≡ t → P (cond t acceptedCall (refusedCall (refusalOn a c)))
       step true e = f (eqb-true (refusalOn a c) 0 e)
       step false e = g (eqb-false (refusalOn a c) 0 e)
 

@@ -14,13 +14,13 @@ use Rattle.machine.specs.Causes.{Lengths}
 use Rattle.machine.proofs.Wanted.{first-none}
 use Rattle.calls.specs.Replies.{refused, promotion}
 use Rattle.calls.proofs.Tests as tests
-use Rattle.published.specs.Figure.{Problem, goesOn, turns}
-use Rattle.published.specs.Turns.{StandsAt}
+use Rattle.published.specs.Figure.{Problem, loopCondition, turns}
+use Rattle.published.specs.Turns.{Simulates}
 use Rattle.published.proofs.Facts.{published-facts}
 use Rattle.calls.specs.Table.{promote, result, Answer, answer, row, acceptedAnswer, refusedAnswer, refusal, answerOf}
 use Rattle.history.specs.Logged.{stateOf, answerBy}
 use Rattle.history.specs.Source.{Follows}
-use Rattle.history.proofs.Moves.{Fine, combined}
+use Rattle.history.proofs.Moves.{MachineInvariant, combined}
 use Rattle.history.proofs.Accepts.{promote-answer}
 
 -- a promotion that answers met is met
@@ -36,20 +36,20 @@ met-outcome z l e = step (eqb (refusal z true l promote) 0) e
         let y : _≡_ {A = ℕ} 0 1 = cc in
         absurd (omega arith)
 
-module _ (P : Problem) (m : Machine) (n : ℕ) (fine : Fine m) (stands : StandsAt P m (turns P n)) where
+module _ (P : Problem) (m : Machine) (n : ℕ) (invariant : MachineInvariant m) (simulates : Simulates P m (turns P n)) where
   free : length (m .log .entries) ≤ firstWanted (m .log .entries)
-  free = omega (arith, first-none (m .log .entries) (stands .supplied .delivered))
+  free = omega (arith, first-none (m .log .entries) (simulates .supplied .delivered))
 
-  pub follows-at : ((i : ℕ) → i < n → goesOn P (turns P i) ≡ true) → Follows P (m .log) n
+  pub follows-at : ((i : ℕ) → i < n → loopCondition P (turns P i) ≡ true) → Follows P (m .log) n
   follows-at went-on =
       record {
-        supplied = stands .supplied;
-        old-there = stands .old-there;
-        old-here = stands .old-here;
-        active = stands .active;
-        result = sym (combined m fine) ∙ stands .result;
-        pending = stands .pending;
+        supplied = simulates .supplied;
+        old-there = simulates .old-there;
+        old-here = simulates .old-here;
+        active = simulates .active;
+        result = sym (combined m invariant) ∙ simulates .result;
+        pending = simulates .pending;
         went-on = went-on;
-        over = λ z h k f. promote-answer P z (m .log) (tests.enough z (m .log .settings) h k) free ∙ ap (λ o. answer (promotion o)) (published-facts .over P m (turns P n) stands f);
-        goes-on = λ z g e. published-facts .goes-on P m (turns P n) stands g (met-outcome z (m .log) e);
+        over = λ z h k f. promote-answer P z (m .log) (tests.enough z (m .log .settings) h k) free ∙ ap (λ o. answer (promotion o)) (published-facts .over P m (turns P n) simulates f);
+        goes-on = λ z g e. published-facts .goes-on P m (turns P n) simulates g (met-outcome z (m .log) e);
       }

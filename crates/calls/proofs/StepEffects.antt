@@ -1,5 +1,5 @@
 -- What the steps leave in the store, and what start leaves, where no cause refuses them.
--- The idea: the area is settled, so the step's state is written by the changes that are known.
+-- The idea: the area is valid, so the step's state is written by the changes that are known.
 -- Assumes nothing.
 use mathlib.Core.Path.{_≡_, refl, sym, ap, _∙_}
 use mathlib.Core.Logic.{_⊎_, inl, inr}
@@ -15,7 +15,7 @@ use Rattle.area.specs.declared.Settings.{Settings}
 use Rattle.area.specs.Encoding.{Area, heldOf, entriesOf, recordsFor, encodedFrom, runWith, machineOf, written}
 use Rattle.quadrature.specs.Readings.{recordAt}
 use Rattle.soundness.specs.Clauses.{isSound}
-use Rattle.encoding.specs.Encodes.{Formed}
+use Rattle.encoding.specs.Encodes.{WellFormed}
 use Rattle.encoding.proofs.Places.{entries-length, levels-at}
 use Rattle.encoding.proofs.Facts.{range-facts}
 use Rattle.machine.specs.Log.{firstWanted}
@@ -24,13 +24,13 @@ use Rattle.machine.specs.Steps.{started, deliver}
 use Rattle.machine.specs.Causes.{firstCause, deliverCauses, promoteCauses}
 use Rattle.machine.specs.Areas.{startOn, deliverOn, promoteOn}
 use Rattle.machine.proofs.Facts.{step-facts}
-use Rattle.writing.specs.Settled.{Settled}
+use Rattle.writing.specs.ValidArea.{ValidArea}
 use Rattle.writing.proofs.Areas.{held-is, state-is, held-record}
 use Rattle.writing.proofs.Facts.{write-facts}
 use Rattle.writing.proofs.Start.{root-store}
 use Rattle.calls.specs.Replies.{lengthsOf}
 use Rattle.calls.proofs.Accepted.{Deliverable, deliverable, promotable}
-use Rattle.calls.proofs.Next.{settled}
+use Rattle.calls.proofs.Next.{valid}
 use Rattle.calls.proofs.Outcomes.{grown, outcome-ways}
 
 -- ---- start
@@ -69,9 +69,9 @@ stored-at s rs f n room h =
     before : length (take f s) ≡ f
     before = length-take-le f s (omega (arith, room))
 
--- ---- on an area whose held records are formed
+-- ---- on an area whose held records are well-formed
 
-module _ (a : Area) (formed : Formed (heldOf a)) where
+module _ (a : Area) (well-formed : WellFormed (heldOf a)) where
   abbrev w : ℕ
   w = firstWanted (entriesOf a)
 
@@ -80,8 +80,8 @@ module _ (a : Area) (formed : Formed (heldOf a)) where
     accepted : Deliverable (lengthsOf a) (isSound a) (machineOf a .log) rs
     accepted = deliverable (lengthsOf a) (isSound a) (machineOf a .log) rs none
 
-    abbrev set-up : Settled a
-    set-up = settled a formed (accepted .clear)
+    abbrev set-up : ValidArea a
+    set-up = valid a well-formed (accepted .clear)
 
     -- the store, with the block's first reading as the held records have it
     stored-is : deliverOn a rs i .store ≡ sets (a .store) (recordAt (heldOf a) w .first) rs
@@ -114,8 +114,8 @@ module _ (a : Area) (formed : Formed (heldOf a)) where
     abbrev p : ℕ
     p = selected (entriesOf a)
 
-    abbrev ready : Settled a
-    ready = settled a formed (promotable (lengthsOf a) (isSound a) (machineOf a .log) none .clear)
+    abbrev ready : ValidArea a
+    ready = valid a well-formed (promotable (lengthsOf a) (isSound a) (machineOf a .log) none .clear)
 
     free : length (entriesOf a) ≤ firstWanted (entriesOf a)
     unfolding machineOf

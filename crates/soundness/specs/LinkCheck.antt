@@ -33,7 +33,7 @@ pub record Bars (d : ℕ) (rs : List IndexRecord) (p a c : ℕ) : Type 0 where
 -- Two places with one index would have the same place behind, whose forward link names one of them only; so, down to the root, all are
 -- different. An admissible index other than the root is a forward neighbour of an old one. Beyond axis d levels are 1, so links there
 -- come out none.
-pub record Followed (d : ℕ) (rs : List IndexRecord) : Type 0 where
+pub record LinkChecked (d : ℕ) (rs : List IndexRecord) : Type 0 where
   pub count : (1 ≤ length rs) × (length rs ≤ 512)
   pub index : (p : ℕ) → p < length rs → Index d (levelsAt rs p)
   pub states : (p : ℕ) → p < length rs → stateAt rs p ≤ 2

@@ -1,4 +1,4 @@
--- `checking::ahead_fits` meets its contract: none, or the place that is named answers. Assumes nothing.
+-- `checking::forward_link_fits` meets its contract: none, or the place that is named answers. Assumes nothing.
 use borrow.Author.Needs.{needs}
 use mathlib.Core.Path.{sym, ap, _∙_}
 use Prim.Native.Nat.{_-_}
@@ -10,8 +10,8 @@ use Rattle.area.specs.Encoding.{none}
 use Rattle.soundness.specs.Held.{backwardLink}
 use Rattle.checking.proofs.Cells.{in-cells}
 use Rattle.checking.proofs.Links.{ahead-none, ahead-far, ahead-named}
-use Rattle.checking.proofs.ahead_fits.Statement.{statement}
-use Rattle.checking.proofs.ahead_fits.Tie as tie
+use Rattle.checking.proofs.forward_link_fits.Statement.{statement}
+use Rattle.checking.proofs.forward_link_fits.Tie as tie
 
 link-at-requires : tie.Need-link-at-requires
 link-at-requires c κs = (in-cells (now (c .before .args .cells)) (c .before .args .place) (omega arith), omega arith)
@@ -54,8 +54,8 @@ returns-3 c =
     (ahead-named rs (s .args .place) (s .args .axis) (λ e. c .before .before .if1 .left (l .ensures ∙ e))
     (omega (arith, l .ensures, c .before .if2 .left, s .pre .0)))
 
-pub ahead-fits-spec : {M : Type 1} → statement M
-ahead-fits-spec =
+pub forward-link-fits-spec : {M : Type 1} → statement M
+forward-link-fits-spec =
     tie.close
     (tie.spec
     link-at-requires

@@ -30,13 +30,13 @@ pub data Result : Type 0 where
   unfinished : Result
 
 -- The number of readings before the first that is out of range.
-unfoldable pub firstBad : List ℤ → ℕ
-firstBad [] = 0
-firstBad (x ∷ xs) = cond (leb (natAbs x) 1048576) (suc (firstBad xs)) 0
+unfoldable pub firstOutOfRange : List ℤ → ℕ
+firstOutOfRange [] = 0
+firstOutOfRange (x ∷ xs) = cond (leb (natAbs x) 1048576) (suc (firstOutOfRange xs)) 0
 
 -- 7 names the entry's count field, 8 the reading.
 unfoldable pub deliveryByte : List ℕ → (entry number : ℕ) → ℕ
-deliveryByte c i n = cond (eqb n 7) (entryByte i + 4) (four c (entryByte i + 8) + 4 * firstBad (entryOf c i .readings))
+deliveryByte c i n = cond (eqb n 7) (entryByte i + 4) (four c (entryByte i + 8) + 4 * firstOutOfRange (entryOf c i .readings))
 
 -- Why the delivery of entry i is refused, 0 if it isn't.
 abbrev pub deliveryCause : List ℕ → Machine → ℕ → ℕ
@@ -53,17 +53,17 @@ byOutcome rule.spent m i next = ended spent m i
 byOutcome rule.promoted m i next = next
 
 -- At most n steps, with i entries delivered.
-unfoldable pub course : List ℕ → (n : ℕ) → Machine → (i : ℕ) → Result
-course c zero m i = unfinished
-course c (suc n) m i =
+unfoldable pub execution : List ℕ → (n : ℕ) → Machine → (i : ℕ) → Result
+execution c zero m i = unfinished
+execution c (suc n) m i =
     cond (anyWanted (m .log .entries))
     (cond (leb (entryCount c) i) (ended short m i)
-    (unlessRefused c m i (course c n (deliver m (entryOf c i .readings) (entryOf c i .indicator)) (i + 1))))
-    (byOutcome (rule.promote (m .log) .outcome) m i (course c n (promoteStep m) i))
+    (unlessRefused c m i (execution c n (deliver m (entryOf c i .readings) (entryOf c i .indicator)) (i + 1))))
+    (byOutcome (rule.promote (m .log) .outcome) m i (execution c n (promoteStep m) i))
 
 -- Every step but the last delivers one of at most 512 entries or makes one of at most 512 indices old: 512 + 512 + 1.
-abbrev pub steps : ℕ
-steps = 1025
+abbrev pub stepLimit : ℕ
+stepLimit = 1025
 
 -- Numbers 1 and 2 name bytes 0 and 4.
 unfoldable pub startByte : ℕ → ℕ
@@ -80,7 +80,7 @@ startCause c = firstCause (startCauses ownLengths (fileSettings c))
 unfoldable pub resultIn : Form → List ℕ → Result
 resultIn (broken f) c = refusedAt (number f) (byteOf f)
 resultIn formed c =
-    cond (eqb (startCause c) 0) (course c steps (started (fileSettings c)) 0) (refusedAt (startCause c) (startByte (startCause c)))
+    cond (eqb (startCause c) 0) (execution c stepLimit (started (fileSettings c)) 0) (refusedAt (startCause c) (startByte (startCause c)))
 
 unfoldable pub resultOf : List ℕ → Result
 resultOf c = resultIn (formOf c) c

@@ -1,4 +1,4 @@
--- `quadrature::weighed_reading` meets its contract: a reading of size at most 2^20 times such a weight fits. Assumes nothing.
+-- `quadrature::weighted_reading` meets its contract: a reading of size at most 2^20 times such a weight fits. Assumes nothing.
 use borrow.Author.Needs.{needs}
 use mathlib.Core.Path.{_≡_, sym, ap, _∙_, subst}
 use Prim.Native.Nat.{_+_, _*_, _^_, _≤_, _<_}
@@ -13,8 +13,8 @@ use mir.Facts.{toZ-ofZ}
 use Rattle.sums.proofs.Sizes.{abs-mul}
 use Rattle.sums.proofs.Words.{small-fits, reading-fits, back, back-small}
 use Rattle.area.proofs.Records.{length-recordsOf}
-use Rattle.quadrature.proofs.weighed_reading.Statement.{statement}
-use Rattle.quadrature.proofs.weighed_reading.Tie as tie
+use Rattle.quadrature.proofs.weighted_reading.Statement.{statement}
+use Rattle.quadrature.proofs.weighted_reading.Tie as tie
 
 -- a reading as 64 bits
 cast-ok : (x : ℤ) → natAbs x ≤ 2 ^ 20 → SFits w64 (toZ w32 (ofZ w32 x))
@@ -66,8 +66,8 @@ returns c =
     rw (factors w x (c .before .before .before .fits .weight) (in-range c)) (back-small (w *ℤ x) (small w x (c .before .before .before .pre .1 .0) (in-range c)))
     ∙ ap (λ f. w *ℤ getD s (f + r) (pos 0)) (c .before .first-at .ensures)
 
-pub weighed-reading-spec : {M : Type 1} → statement M
-weighed-reading-spec =
+pub weighted-reading-spec : {M : Type 1} → statement M
+weighted-reading-spec =
     tie.close
     (tie.spec
     first-at-requires

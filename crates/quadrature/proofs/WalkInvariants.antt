@@ -19,11 +19,11 @@ use Rattle.grid.specs.Block.{blockSize}
 use Rattle.grid.specs.Difference.{behind}
 use Rattle.grid.specs.Terms.{IsReading, InRange}
 use Rattle.grid.proofs.Levels.{Levels, levels-from}
-use Rattle.grid.proofs.Turns.{size-pos, levels-drop}
+use Rattle.grid.proofs.LoopSteps.{size-pos, levels-drop}
 use Rattle.grid.proofs.Neighbours.{root-level, forward-level, forward-other, forward-length}
 use Rattle.area.specs.declared.IndexRecord.{IndexRecord}
-use Rattle.quadrature.specs.Readings.{recordAt, placeIn, fetched}
-use Rattle.quadrature.specs.Ready.{Ready, Stands}
+use Rattle.quadrature.specs.Readings.{recordAt, placeIn, storedReading}
+use Rattle.quadrature.specs.Ready.{Ready, WalkInvariant}
 use Rattle.quadrature.specs.Parts.{left, leftAt}
 use Rattle.quadrature.proofs.Walks.{behind-left}
 use Rattle.quadrature.proofs.Places.{place-levels, place-inside, below-none, higher-append, higher-take, size-append}
@@ -50,9 +50,9 @@ module _ {d : ℕ} {rs : List IndexRecord} {s : List ℤ} {k : List ℕ} (ready 
   at-root =
       subst (λ p. recordAt rs p .levels ≡ root) (ready .root-place) (place-levels rs root (below-none (ready .found root root-lower)))
 
-  pub stands-start : Stands rs k 0 0 0
+  pub invariant-start : WalkInvariant rs k 0 0 0
   unfolding blockSize
-  stands-start =
+  invariant-start =
       record {
         inside = omega arith;
         own = ap (placeIn rs) at-root ∙ ready .root-place;
@@ -64,7 +64,7 @@ module _ {d : ℕ} {rs : List IndexRecord} {s : List ℤ} {k : List ℕ} (ready 
   pub first-level : level (recordAt rs 0 .levels) 0 ≡ 1
   first-level = ap (λ l. level l 0) at-root ∙ root-level 0 (omega arith)
 
-  module _ {axis place rank : ℕ} (st : Stands rs k axis place rank) where
+  module _ {axis place rank : ℕ} (st : WalkInvariant rs k axis place rank) where
     abbrev levels : List ℕ
     levels = recordAt rs place .levels
 
@@ -111,8 +111,8 @@ module _ {d : ℕ} {rs : List IndexRecord} {s : List ℤ} {k : List ℕ} (ready 
       unfolding forward
       same-front = ap (take axis) raised-at ∙ take-set-le axis levels axis (level levels axis + 1) (omega arith)
 
-      pub stands-higher : Stands rs k axis (placeIn rs raised) rank
-      stands-higher =
+      pub invariant-higher : WalkInvariant rs k axis (placeIn rs raised) rank
+      invariant-higher =
           record {
             inside = ready .found raised raised-lower;
             own = ap (placeIn rs) raised-at;
@@ -126,7 +126,7 @@ module _ {d : ℕ} {rs : List IndexRecord} {s : List ℤ} {k : List ℕ} (ready 
           ap (λ l. level l axis) raised-at ∙ forward-level levels axis (let e : length levels ≡ 8 = eight-levels in omega arith) ∙ sym (add-one (level levels axis))
 
       pub left-higher : leftAt rs s axis (placeIn rs raised) rank ≡ leftAt rs s axis place rank
-      left-higher = ap (λ l. left (fetched rs s) l rank) same-front
+      left-higher = ap (λ l. left (storedReading rs s) l rank) same-front
 
     -- ---- one axis further
 
@@ -138,8 +138,8 @@ module _ {d : ℕ} {rs : List IndexRecord} {s : List ℤ} {k : List ℕ} (ready 
       unfolding blockSize
       size-next = ap blockSize take-next ∙ size-append (take axis levels) (level levels axis ∷ []) ∙ ap (λ x. blockSize (take axis levels) * x) (NatL.mul-one (newCount (level levels axis)))
 
-      pub stands-further : (n : ℕ) → n < newCount (level levels axis) → Stands rs k (axis + 1) place (rank * newCount (level levels axis) + n)
-      stands-further n h =
+      pub invariant-further : (n : ℕ) → n < newCount (level levels axis) → WalkInvariant rs k (axis + 1) place (rank * newCount (level levels axis) + n)
+      invariant-further n h =
           record {
             inside = st .inside;
             own = st .own;
@@ -150,17 +150,17 @@ module _ {d : ℕ} {rs : List IndexRecord} {s : List ℤ} {k : List ℕ} (ready 
 
       -- where the axis is at level 1 it has one point, and the rank stays
       module _ (one : level levels axis ≡ 1) where
-        pub stands-past : Stands rs k (axis + 1) place rank
+        pub invariant-past : WalkInvariant rs k (axis + 1) place rank
         unfolding newCount
-        stands-past =
-            subst (λ r. Stands rs k (axis + 1) place r) (ap (λ l. rank * newCount l + 0) one ∙ rank-only rank)
-            (stands-further 0 (subst (λ l. 0 < newCount l) (sym one) (omega arith)))
+        invariant-past =
+            subst (λ r. WalkInvariant rs k (axis + 1) place r) (ap (λ l. rank * newCount l + 0) one ∙ rank-only rank)
+            (invariant-further 0 (subst (λ l. 0 < newCount l) (sym one) (omega arith)))
 
         pub left-past : leftAt rs s (axis + 1) place rank ≡ behind (leftAt rs s axis place rank) 1 0
         unfolding newCount
         left-past =
-            sym (behind-left (fetched rs s) (take axis levels) rank 1 0
-            ∙ ap₂ (left (fetched rs s)) (ap (λ x. take axis levels ++ (x ∷ [])) (sym one) ∙ sym take-next) (rank-only rank))
+            sym (behind-left (storedReading rs s) (take axis levels) rank 1 0
+            ∙ ap₂ (left (storedReading rs s)) (ap (λ x. take axis levels ++ (x ∷ [])) (sym one) ∙ sym take-next) (rank-only rank))
 
     -- ---- the readings left are in range
 
@@ -223,9 +223,9 @@ module _ {d : ℕ} {rs : List IndexRecord} {s : List ℤ} {k : List ℕ} (ready 
       ones-size (suc m) = rw (ones-size m)
 
       pub left-one : leftAt rs s axis place rank (replicate (8 - axis) 1) 0 ≡ getD s (recordAt rs place .first + rank) (pos 0)
-      unfolding left fetched
+      unfolding left storedReading
       left-one =
-          ap₂ (fetched rs s) whole-levels (ap (λ x. rank * x + 0) (ones-size (8 - axis)) ∙ rank-only rank)
+          ap₂ (storedReading rs s) whole-levels (ap (λ x. rank * x + 0) (ones-size (8 - axis)) ∙ rank-only rank)
           ∙ ap (λ p. getD s (recordAt rs p .first + rank) (pos 0)) (st .own)
 
       size-levels : blockSize (take axis levels) ≡ blockSize levels
@@ -241,7 +241,7 @@ module _ {d : ℕ} {rs : List IndexRecord} {s : List ℤ} {k : List ℕ} (ready 
           omega arith
 
       pub reading-range : IsReading (getD s (recordAt rs place .first + rank) (pos 0))
-      unfolding fetched
+      unfolding storedReading
       reading-range =
           subst (λ p. IsReading (getD s (recordAt rs p .first + rank) (pos 0))) (st .own)
           (ready .range levels rank (st .lower) (subst (λ x. rank < x) size-levels (st .in-block)))

@@ -1,4 +1,4 @@
--- `records::gather` meets its contract: a walk of its MIR, by hand, with a loop. In each turn a copy of the cells' slice goes to
+-- `records::deserialize` meets its contract: a walk of its MIR, by hand, with a loop. In each turn a copy of the cells' slice goes to
 -- `area::load`, and the records are lent again to `store`, for a lifetime that is made for the call, and come back (`Again.antt`).
 -- Assumes nothing.
 use mathlib.Core.Path.{_≡_, refl, sym, ap, _∙_, subst}
@@ -61,21 +61,21 @@ use Rattle.area.proofs.load.Met as load-thm
 use Rattle.records.specs.Lent.{over}
 use Rattle.records.proofs.Again.{LentAgain, lends-again, comes-back}
 use Rattle.records.proofs.Orders.{less-or}
-use Rattle.records.proofs.Overs.{over-none, gather-next}
+use Rattle.records.proofs.Overs.{over-none, deserialize-next}
 use Rattle.records.proofs.store as put
 use Rattle.records.proofs.store.Symbol as put-def
 use Rattle.records.proofs.store.Symbol.{name as #records·store}
 use Rattle.records.proofs.store.Met as put-thm
-use Rattle.records.proofs.gather.Key.{name as #records·gather}
-use Rattle.records.proofs.gather as gather
-use Rattle.records.proofs.gather.Statement as stated
-use Rattle.records.proofs.gather.Code as code
-use Rattle.records.proofs.gather.Code.Mir as text
+use Rattle.records.proofs.deserialize.Key.{name as #records·deserialize}
+use Rattle.records.proofs.deserialize as deserialize
+use Rattle.records.proofs.deserialize.Statement as stated
+use Rattle.records.proofs.deserialize.Code as code
+use Rattle.records.proofs.deserialize.Code.Mir as text
 
 abbrev R : RattleType
 R = T.the-row
 
-abbrev stayed : Stays (gather.ended .signature .params) (gather.ended .kept)
+abbrev stayed : Stays (deserialize.ended .signature .params) (deserialize.ended .kept)
 stayed = (stay-slice (0 ∷ []) tt (plain (λ _. R)), (stay-none (λ _. usize) yes, (stay-none-slice (1 ∷ []) tt (plain (λ _. u32)) yes, tt)))
 
 -- the types of the locals
@@ -122,7 +122,7 @@ module _ {M : Type 1} (𝓤 : URA M) (H : Heap 𝓤) (A : Atoms 𝓤) (W : Given
   abbrev a : Arg
   a = (x₀ γ₀ ys, (n, (x₁, tt)))
 
-  abbrev at : Vals gather.signature (κ₀, (κ₁, tt))
+  abbrev at : Vals deserialize.signature (κ₀, (κ₁, tt))
   at = (s₀ (length ys) ∷ [], (vint w64 n ∷ [], (s₁ ∷ [], tt)))
 
   abbrev Own₀ : List IndexRecord → ℕ → Fml
@@ -132,13 +132,13 @@ module _ {M : Type 1} (𝓤 : URA M) (H : Heap 𝓤) (A : Atoms 𝓤) (W : Given
   Own₁ = ShrSlice (named 1) κ₁ u32 .own x₁ (s₁ ∷ [])
 
   abbrev Post : Val → SProp 𝓤
-  Post = walkOf 𝓤 H A gather.ended stayed (gather.clauses 𝓤 H A mem run) .post (((κ₀, (κ₁, tt)), (q₀, (q₁, tt)), tt, a, at), tt)
+  Post = walkOf 𝓤 H A deserialize.ended stayed (deserialize.clauses 𝓤 H A mem run) .post (((κ₀, (κ₁, tt)), (q₀, (q₁, tt)), tt, a, at), tt)
 
   exits : (l : List IndexRecord) → l ≡ over n (recordsOf cs) ys → length l ≡ length ys
       → ent 𝓤 (⋆ 𝓤 H A (‵ (flft κ₀ q₀) ∷ ‵ (flft κ₁ q₁) ∷ ‵ (Own₀ l (length ys)) ∷ ‵ Own₁ ∷ [])) (Post vunit)
   exits l e same =
       qed W (‵ (flft κ₀ q₀) ∷ ‵ (flft κ₁ q₁) ∷ ‵ (Own₀ l (length ys)) ∷ ‵ Own₁ ∷ []) ∵
-      suffices ! _ (ends-at 𝓤 H A gather.ended stayed (gather.clauses 𝓤 H A mem run) W (((κ₀, (κ₁, tt)), (q₀, (q₁, tt)), tt, a, at), tt) vunit tt (l, (tt, (tt, tt))) (same, (tt, (tt, tt)))) $ says ! e $
+      suffices ! _ (ends-at 𝓤 H A deserialize.ended stayed (deserialize.clauses 𝓤 H A mem run) W (((κ₀, (κ₁, tt)), (q₀, (q₁, tt)), tt, a, at), tt) vunit tt (l, (tt, (tt, tt))) (same, (tt, (tt, tt)))) $ says ! e $
       nothing ! $ move ! (2 ∷ 0 ∷ []) $ join ! $ move ! (1 ∷ 0 ∷ []) $ join ! $ frame ! $
       nothing ! $ move ! (2 ∷ 0 ∷ []) $ fjoin ! $ owned ! usize (Is usize) (uint-makes 𝓤 H A W w64) n _ (refl, n-fits) $ fjoin ! $ move ! (1 ∷ 0 ∷ []) $ fjoin ! $ frame ! $
       feqI ! (List Val) (vunit ∷ []) (vunit ∷ []) refl $ done !
@@ -186,7 +186,7 @@ module _ {M : Type 1} (𝓤 : URA M) (H : Heap 𝓤) (A : Atoms 𝓤) (W : Given
   kept t less r l e e₁ same = record {
     upto = add-one-le less;
     same = same ∙ t .2 .same;
-    laid = gather-next ys (t .1) l cs (t .0) n r less within₀ within₁ (t .2 .laid) e e₁;
+    laid = deserialize-next ys (t .1) l cs (t .0) n r less within₀ within₁ (t .2 .laid) e e₁;
   }
 
   ended : (t : State) → n ≤ t .0 → t .1 ≡ over n (recordsOf cs) ys
@@ -287,7 +287,7 @@ module _ {M : Type 1} (𝓤 : URA M) (H : Heap 𝓤) (A : Atoms 𝓤) (W : Given
           keep ! (7 ∷ 8 ∷ 9 ∷ 10 ∷ 11 ∷ 12 ∷ 13 ∷ 14 ∷ 15 ∷ 16 ∷ 17 ∷ 18 ∷ 19 ∷ 20 ∷ 21 ∷ 22 ∷ 23 ∷ 24 ∷ 25 ∷ 26 ∷ 6 ∷ 4 ∷ 3 ∷ 0 ∷ []) $
           first ! $ blocks ! $ loops ! 𝓣 Nearer Nearer-wf At turns (0, ys, begun)
 
-    walk : ent 𝓤 (onEntry 𝓤 H A gather.signature (κ₀, (κ₁, tt)) (q₀, (q₁, tt)) a at) (WpFn 𝓤 H C Λ code.function (s₀ (length ys) ∷ vint w64 n ∷ s₁ ∷ []) Post)
+    walk : ent 𝓤 (onEntry 𝓤 H A deserialize.signature (κ₀, (κ₁, tt)) (q₀, (q₁, tt)) a at) (WpFn 𝓤 H C Λ code.function (s₀ (length ys) ∷ vint w64 n ∷ s₁ ∷ []) Post)
     walk =
         qed W ((‵ (flft κ₀ q₀) ⊛ ‵ (flft κ₁ q₁) ⊛ ‵ ftrue) ∷ ‵ (owns (MutSlice (named 0) κ₀ R ∷ usize ∷ ShrSlice (named 1) κ₁ u32 ∷ []) a at) ∷ []) ∵ enter ! C Λ code.function (s₀ (length ys) ∷ vint w64 n ∷ s₁ ∷ []) _ $
         alloc1 ! (λ l₀. alloc1 ! (λ l₁. alloc1 ! (λ l₂. alloc1 ! (λ l₃. alloc1 ! (λ l₄. alloc1 ! (λ l₅. alloc1 ! (λ l₆. alloc1 ! (λ l₇. alloc1 ! (λ l₈. alloc1 ! (λ l₉. alloc0 ! $ params1 ! $
@@ -295,23 +295,23 @@ module _ {M : Type 1} (𝓤 : URA M) (H : Heap 𝓤) (A : Atoms 𝓤) (W : Given
         body l₀ l₁ l₂ l₃ l₄ l₅ l₆ l₇ l₈ l₉))))))))))
 
 module _ {M : Type 1} (𝓤 : URA M) (H : Heap 𝓤) (A : Atoms 𝓤) (W : Given 𝓤 H A) (mem : Memory → SProp 𝓤) (run : Routine → Fun 𝓤) (𝓣 : Tables 𝓤 H) (known-load : Triple 𝓤 (𝓣 .C #area·load) (Load 𝓤 H A mem run)) (known-put : Triple 𝓤 (𝓣 .C #records·store) (Put 𝓤 H A mem run)) where
-  gather-walks : Walks 𝓤 H A gather.ended stayed (WpFn 𝓤 H (𝓣 .C) (𝓣 .Λ) code.function) (gather.clauses 𝓤 H A mem run)
-  gather-walks = walked 𝓤 H A gather.ended stayed (gather.clauses 𝓤 H A mem run) (WpFn 𝓤 H (𝓣 .C) (𝓣 .Λ) code.function)
+  deserialize-walks : Walks 𝓤 H A deserialize.ended stayed (WpFn 𝓤 H (𝓣 .C) (𝓣 .Λ) code.function) (deserialize.clauses 𝓤 H A mem run)
+  deserialize-walks = walked 𝓤 H A deserialize.ended stayed (deserialize.clauses 𝓤 H A mem run) (WpFn 𝓤 H (𝓣 .C) (𝓣 .Λ) code.function)
       (λ κs. (slice-vals, (uint-vals w64, (slice-vals, tt)))) (λ κs. (mut-slice-tells (named 0) (κs .0) R, (uint-tells w64, (shr-slice-tells (named 1) (κs .1 .0) u32, tt))))
       (λ κs qs bounds a g are. needs 𝓤 ((a .1 .0 ≤ length (a .0 .now)) × (a .1 .0 * 27 ≤ length (a .1 .1 .0 .now))) _ (λ pre.
       walk 𝓤 H A W mem run (κs .0) (κs .1 .0) (qs .0) (qs .1 .0) (a .0 .ptr .0) (a .0 .ptr .1) (a .0 .name) (a .1 .1 .0 .ptr .0) (a .1 .1 .0 .ptr .1) (a .1 .1 .0 .name)
       (a .0 .now) (a .1 .0) (a .1 .1 .0 .now) (are .0 .0 .1) (are .1 .0 .1) (are .1 .1 .0 .0 .1) (pre .0) (pre .1) 𝓣 known-load known-put))
 
-  gather-meets : Meets 𝓤 H A gather.signature (WpFn 𝓤 H (𝓣 .C) (𝓣 .Λ) code.function) (gather.spec 𝓤 H A mem run)
-  gather-meets =
-      walk-meets 𝓤 H A gather.ended stayed W (goes-slice 𝓤 H A W 2 0 tt (plain (λ _. R)), (goes-none 𝓤 H A W 2 (λ _. usize) yes (λ κs x f. refl), (goes-none-slice 𝓤 H A W 2 (1 ∷ []) tt (plain (λ _. u32)) yes, tt))) (gather.clauses 𝓤 H A mem run)
-      (WpFn 𝓤 H (𝓣 .C) (𝓣 .Λ) code.function) (WpFn-mono 𝓤 H (W .laws) 𝓣 code.function) gather-walks
+  deserialize-meets : Meets 𝓤 H A deserialize.signature (WpFn 𝓤 H (𝓣 .C) (𝓣 .Λ) code.function) (deserialize.spec 𝓤 H A mem run)
+  deserialize-meets =
+      walk-meets 𝓤 H A deserialize.ended stayed W (goes-slice 𝓤 H A W 2 0 tt (plain (λ _. R)), (goes-none 𝓤 H A W 2 (λ _. usize) yes (λ κs x f. refl), (goes-none-slice 𝓤 H A W 2 (1 ∷ []) tt (plain (λ _. u32)) yes, tt))) (deserialize.clauses 𝓤 H A mem run)
+      (WpFn 𝓤 H (𝓣 .C) (𝓣 .Λ) code.function) (WpFn-mono 𝓤 H (W .laws) 𝓣 code.function) deserialize-walks
 
-pub gather-spec : {M : Type 1} → stated.statement M
+pub deserialize-spec : {M : Type 1} → stated.statement M
 unfolding code.routine tablesOf
-gather-spec 𝓤 H 𝓜 𝓖 𝓡 =
-    entered 𝓤 H (tripleOf 𝓤 H (𝓖 .A) gather.signature (gather.spec 𝓤 H (𝓖 .A) (𝓜 .mem) (𝓡 .run)))
-    (tables 𝓤 H 𝓜 𝓡 code.env .C) (tables 𝓤 H 𝓜 𝓡 code.env .Λ) #records·gather code.function (code.unfolded 𝓤 H 𝓜 𝓡)
-    (gather-meets 𝓤 H (𝓖 .A) (givenOf 𝓤 H 𝓜 𝓖) (𝓜 .mem) (𝓡 .run) (tablesOf 𝓤 H 𝓜 (tables 𝓤 H 𝓜 𝓡 code.env))
+deserialize-spec 𝓤 H 𝓜 𝓖 𝓡 =
+    entered 𝓤 H (tripleOf 𝓤 H (𝓖 .A) deserialize.signature (deserialize.spec 𝓤 H (𝓖 .A) (𝓜 .mem) (𝓡 .run)))
+    (tables 𝓤 H 𝓜 𝓡 code.env .C) (tables 𝓤 H 𝓜 𝓡 code.env .Λ) #records·deserialize code.function (code.unfolded 𝓤 H 𝓜 𝓡)
+    (deserialize-meets 𝓤 H (𝓖 .A) (givenOf 𝓤 H 𝓜 𝓖) (𝓜 .mem) (𝓡 .run) (tablesOf 𝓤 H 𝓜 (tables 𝓤 H 𝓜 𝓡 code.env))
     (cited 𝓤 H (Load 𝓤 H (𝓖 .A) (𝓜 .mem) (𝓡 .run)) 𝓜 𝓡 code.env #area·load load-def.routine code.calls-area·load (load-thm.met 𝓤 H 𝓜 𝓖 𝓡))
     (cited 𝓤 H (Put 𝓤 H (𝓖 .A) (𝓜 .mem) (𝓡 .run)) 𝓜 𝓡 code.env #records·store put-def.routine code.calls-records·store (put-thm.met 𝓤 H 𝓜 𝓖 𝓡)))

@@ -1,4 +1,4 @@
--- `checking::back_fits` meets its contract: by the level along the axis. Assumes nothing.
+-- `checking::backward_link_fits` meets its contract: by the level along the axis. Assumes nothing.
 use borrow.Author.Needs.{needs}
 use mathlib.Core.Path.{sym, ap, _∙_}
 use Prim.Native.Nat.{_-_}
@@ -11,8 +11,8 @@ use Rattle.grid.specs.Index.{level}
 use Rattle.area.specs.Encoding.{none}
 use Rattle.checking.proofs.Cells.{in-cells, formed}
 use Rattle.checking.proofs.Links.{back-none, back-behind}
-use Rattle.checking.proofs.back_fits.Statement.{statement}
-use Rattle.checking.proofs.back_fits.Tie as tie
+use Rattle.checking.proofs.backward_link_fits.Statement.{statement}
+use Rattle.checking.proofs.backward_link_fits.Tie as tie
 
 mul-if1 : tie.Need-mul-if1
 mul-if1 c = search needs
@@ -26,8 +26,8 @@ add-link-at c = search needs
 link-at-requires : tie.Need-link-at-requires
 link-at-requires c κs = (in-cells (now (c .before .before .args .cells)) (c .before .before .args .place) (omega arith), omega arith)
 
-behind-fits-requires : tie.Need-behind-fits-requires
-behind-fits-requires c κs = search needs
+backward-neighbour-fits-requires : tie.Need-backward-neighbour-fits-requires
+backward-neighbour-fits-requires c κs = search needs
 
 returns : tie.Need-returns
 unfolding none
@@ -40,16 +40,16 @@ returns-2 : tie.Need-returns-2
 returns-2 c =
     let s = c .before .before .before in
     let here = ap (λ k. level k (s .args .axis)) (s .pre .1) in
-    c .behind-fits .ensures ∙ sym (back-behind (recordsOf (now (s .args .cells))) (s .args .place) (s .args .axis) (omega (arith, here, c .before .if1 .left)))
+    c .backward-neighbour-fits .ensures ∙ sym (back-behind (recordsOf (now (s .args .cells))) (s .args .place) (s .args .axis) (omega (arith, here, c .before .if1 .left)))
 
-pub back-fits-spec : {M : Type 1} → statement M
-back-fits-spec =
+pub backward-link-fits-spec : {M : Type 1} → statement M
+backward-link-fits-spec =
     tie.close
     (tie.spec
     mul-if1
     array-read-if1
     add-link-at
     link-at-requires
-    behind-fits-requires
+    backward-neighbour-fits-requires
     returns
     returns-2)

@@ -1,4 +1,4 @@
--- `running::first_bad` meets its contract: those passed are in range, so the first that is not is among the rest. Assumes nothing.
+-- `running::first_out_of_range` meets its contract: those passed are in range, so the first that is not is among the rest. Assumes nothing.
 use mathlib.Core.Path.{_≡_, sym, _∙_}
 use mathlib.Core.Bool.{true, false}
 use mathlib.Core.List.{List}
@@ -15,13 +15,13 @@ use mir.Syntax.{w32}
 use mir.Val.{SFits, toZ, ofZ}
 use mir.Facts.{toZ-ofZ}
 use Rattle.checking.proofs.Bounds.{too-low, too-high, in-range}
-use Rattle.running.specs.Course.{firstBad}
+use Rattle.running.specs.Execution.{firstOutOfRange}
 use Rattle.running.proofs.Blocks.{bad-here, bad-later, bad-none}
-use Rattle.running.proofs.first_bad.Statement.{statement}
-use Rattle.running.proofs.first_bad.Tie as tie
+use Rattle.running.proofs.first_out_of_range.Statement.{statement}
+use Rattle.running.proofs.first_out_of_range.Tie as tie
 
 abbrev Inv-loop : tie.InvT-loop
-Inv-loop readings count n₀ n = (n ≤ length readings) × (firstBad readings ≡ n + firstBad (drop n readings))
+Inv-loop readings count n₀ n = (n ≤ length readings) × (firstOutOfRange readings ≡ n + firstOutOfRange (drop n readings))
 
 abbrev μ-loop : tie.MeasureT-loop
 μ-loop readings count n₀ n = length readings - n
@@ -41,7 +41,7 @@ module _ (rs : List ℤ) (i : ℕ) (fits : SFits w32 (getD rs i (pos 0))) where
   fine d e = in-range (getD rs i (pos 0)) 1048576 (rw (toZ-ofZ fits) at d) (rw (toZ-ofZ fits) at e)
 
 loop-holds : tie.Need-loop-holds Inv-loop μ-loop
-loop-holds c = (omega arith, sym (zero-add (firstBad (now (c .args .readings)))))
+loop-holds c = (omega arith, sym (zero-add (firstOutOfRange (now (c .args .readings)))))
 
 mul-reading : tie.Need-mul-reading Inv-loop μ-loop
 mul-reading c = omega arith
@@ -82,8 +82,8 @@ returns-3 c =
     let l = c .before .loop in
     omega (arith, l .inv .1, bad-none (now (s .args .readings)) (l .n) (omega arith))
 
-pub first-bad-spec : {M : Type 1} → statement M
-first-bad-spec =
+pub first-out-of-range-spec : {M : Type 1} → statement M
+first-out-of-range-spec =
     tie.close
     (tie.spec
     Inv-loop

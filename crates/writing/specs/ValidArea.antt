@@ -1,10 +1,10 @@
 -- What the steps ask of an area, and leave.
 use Rattle.area.specs.Encoding.{Area, heldOf}
 use Rattle.soundness.specs.Sound.{Sound, LongEnough}
-use Rattle.encoding.specs.Encodes.{Formed}
+use Rattle.encoding.specs.Encodes.{WellFormed}
 
 -- A sound area in storage that is long enough, read from cells.
-pub record Settled (a : Area) : Type 0 where
+pub record ValidArea (a : Area) : Type 0 where
   pub sound : Sound a
   pub lent : LongEnough a
-  pub formed : Formed (heldOf a)
+  pub well-formed : WellFormed (heldOf a)

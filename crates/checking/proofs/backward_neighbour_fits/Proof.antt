@@ -1,4 +1,4 @@
--- `checking::behind_fits` meets its contract: each question that fails decides the test, and past the last the levels do. Assumes nothing.
+-- `checking::backward_neighbour_fits` meets its contract: each question that fails decides the test, and past the last the levels do. Assumes nothing.
 use borrow.Author.Needs.{needs}
 use mathlib.Core.Path.{sym, ap, _∙_}
 use Prim.Native.Nat.{_-_}
@@ -8,11 +8,11 @@ use Rattle.area.specs.Records.{recordsOf}
 use Rattle.grid.specs.Index.{backward}
 use Rattle.grid.specs.Coefficient.{sameLevels}
 use Rattle.soundness.specs.Held.{levelsAt}
-use Rattle.soundness.specs.Test.{behindTest}
+use Rattle.soundness.specs.Test.{backwardNeighbourTest}
 use Rattle.checking.proofs.Cells.{in-cells}
 use Rattle.checking.proofs.Links.{behind-far, behind-not-old, behind-not-named, behind-levels}
-use Rattle.checking.proofs.behind_fits.Statement.{statement}
-use Rattle.checking.proofs.behind_fits.Tie as tie
+use Rattle.checking.proofs.backward_neighbour_fits.Statement.{statement}
+use Rattle.checking.proofs.backward_neighbour_fits.Tie as tie
 
 add-link-at : tie.Need-add-link-at
 add-link-at c = search needs
@@ -28,7 +28,7 @@ returns c =
     let s = c .before .before .before in
     let rs = recordsOf (now (s .args .cells)) in
     let l = c .before .link-at in
-    sym (ap (behindTest rs (s .args .place) (s .args .axis)) (sym (l .ensures)) ∙ behind-far rs (s .args .place) (s .args .axis) (l .result) (omega arith))
+    sym (ap (backwardNeighbourTest rs (s .args .place) (s .args .axis)) (sym (l .ensures)) ∙ behind-far rs (s .args .place) (s .args .axis) (l .result) (omega arith))
 
 state-at-requires : tie.Need-state-at-requires
 state-at-requires c κs = in-cells (now (c .before .before .before .args .cells)) (c .before .link-at .result) (omega arith)
@@ -39,7 +39,7 @@ returns-2 c =
     let rs = recordsOf (now (s .args .cells)) in
     let l = c .before .before .before .link-at in
     sym
-    (ap (behindTest rs (s .args .place) (s .args .axis)) (sym (l .ensures))
+    (ap (backwardNeighbourTest rs (s .args .place) (s .args .axis)) (sym (l .ensures))
     ∙ behind-not-old rs (s .args .place) (s .args .axis) (l .result) (omega arith) (λ e. c .if2 .taken (c .before .state-at .ensures ∙ e)))
 
 link-at-requires-2 : tie.Need-link-at-requires-2
@@ -54,7 +54,7 @@ returns-3 c =
     let rs = recordsOf (now (s .args .cells)) in
     let l = c .before .before .before .before .before .link-at in
     sym
-    (ap (behindTest rs (s .args .place) (s .args .axis)) (sym (l .ensures))
+    (ap (backwardNeighbourTest rs (s .args .place) (s .args .axis)) (sym (l .ensures))
     ∙ behind-not-named rs (s .args .place) (s .args .axis) (l .result) (omega arith) (sym (c .before .before .before .state-at .ensures) ∙ c .before .before .if2 .left)
     (λ e. c .if3 .taken (c .before .link-at2 .ensures ∙ e)))
 
@@ -72,12 +72,12 @@ returns-4 c =
     let lowered = c .before .backward-neighbour .ensures ∙ ap (λ k. backward k (s .args .axis)) (s .pre .1 .0) in
     c .levels-are .ensures ∙ ap (sameLevels (levelsAt rs (l .result))) lowered
     ∙ sym
-    (ap (behindTest rs (s .args .place) (s .args .axis)) (sym (l .ensures))
+    (ap (backwardNeighbourTest rs (s .args .place) (s .args .axis)) (sym (l .ensures))
     ∙ behind-levels rs (s .args .place) (s .args .axis) (l .result) (omega arith) (sym (c .before .before .before .before .before .state-at .ensures) ∙ c .before .before .before .before .if2 .left)
     (sym (c .before .before .before .link-at2 .ensures) ∙ c .before .before .if3 .left))
 
-pub behind-fits-spec : {M : Type 1} → statement M
-behind-fits-spec =
+pub backward-neighbour-fits-spec : {M : Type 1} → statement M
+backward-neighbour-fits-spec =
     tie.close
     (tie.spec
     add-link-at

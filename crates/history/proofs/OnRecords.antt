@@ -6,7 +6,7 @@ use mathlib.Core.List.{_∷_, map, List·Memᴰ}
 use native.Mathlib.Omega.{arith}
 use Rattle.area.specs.Records.{Run, cellsFor}
 use Rattle.area.specs.Encoding.{Area, areaOf, entriesOf}
-use Rattle.encoding.specs.Encodes.{Formed}
+use Rattle.encoding.specs.Encodes.{WellFormed}
 use Rattle.area.specs.Log.{Log}
 use Rattle.machine.specs.Steps.{startLog}
 use Rattle.soundness.specs.Clauses.{checked}
@@ -16,12 +16,12 @@ use Rattle.records.specs.Lent.{areaOn}
 use Rattle.history.specs.Logged.{logAfter}
 use Rattle.history.specs.Storage.{Storage}
 use Rattle.history.specs.Found.{Found, LinksAgree, Demand}
-use Rattle.history.specs.Recorded.{RecordStorage, inCells, callInCells, recordsAfter, RecordsFound, ThirdDemandOnRecords}
+use Rattle.history.specs.OnRecords.{RecordStorage, inCells, callInCells, recordsAfter, RecordsFound, ThirdDemandOnRecords}
 use Rattle.history.proofs.Demand.{third-demand}
 use Rattle.history.proofs.RecordCells.{cells-run, inStorage, lent-cells, lent-area, all-lent, together}
 
 -- what is found in the cells of the records is found in the records
-module _ (w : RecordStorage) (l : Log) (f : Formed (w .records)) (found : Found (inStorage w) l) where
+module _ (w : RecordStorage) (l : Log) (f : WellFormed (w .records)) (found : Found (inStorage w) l) where
   same-area : areaOf (w .job) (cellsFor (w .records)) (w .store) ≡ areaOn (w .job) (w .records) (w .store)
   same-area = ap (λ (u : Run). record { job = w .job; run = u; store = w .store }) (cells-run (w .records) f)
 
@@ -29,7 +29,7 @@ module _ (w : RecordStorage) (l : Log) (f : Formed (w .records)) (found : Found 
   in-records =
       record {
         entries = ap entriesOf (sym same-area) ∙ found .entries;
-        idle = found .idle;
+        wanted-indicator-zero = found .wanted-indicator-zero;
         job = found .job;
         sound = ap checked (sym same-area) ∙ found .sound;
         neighbours = found .neighbours;
@@ -50,6 +50,6 @@ third-demand-on-records w first later g f lent is taken =
       never-unsound = λ y m. demand .never-unsound y (subst (List·Memᴰ y) (sym (both .answers)) m);
       records = both .records;
       store = both .store;
-      found = in-records (recordsAfter w (first ∷ later)) (logAfter (startLog g) (map callInCells later)) (both .formed)
+      found = in-records (recordsAfter w (first ∷ later)) (logAfter (startLog g) (map callInCells later)) (both .well-formed)
           (subst (λ (v : Storage). Found v (logAfter (startLog g) (map callInCells later))) (both .after) (demand .found));
     }

@@ -1,4 +1,4 @@
--- An area that no cause refuses is settled; and what the code reads from its cells is what its entries have.
+-- An area that no cause refuses is valid; and what the code reads from its cells is what its entries have.
 -- Assumes nothing.
 use mathlib.Core.Path.{_≡_, sym, ap, _∙_, subst}
 use mathlib.Core.Bool.{_&&_, true, false}
@@ -25,7 +25,7 @@ use Rattle.encoding.proofs.Facts.{encoding-facts}
 use Rattle.machine.specs.Log.{firstWanted, anyWanted, wantedIndex}
 use Rattle.machine.specs.Causes.{short, firstCause, resultCauses}
 use Rattle.writing.specs.Heads.{headsOf}
-use Rattle.writing.specs.Settled.{Settled}
+use Rattle.writing.specs.ValidArea.{ValidArea}
 use Rattle.writing.proofs.Unread.{heads-are, alike-wanted}
 use Rattle.writing.proofs.Areas.{clauses, held-is, levels-is}
 use Rattle.calls.specs.Replies.{lengthsOf}
@@ -51,10 +51,10 @@ module _ (j : JobRecord) (c : List ℕ) (s : List ℤ) where
   unfolding checked
   checked-sound h k = rw (length-recordsOf c, le-leb 512 (length c / 27) h, le-leb (leastStore (j .settings)) (length s) k)
 
-  pub settled : firstCause (resultCauses (lengthsOf a) (isSound a) (machineOf a .log)) ≡ 0 → Settled a
-  settled none = record { sound = sound-there a none; lent = long-there a none; formed = encoding-facts .formed j c s }
+  pub valid : firstCause (resultCauses (lengthsOf a) (isSound a) (machineOf a .log)) ≡ 0 → ValidArea a
+  valid none = record { sound = sound-there a none; lent = long-there a none; well-formed = encoding-facts .well-formed j c s }
 
-  module _ (st : Settled a) where
+  module _ (st : ValidArea a) where
     pub held-there : j .held * 27 ≤ length c
     held-there = omega (arith, st .sound .held-lent, length-recordsOf c)
 
@@ -78,8 +78,8 @@ module _ (j : JobRecord) (c : List ℕ) (s : List ℤ) where
 -- ---- where storage and area do not refuse: what the scan for the first wanted place tells
 module _ (j : JobRecord) (cells : List ℕ) (store : List ℤ) (n : ℕ)
     (is : n ≡ firstCause (resultCauses (lengthsOf (areaOf j cells store)) (isSound (areaOf j cells store)) (machineOf (areaOf j cells store) .log))) (none : n ≡ 0) where
-  pub st : Settled (areaOf j cells store)
-  st = settled j cells store (sym is ∙ none)
+  pub st : ValidArea (areaOf j cells store)
+  st = valid j cells store (sym is ∙ none)
 
   module _ (p : ℕ) (e : p ≡ firstWanted (headsOf (heldIn cells (j .held)))) where
     log-wanted : p ≡ firstWanted (entriesOf (areaOf j cells store))
