@@ -9,7 +9,7 @@
 //! - [`calls`]: the seven calls, which refuse;
 //! - [`jobfile`], [`program`]: from a file's bytes to the report.
 //!
-//! [`proved`] is the other side of the comparison.
+//! The other side of the comparison is the package `wihupya-sys`.
 
 pub mod area;
 pub mod calls;
@@ -17,7 +17,6 @@ pub mod check;
 pub mod index;
 pub mod jobfile;
 pub mod program;
-pub mod proved;
 pub mod quadrature;
 pub mod rule;
 pub mod steps;

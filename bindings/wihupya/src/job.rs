@@ -1,10 +1,6 @@
 //! The job record, and 64-bit numbers as two words.
 
-/// The number of words of a job record.
-pub const JOB_WORDS: usize = 10;
-
-/// A job record as the library takes it.
-pub type JobWords = [u32; JOB_WORDS];
+use wihupya_sys::JobWords;
 
 /// A job's own numbers: one part of its work area, beside the index records
 /// and the reading store. The default one is no job's.

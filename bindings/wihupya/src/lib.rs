@@ -37,15 +37,16 @@
 //! ```
 
 #![deny(missing_docs)]
-#![deny(unsafe_code)]
+#![forbid(unsafe_code)]
 
-#[allow(unsafe_code)]
-mod exported;
 mod job;
 mod refusal;
 
-pub use job::{JobRecord, JobWords, JOB_WORDS};
+use wihupya_sys as exported;
+
+pub use job::JobRecord;
 pub use refusal::Refusal;
+pub use wihupya_sys::{JobWords, JOB_WORDS};
 
 /// The most axes of a job.
 pub const MOST_AXES: usize = 8;

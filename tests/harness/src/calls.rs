@@ -1,76 +1,14 @@
-//! The exported calls, each behind a safe function. The six that can be
-//! refused give 0 or the number of the cause. Storage that a call is lent
-//! shared must come back as it was; the functions assert that.
+//! The exported calls on storage that is lent. The six that can be refused
+//! give 0 or the number of the cause. Storage that a call is lent shared must
+//! come back as it was; the functions assert that.
 
 use crate::lent::{Lent, Loan};
 use reference::area::Area;
 use std::fmt::Debug;
 use std::hint::black_box;
+use wihupya_sys as exported;
 
-/// Promote's word: 0 met, 1 spent, 2 promoted.
-pub type OutcomeWord = [u32; 1];
-/// Result's words: pending error and mean, the low word of each first, then
-/// old, active, wanted, reserved and ceiling.
-pub type CountWords = [u32; 9];
-/// Cross total's words, the low word first.
-pub type TotalWords = [u32; 2];
-
-mod exported {
-    use super::{CountWords, OutcomeWord, TotalWords};
-    use crate::lent::JobWords;
-
-    // Slices in these signatures are what the archive's functions take, too.
-    #[allow(improper_ctypes)]
-    extern "C" {
-        pub fn wihupya_start(
-            job: &mut JobWords,
-            axes: u32,
-            threshold: u64,
-            budget: u32,
-            cells: &mut [u32],
-            store: &[i32],
-        ) -> u32;
-
-        pub fn wihupya_point(
-            job: &JobWords,
-            n: usize,
-            cells: &[u32],
-            store: &[i32],
-            buffer: &mut [u8],
-        ) -> u32;
-
-        pub fn wihupya_deliver(
-            job: &mut JobWords,
-            readings: &[i32],
-            indicator: u32,
-            cells: &mut [u32],
-            store: &mut [i32],
-        ) -> u32;
-
-        pub fn wihupya_promote(
-            job: &mut JobWords,
-            outcome: &mut OutcomeWord,
-            cells: &mut [u32],
-            store: &[i32],
-        ) -> u32;
-
-        pub fn wihupya_result(
-            job: &JobWords,
-            counts: &mut CountWords,
-            cells: &[u32],
-            store: &[i32],
-        ) -> u32;
-
-        pub fn wihupya_cross_total(
-            job: &JobWords,
-            total: &mut TotalWords,
-            cells: &[u32],
-            store: &[i32],
-        ) -> u32;
-
-        pub fn wihupya_check(job: &JobWords, cells: &[u32], store: &[i32]) -> bool;
-    }
-}
+pub use wihupya_sys::{CountWords, OutcomeWord, TotalWords};
 
 /// Check on an area whose cells end with its last record.
 pub fn check(area: &Area) -> bool {
@@ -82,12 +20,9 @@ pub fn check_lent(lent: &mut Lent) -> bool {
     check_loan(&lent.all())
 }
 
-// A call asks nothing of what its storage holds, nor of the lengths: that is
-// why each function below may call it on anything.
-
 pub fn check_loan(loan: &Loan) -> bool {
     let kept = Kept::of(loan);
-    let answer = unsafe { exported::wihupya_check(loan.job, loan.cells, loan.store) };
+    let answer = exported::check(loan.job, loan.cells, loan.store);
     kept.assert_as_it_was("check", loan);
     answer
 }
@@ -95,14 +30,14 @@ pub fn check_loan(loan: &Loan) -> bool {
 pub fn start(loan: Loan, axes: u32, threshold: u64, budget: u32) -> u32 {
     let Loan { job, cells, store } = loan;
     let kept = store.to_vec();
-    let number = unsafe { exported::wihupya_start(job, axes, threshold, budget, cells, store) };
+    let number = exported::start(job, axes, threshold, budget, cells, store);
     assert_same("start", store, &kept);
     number
 }
 
 pub fn point(loan: Loan, n: usize, buffer: &mut [u8]) -> u32 {
     let kept = Kept::of(&loan);
-    let number = unsafe { exported::wihupya_point(loan.job, n, loan.cells, loan.store, buffer) };
+    let number = exported::point(loan.job, n, loan.cells, loan.store, buffer);
     kept.assert_as_it_was("point", &loan);
     number
 }
@@ -110,7 +45,7 @@ pub fn point(loan: Loan, n: usize, buffer: &mut [u8]) -> u32 {
 pub fn deliver(loan: Loan, readings: &[i32], indicator: u32) -> u32 {
     let Loan { job, cells, store } = loan;
     let kept = readings.to_vec();
-    let number = unsafe { exported::wihupya_deliver(job, readings, indicator, cells, store) };
+    let number = exported::deliver(job, readings, indicator, cells, store);
     assert_same("deliver", readings, &kept);
     number
 }
@@ -118,21 +53,21 @@ pub fn deliver(loan: Loan, readings: &[i32], indicator: u32) -> u32 {
 pub fn promote(loan: Loan, outcome: &mut OutcomeWord) -> u32 {
     let Loan { job, cells, store } = loan;
     let kept = store.to_vec();
-    let number = unsafe { exported::wihupya_promote(job, outcome, cells, store) };
+    let number = exported::promote(job, outcome, cells, store);
     assert_same("promote", store, &kept);
     number
 }
 
 pub fn result(loan: Loan, counts: &mut CountWords) -> u32 {
     let kept = Kept::of(&loan);
-    let number = unsafe { exported::wihupya_result(loan.job, counts, loan.cells, loan.store) };
+    let number = exported::result(loan.job, counts, loan.cells, loan.store);
     kept.assert_as_it_was("result", &loan);
     number
 }
 
 pub fn cross_total(loan: Loan, total: &mut TotalWords) -> u32 {
     let kept = Kept::of(&loan);
-    let number = unsafe { exported::wihupya_cross_total(loan.job, total, loan.cells, loan.store) };
+    let number = exported::cross_total(loan.job, total, loan.cells, loan.store);
     kept.assert_as_it_was("cross total", &loan);
     number
 }

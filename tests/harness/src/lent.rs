@@ -2,6 +2,7 @@
 //! index records as one run of cells, and the reading store.
 
 use reference::area::{self, Area, IndexRecord};
+use wihupya_sys::JobWords;
 
 /// The job record in the order in which a caller's struct has it: wide numbers
 /// first, so that there are 40 bytes and none of them is padding.
@@ -17,9 +18,6 @@ pub struct JobRecord {
     pub reserved: u32,
 }
 
-/// The same 40 bytes as words, a wide number's low word first.
-pub type JobWords = [u32; 10];
-
 impl From<area::JobRecord> for JobRecord {
     fn from(job: area::JobRecord) -> JobRecord {
         let area::JobRecord { axes, threshold, budget, held, reserved, pending, mean } = job;
@@ -28,6 +26,7 @@ impl From<area::JobRecord> for JobRecord {
 }
 
 impl JobRecord {
+    /// The same 40 bytes as words, a wide number's low word first.
     pub fn words(self) -> JobWords {
         let low = |wide: u64| wide as u32;
         let high = |wide: u64| (wide >> 32) as u32;

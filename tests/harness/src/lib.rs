@@ -3,7 +3,7 @@
 //! hold anything at all.
 //!
 //! - [`lent`]: an area as the exported calls take it;
-//! - [`calls`]: the exported calls, each behind a safe function;
+//! - [`calls`]: the exported calls, which must leave what is lent shared;
 //! - [`verdict`], [`material`], [`tally`]: check alone, on areas by seed,
 //!   altered, short, at their limits, or garbage, and what was seen of them;
 //! - [`answers`], [`pair`]: a call on both sides, and the comparison after it;

@@ -3,8 +3,8 @@
 
 use bench::area::{IndexRecord, JobRecord, BUDGET_LIMIT, HELD_LIMIT};
 use bench::calls;
-use bench::proved::{self, JobWords};
 use std::hint::black_box;
+use wihupya_sys::{self as proved, JobWords};
 
 /// Words in an index record of the proved library.
 const WORDS: usize = 27;
@@ -53,35 +53,35 @@ impl Side for Proved {
 
     fn start(&mut self, axes: u32, threshold: u64, budget: u32) {
         let Proved { job, cells, store } = self;
-        accepted(proved::start(job, cells, store, axes, threshold, budget));
+        accepted(proved::start(job, axes, threshold, budget, cells, store));
     }
 
     fn point(&self, n: usize, buffer: &mut [u8]) {
-        accepted(proved::point(&self.job, &self.cells, &self.store, n, buffer));
+        accepted(proved::point(&self.job, n, &self.cells, &self.store, buffer));
         black_box(buffer);
     }
 
     fn deliver(&mut self, readings: &[i32], indicator: u32) {
         let Proved { job, cells, store } = self;
-        accepted(proved::deliver(job, cells, store, readings, indicator));
+        accepted(proved::deliver(job, readings, indicator, cells, store));
     }
 
     fn promote(&mut self) {
         let Proved { job, cells, store } = self;
         let mut outcome = [0];
-        accepted(proved::promote(job, cells, store, &mut outcome));
+        accepted(proved::promote(job, &mut outcome, cells, store));
         black_box(outcome);
     }
 
     fn result(&self) {
         let mut counts = [0; 9];
-        accepted(proved::result(&self.job, &self.cells, &self.store, &mut counts));
+        accepted(proved::result(&self.job, &mut counts, &self.cells, &self.store));
         black_box(counts);
     }
 
     fn cross_total(&self) {
         let mut total = [0; 2];
-        accepted(proved::cross_total(&self.job, &self.cells, &self.store, &mut total));
+        accepted(proved::cross_total(&self.job, &mut total, &self.cells, &self.store));
         black_box(total);
     }
 

@@ -1,4 +1,6 @@
 //! The library's seven functions, each behind a safe one that lends it slices.
+//! `include/wihupya.h` says what a call does, which numbers it returns, and what
+//! the words are.
 //!
 //! All unsafe code is here. That the functions below are safe rests on this:
 //! - The library asks nothing of what it is handed: each of its contracts
@@ -9,8 +11,12 @@
 //!   borrow that lives as long as the call. Rust sees to it that no mutable
 //!   borrow overlaps another borrow.
 
-use crate::job::JobWords;
+/// The number of words of a job record.
+pub const JOB_WORDS: usize = 10;
 
+/// A job record: threshold, pending error and scaled mean, the low word of
+/// each first, then axes, budget, held and reserved.
+pub type JobWords = [u32; JOB_WORDS];
 /// Promote's word: 0 met, 1 spent, 2 promoted.
 pub type OutcomeWord = [u32; 1];
 /// Result's words: pending error and scaled mean, the low word of each first,
@@ -90,6 +96,7 @@ extern "C" {
     ) -> bool;
 }
 
+/// 0 if accepted, else the number of the cause; so for every call but check.
 pub fn start(
     job: &mut JobWords,
     axes: u32,
@@ -158,6 +165,7 @@ pub fn cross_total(job: &JobWords, total: &mut TotalWords, cells: &[u32], store:
     unsafe { wihupya_cross_total(job, total, cells, words, store, readings) }
 }
 
+/// Whether the area is sound and its storage long enough.
 pub fn check(job: &JobWords, cells: &[u32], store: &[i32]) -> bool {
     let (words, readings) = (cells.len(), store.len());
     let (cells, store) = (cells.as_ptr(), store.as_ptr());
