@@ -1,6 +1,5 @@
-//! `largest`: one difference of the index (2,2,2,2,2,6). With 8,019 points its
-//! full grid is the largest that an area can hold. Meant for a count of
-//! instructions: `valgrind --tool=callgrind --toggle-collect=figures_difference`.
+//! One difference of the index (2,2,2,2,2,6). With 8,019 points its full grid is
+//! the largest that an area can hold.
 
 use comparison::{proved, words};
 use reference::area::{Area, IndexRecord, NONE, OLD};
@@ -39,7 +38,8 @@ fn area() -> Area {
     area
 }
 
-fn main() {
+#[test]
+fn the_largest_difference_is_the_references() {
     let area = area();
     let (cells, store) = words(&area.to_bytes());
     let place = area.records.len() - 1;
@@ -49,5 +49,4 @@ fn main() {
     let readings = calls::delivered_readings(&area);
     let reading = |index: &Levels, number: usize| readings.at(index, number);
     assert_eq!(i128::from(proved), sums::difference(AXES, &TARGET, &reading));
-    println!("{} readings, difference {proved}", store.len());
 }
