@@ -11,6 +11,22 @@ CARGO = cargo
 RELEASE = --release --offline --quiet
 C = $(CC) -std=c99 -Wall -Wextra -Werror -O2 -I include
 
+# What rt says, line by line as it comes: each crate when it is proved, and of one that is not, the prover's errors with file and line.
+# Left out are notes and help, with their indented lines, what was proved before, and what fails only because something else does; all of
+# it is in target/log/.
+SHOWN = 2>&1 | LC_ALL=C sed -u -E \
+	-e ':line' \
+	-e '/^(help: |note: (no function with|antt.s advice|what antt said)|[^ ]+: note: )/{' \
+	-e ':rest' -e 'N' -e 's/.*\n//' -e '/^ /b rest' -e 'b line' -e '}' \
+	-e '/^(fn|enum|struct) [^ ]+: proved$$/d' \
+	-e '/^(logic|library|axioms|linked)[ =]/d' \
+	-e '/^rattle build: nothing was built/d' \
+	-e '/ proved \(unchanged since it was last proved\)$$/d' \
+	-e '/ NOT PROVED: its dependency /d' \
+	-e '/ was not admitted .* so this cannot be checked$$/d' \
+	-e '/ not proved; it calls .* which is not proved$$/d' \
+	-e 's|$(CURDIR)/||g'
+
 # What `make compare` and `make soak` run over; both can be set on the command line.
 SEED = 1
 
@@ -24,7 +40,7 @@ run: program
 
 # The proved program. Only what is proved is built, which takes some minutes the first time.
 program:
-	@rt check integrator | grep '^rt: '
+	@rt check integrator $(SHOWN)
 
 # The reference's programs: jobtext makes job files, compare holds a program to the reference.
 tools:
@@ -37,15 +53,15 @@ test: proofs rust-test reference-runs compared altered listed callers programs-c
 proofs:
 	@rt fmt --check
 	@mkdir -p build
-	@rt ci | tee build/verdict
+	@rt ci $(SHOWN) | tee build/verdict
 
 # The exported calls as the static library that callers link.
 exported:
-	@rt staticlib wihupya | grep '^rt: '
+	@rt staticlib wihupya $(SHOWN)
 
 # The proved figures of areas as the static library that the comparison links.
 figures:
-	@rt staticlib figures | grep '^rt: '
+	@rt staticlib figures $(SHOWN)
 
 # The tests of all Rust packages: the reference's own; named cases on the exported calls, their boundary cases and causes; the bindings for
 # Rust and the header's numbers; the integrator in idiomatic Rust against the reference. About a minute.
