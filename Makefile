@@ -30,7 +30,7 @@ SHOWN = 2>&1 | LC_ALL=C sed -u -E \
 # What `make compare` and `make soak` run over; both can be set on the command line.
 SEED = 1
 
-.PHONY: run program tools test proofs exported figures rust-test reference-runs compared altered listed callers programs-compared compare soak bench pack clean
+.PHONY: run program tools test proofs exported figures rust-test reference-runs figures-compared check-compared calls-compared callers programs-compared compare soak bench vectors clean
 # The tests of `make test` run what those before them built.
 .NOTPARALLEL:
 
@@ -47,7 +47,7 @@ tools:
 	@$(CARGO) build $(RELEASE) -p reference
 
 # Every test. The proofs come first, since the other tests run what they build; their verdict, the last line of `rt ci`, is said again at the end.
-test: proofs rust-test reference-runs compared altered listed callers programs-compared
+test: proofs rust-test reference-runs figures-compared check-compared calls-compared callers programs-compared
 	@tail -n 1 build/verdict
 
 proofs:
@@ -74,16 +74,16 @@ reference-runs: tools
 	$(TOOLS)/survey 1 1000
 
 # The proved figures of areas against the reference's.
-compared: figures
+figures-compared: figures
 	@$(CARGO) run $(RELEASE) -p comparison
 
 # The exported check against the reference's, on altered areas, short storage and garbage; about half a minute.
-altered: exported
-	@$(CARGO) run $(RELEASE) -p harness --bin altered -- 1 50000
+check-compared: exported
+	@$(CARGO) run $(RELEASE) -p harness --bin compare_check -- 1 50000
 
 # Lists of exported calls against the reference's, everything lent compared after every call; some seconds.
-listed: exported
-	@$(CARGO) run $(RELEASE) -p harness --bin listed -- 1 20000
+calls-compared: exported
+	@$(CARGO) run $(RELEASE) -p harness --bin compare_calls -- 1 20000
 
 # The callers' side: the header in C, and as C++ where there is a compiler for it; then a job run by calls in C and in Rust, whose report
 # is that of the same job as a file.
@@ -109,8 +109,8 @@ compare: program tools
 # The exported calls for as long as one likes: make soak SEED=7 COUNT=5000000
 soak: COUNT = 1000000
 soak: exported
-	@$(CARGO) run $(RELEASE) -p harness --bin altered -- $(SEED) $(COUNT)
-	@$(CARGO) run $(RELEASE) -p harness --bin listed -- $(SEED) $(COUNT)
+	@$(CARGO) run $(RELEASE) -p harness --bin compare_check -- $(SEED) $(COUNT)
+	@$(CARGO) run $(RELEASE) -p harness --bin compare_calls -- $(SEED) $(COUNT)
 
 # The proved library and program beside the same integrator in idiomatic Rust: ratios of times, then counts of instructions. No test.
 bench: exported program
@@ -120,8 +120,8 @@ bench: exported program
 	@$(TOOLS)/measure instructions $(INTEGRATOR)
 
 # Writes the named and generated job files of the crate `vectors` anew, and what they must print.
-pack: tools
-	@$(TOOLS)/pack crates/vectors
+vectors: tools
+	@$(TOOLS)/vectors crates/vectors
 
 clean:
 	rm -rf target build

@@ -90,10 +90,10 @@ impl List {
         let wanted = self.wanted();
         let chooser = &mut self.chooser;
         if chooser.rng.percent(if sound { 2 } else { 15 }) {
-            chooser.aim_anew();
+            chooser.draw_parameters();
             return chooser.start();
         }
-        if sound && chooser.rng.percent(chooser.aim.steps) {
+        if sound && chooser.rng.percent(chooser.parameters.steps) {
             return chooser.carry_on(wanted);
         }
         match chooser.rng.below(100) {

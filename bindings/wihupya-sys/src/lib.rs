@@ -5,7 +5,7 @@
 //! All unsafe code is here. That the functions below are safe rests on this:
 //! - The library asks nothing of what it is handed: each of its contracts
 //!   holds for every number, every length and every content of the storage.
-//! - It reads and writes within the lengths that it is told, and writes only
+//! - It reads and writes within the lengths that it is given, and writes only
 //!   what it is lent as mutable. Both are proved.
 //! - A slice reaches it as a pointer and a length, which come here from one
 //!   borrow that lives as long as the call. Rust sees to it that no mutable

@@ -11,7 +11,7 @@ fn every_ten_words_are_a_job_record() {
     let job = JobRecord::from_words(words);
     assert_eq!(job.to_words(), words);
     assert_eq!(job.threshold, 0x0202_0202_8101_0101);
-    let telling = JobRecord {
+    let distinct = JobRecord {
         threshold: u64::MAX - 1,
         pending_error: 1 << 63,
         scaled_mean: i64::MIN,
@@ -20,7 +20,7 @@ fn every_ten_words_are_a_job_record() {
         held: 1 << 31,
         reserved: 7,
     };
-    assert_eq!(JobRecord::from_words(telling.to_words()), telling);
+    assert_eq!(JobRecord::from_words(distinct.to_words()), distinct);
 }
 
 #[test]

@@ -1,5 +1,5 @@
--- The second demand at any moment: after every list of calls Fig. 1 stands where the log stands, as soon as nothing is wanted.
--- The idea: every accepted call keeps the machine on the course of Fig. 1, within a turn or between two, and a refused one leaves it.
+-- The second demand at any moment: after every list of calls Fig. 1 has the log's state, as soon as nothing is wanted.
+-- The idea: every accepted call keeps the machine in a state of Fig. 1, within a turn or between two, and a refused one leaves it.
 -- Assumes nothing.
 use mathlib.Core.Path.{_≡_, refl, sym, subst}
 use mathlib.Core.Bool.{Bool, true, false, cond}

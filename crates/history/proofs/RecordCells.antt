@@ -1,4 +1,4 @@
--- Calls on records and calls on their cells go hand in hand.
+-- Calls on records and calls on their cells agree step by step.
 -- The idea: the cells of the storage's records are storage of cells; one call on either leaves the cells of the same records.
 -- Assumes nothing.
 use mathlib.Core.Path.{_≡_, refl, ap, ap₂, sym, _∙_}

@@ -1,4 +1,4 @@
--- Where the machine stands where Fig. 1 stands, so does its log.
+-- Where the machine has the state of Fig. 1, so has its log.
 -- The idea: the mean is the combination sum, and promote, called next, is not refused and answers *met* exactly if the loop's test fails.
 -- Assumes nothing.
 use mathlib.Core.Path.{_≡_, ap, sym, _∙_}

@@ -45,9 +45,9 @@ abbrev pub MeansFollow : Type 0
 MeansFollow = (w : Storage) (first : LentCall) (later : List LentCall) (g : Settings) → AllLent w (first ∷ later)
     → first .call ≡ start g → callOn (areaLent w (first .part)) (start g) .answer ≡ answer accepted → MeanFollows (logAfter (startLog g) later)
 
--- ---- where Fig. 1 stands, after every list of calls
+-- ---- the state of Fig. 1, after every list of calls
 
--- The log stands where Fig. 1 stands after n turns: the same old set, the same active set (also in the same order), the same result,
+-- The log has the state of Fig. 1 after n turns: the same old set, the same active set (also in the same order), the same result,
 -- the same pending error.
 pub record Follows (P : Problem) (l : Log) (n : ℕ) : Type 0 where
   -- nothing is left wanted; the readings are the integrand's, the indicators the function's
@@ -63,7 +63,7 @@ pub record Follows (P : Problem) (l : Log) (n : ℕ) : Type 0 where
   pub over : (z : Lengths) → 512 ≤ z .records → leastStore (l .settings) ≤ z .readings → (loopCondition P (turns P n) ≡ true → ⊥) → answerBy z l promote ≡ answer (promotion rule.met)
   pub goes-on : (z : Lengths) → loopCondition P (turns P n) ≡ true → answerBy z l promote ≡ answer (promotion rule.met) → ⊥
 
--- After every list of the third demand with nothing left wanted, Fig. 1 stands where the log stands, after as many turns as there are old
+-- After every list of the third demand with nothing left wanted, Fig. 1 has the log's state, after as many turns as there are old
 -- indices; and a problem that gives these readings and indicators there always is.
 pub record StepsFollow (l : Log) : Type 0 where
   pub every : (P : Problem) → SettingsMatch (l .settings) P → Supplied P (l .entries) → Follows P l (countOf 2 (l .entries))
@@ -96,7 +96,7 @@ turnCalls P l = promote ∷ supplyCalls P (countOf 0 (rule.promote l .log .entri
 unfoldable pub lendAll : Part → List Call → List LentCall
 lendAll x cs = map (λ (c : Call). record { call = c; part = x }) cs
 
--- Start and the root's delivery. The settings are to pose the problem (`SettingsMatch`).
+-- Start and the root's delivery. The settings are to match the problem (`SettingsMatch`).
 unfoldable pub begun : Problem → Settings → List Call
 begun P g = start g ∷ supplyCall P (startLog g) ∷ []
 

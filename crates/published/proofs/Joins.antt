@@ -1,4 +1,4 @@
--- Entries that stand where Fig. 1 stands, and those that are wanted after them; one more delivered entry is one more joined index.
+-- Entries that have the state of Fig. 1, and those that are wanted after them; one more delivered entry is one more joined index.
 -- Assumes nothing.
 use mathlib.Core.Path.{_≡_, refl, sym, ap, _∙_, subst}
 use mathlib.Core.Logic.{inl, inr}

@@ -1,5 +1,5 @@
 -- Deliveries: each wanted index, in order, joins the active ones, with its increment and its indicator.
--- The idea: the entries are delivered ones and then wanted ones. The delivered ones stand where Fig. 1 stands, and each delivery moves the
+-- The idea: the entries are delivered ones and then wanted ones. The delivered ones have the state of Fig. 1, and each delivery moves the
 -- first wanted one over to them.
 -- Assumes nothing.
 use mathlib.Core.Path.{_≡_, refl, sym, ap, ap₂, _∙_, subst}

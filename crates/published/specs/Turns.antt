@@ -1,4 +1,4 @@
--- The machine's steps that make one turn, and when the machine stands where Fig. 1 stands.
+-- The machine's steps that make one turn, and when the machine has the state of Fig. 1.
 use mathlib.Core.Path.{_≡_}
 use mathlib.Core.Bool.{cond}
 use mathlib.Core.List.{List, [], _∷_, map, List·Memᴰ}
@@ -30,12 +30,12 @@ supplies P (suc n) m = supplies P n (supply P m)
 unfoldable pub turnOn : Problem → Machine → Machine
 turnOn P m = supplies P (countOf 0 (promoteStep m .log .entries)) (promoteStep m)
 
--- Start and the root's delivery, and then n such turns. The settings are to pose the problem (`SettingsMatch`).
+-- Start and the root's delivery, and then n such turns. The settings are to match the problem (`SettingsMatch`).
 unfoldable pub turnsOn : Problem → Settings → ℕ → Machine
 turnsOn P g zero = supply P (started g)
 turnsOn P g (suc n) = turnOn P (turnsOn P g n)
 
--- Settings pose a problem that has their number of axes, and their threshold as its tolerance.
+-- Settings match a problem that has their number of axes, and their threshold as its tolerance.
 pub record SettingsMatch (g : Settings) (P : Problem) : Type 0 where
   pub axes : P .axes ≡ g .axes
   pub tolerance : P .tolerance ≡ g .threshold
@@ -55,7 +55,7 @@ pub record Supplied (P : Problem) (es : List Entry) : Type 0 where
   pub readings : (p : ℕ) → p < length es → entryAt es p .readings ≡ map (P .integrand) (block (entryAt es p .levels))
   pub indicators : (p : ℕ) → p < length es → entryAt es p .indicator ≡ P .indicator (entryAt es p .levels)
 
--- The machine stands where Fig. 1 stands: the same old set, the same active set (also in the same order), the same result, the same
+-- The machine has the state of Fig. 1: the same old set, the same active set (also in the same order), the same result, the same
 -- pending error.
 pub record Simulates (P : Problem) (m : Machine) (s : Figure) : Type 0 where
   pub posed : SettingsMatch (m .log .settings) P

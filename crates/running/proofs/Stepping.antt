@@ -1,4 +1,4 @@
--- One step of the course, as the code does it.
+-- One step of the execution, as the code does it.
 -- The idea: the definition asks whether a block is wanted; each way is one call of the machine, written into the area.
 -- Assumes nothing.
 use mathlib.Core.Path.{_≡_, refl, ap, sym, _∙_}

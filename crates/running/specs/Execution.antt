@@ -1,4 +1,4 @@
--- The course of a job file ("Job file and report"): start, and then, while a block is wanted, the next entry is delivered, else it promotes,
+-- The execution of a job file ("Job file and report"): start, and then, while a block is wanted, the next entry is delivered, else it promotes,
 -- until *met*, *spent* or *short* (entries exhausted, block wanted). c are the file's bytes.
 use mathlib.Core.Bool.{true, cond}
 use mathlib.Core.List.{List, [], _∷_}

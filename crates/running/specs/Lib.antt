@@ -1,4 +1,4 @@
--- A job file's run: its course, its report, and that it always ends.
+-- A job file's run: its execution, its report, and that it always ends.
 pub mod Execution
 pub mod Report
 pub mod Code

@@ -1,4 +1,4 @@
-// Runs named job files one after the other, and prints each name and what its run gives. They come as a pack on standard input: their number,
+// Runs named job files one after the other, and prints each name and what its run gives. They come as a bundle on standard input: their number,
 // then for each its name and its bytes, both with their length in front. Numbers have four bytes.
 ghost use Prim.Native.Nat.{_≤_};
 ghost use Rattle.io.specs.Counts.{Counts};
@@ -11,7 +11,7 @@ fn min_of(a: usize, b: usize) -> usize
     if a < b { a } else { b }
 }
 
-// A number of the pack.
+// A number of the bundle.
 fn read_number() -> usize {
     let mut four = [0u8; 4];
     io::read_full(STDIN_FILENO, &mut four);

@@ -216,7 +216,7 @@ pub extern "C" fn wihupya_deliver(
     number_of(answer)
 }
 
-// Promotes, and tells the outcome: 0 met, 1 spent, 2 promoted.
+// Promotes, and writes the outcome: 0 met, 1 spent, 2 promoted.
 #[no_mangle]
 pub extern "C" fn wihupya_promote(
     job: &mut [u32; 10],

@@ -10,7 +10,7 @@ use reference::calls::{Promotion, Totals};
 
 /// What a call answers at once.
 #[derive(Clone, Copy, Debug, PartialEq, Eq)]
-pub enum Said {
+pub enum ReturnValue {
     /// 0 if accepted, else the number of the cause.
     Number(u32),
     /// What check says of the area.
@@ -28,15 +28,15 @@ pub struct Slots {
 }
 
 /// Performs a call of the library.
-pub fn of_library(loan: Loan, call: &Call, slots: &mut Slots) -> Said {
-    Said::Number(match call {
+pub fn of_library(loan: Loan, call: &Call, slots: &mut Slots) -> ReturnValue {
+    ReturnValue::Number(match call {
         Call::Start { axes, threshold, budget } => calls::start(loan, *axes, *threshold, *budget),
         Call::Point { n, .. } => calls::point(loan, *n as usize, &mut slots.buffer),
         Call::Deliver { readings, indicator } => calls::deliver(loan, readings, *indicator),
         Call::Promote => calls::promote(loan, &mut slots.outcome),
         Call::Result => calls::result(loan, &mut slots.counts),
         Call::CrossTotal => calls::cross_total(loan, &mut slots.total),
-        Call::Check => return Said::Sound(calls::check_loan(&loan)),
+        Call::Check => return ReturnValue::Sound(calls::check_loan(&loan)),
     })
 }
 
@@ -54,11 +54,11 @@ pub fn of_reference(area: &mut Area, call: &Call, slots: &mut Slots) -> Answer {
 }
 
 /// What the library has to say when the reference answers so.
-pub fn said(answer: &Answer) -> Said {
+pub fn return_value(answer: &Answer) -> ReturnValue {
     match answer {
-        Answer::Sound(sound) => Said::Sound(*sound),
-        Answer::Refused(cause) => Said::Number(cause.number()),
-        _ => Said::Number(0),
+        Answer::Sound(sound) => ReturnValue::Sound(*sound),
+        Answer::Refused(cause) => ReturnValue::Number(cause.number()),
+        _ => ReturnValue::Number(0),
     }
 }
 

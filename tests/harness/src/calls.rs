@@ -21,9 +21,9 @@ pub fn check_lent(lent: &mut Lent) -> bool {
 }
 
 pub fn check_loan(loan: &Loan) -> bool {
-    let kept = Kept::of(loan);
+    let kept = Snapshot::of(loan);
     let answer = exported::check(loan.job, loan.cells, loan.store);
-    kept.assert_as_it_was("check", loan);
+    kept.assert_unchanged("check", loan);
     answer
 }
 
@@ -36,9 +36,9 @@ pub fn start(loan: Loan, axes: u32, threshold: u64, budget: u32) -> u32 {
 }
 
 pub fn point(loan: Loan, n: usize, buffer: &mut [u8]) -> u32 {
-    let kept = Kept::of(&loan);
+    let kept = Snapshot::of(&loan);
     let number = exported::point(loan.job, n, loan.cells, loan.store, buffer);
-    kept.assert_as_it_was("point", &loan);
+    kept.assert_unchanged("point", &loan);
     number
 }
 
@@ -59,28 +59,28 @@ pub fn promote(loan: Loan, outcome: &mut OutcomeWord) -> u32 {
 }
 
 pub fn result(loan: Loan, counts: &mut CountWords) -> u32 {
-    let kept = Kept::of(&loan);
+    let kept = Snapshot::of(&loan);
     let number = exported::result(loan.job, counts, loan.cells, loan.store);
-    kept.assert_as_it_was("result", &loan);
+    kept.assert_unchanged("result", &loan);
     number
 }
 
 pub fn cross_total(loan: Loan, total: &mut TotalWords) -> u32 {
-    let kept = Kept::of(&loan);
+    let kept = Snapshot::of(&loan);
     let number = exported::cross_total(loan.job, total, loan.cells, loan.store);
-    kept.assert_as_it_was("cross total", &loan);
+    kept.assert_unchanged("cross total", &loan);
     number
 }
 
 /// What a call was lent all shared, as it was before.
-struct Kept(Lent);
+struct Snapshot(Lent);
 
-impl Kept {
-    fn of(loan: &Loan) -> Kept {
-        Kept(Lent { job: *loan.job, cells: loan.cells.to_vec(), store: loan.store.to_vec() })
+impl Snapshot {
+    fn of(loan: &Loan) -> Snapshot {
+        Snapshot(Lent { job: *loan.job, cells: loan.cells.to_vec(), store: loan.store.to_vec() })
     }
 
-    fn assert_as_it_was(&self, call: &str, loan: &Loan) {
+    fn assert_unchanged(&self, call: &str, loan: &Loan) {
         assert_same(call, loan.job, &self.0.job);
         assert_same(call, loan.cells, &self.0.cells);
         assert_same(call, loan.store, &self.0.store);

@@ -61,8 +61,8 @@ pub struct Part {
     pub store: usize,
 }
 
-/// What one call is lent of it. The rest lies right behind, so that a call
-/// which writes past its end is seen to.
+/// What one call is lent of it. The rest lies right behind, so that a
+/// write past its end is detected.
 pub struct Loan<'a> {
     pub job: &'a mut JobWords,
     pub cells: &'a mut [u32],
@@ -101,7 +101,7 @@ mod tests {
     const SIZE: usize = std::mem::size_of::<JobRecord>();
 
     /// A job record whose forty bytes are all different.
-    fn telling_job() -> JobRecord {
+    fn distinct_bytes_job() -> JobRecord {
         JobRecord {
             threshold: 0x0807_0605_0403_0201,
             pending: 0x1817_1615_1413_1211,
@@ -118,7 +118,7 @@ mod tests {
         let mut rng = Rng::new(1);
         for round in 0..1_000 {
             let job = match round {
-                0 => telling_job(),
+                0 => distinct_bytes_job(),
                 _ => JobRecord {
                     threshold: rng.number(),
                     pending: rng.number(),
@@ -140,7 +140,7 @@ mod tests {
 
     #[test]
     fn every_field_of_the_reference_keeps_its_name() {
-        let job = telling_job();
+        let job = distinct_bytes_job();
         let same = area::JobRecord {
             axes: job.axes,
             threshold: job.threshold,

@@ -4,19 +4,19 @@
 //!
 //! - [`lent`]: an area as the exported calls take it;
 //! - [`calls`]: the exported calls, which must leave what is lent shared;
-//! - [`verdict`], [`material`], [`tally`]: check alone, on areas by seed,
+//! - [`verdict`], [`check_cases`], [`tally`]: check alone, on areas by seed,
 //!   altered, short, at their limits, or garbage, and what was seen of them;
 //! - [`answers`], [`pair`]: a call on both sides, and the comparison after it;
-//! - [`beginnings`], [`lists`], [`seen`]: lists of calls by seed, and what was
+//! - [`initial_areas`], [`lists`], [`coverage`]: lists of calls by seed, and what was
 //!   seen of them.
 
 pub mod answers;
-pub mod beginnings;
 pub mod calls;
+pub mod check_cases;
+pub mod coverage;
+pub mod initial_areas;
 pub mod lent;
 pub mod lists;
-pub mod material;
 pub mod pair;
-pub mod seen;
 pub mod tally;
 pub mod verdict;

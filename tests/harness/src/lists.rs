@@ -2,10 +2,10 @@
 //! on storage lent whole or in part, with alterations of the area in between.
 
 use crate::answers::Slots;
-use crate::beginnings::{Beginning, Beginnings};
+use crate::coverage::{Circumstances, Coverage};
+use crate::initial_areas::{InitialArea, InitialAreas};
 use crate::lent::Part;
 use crate::pair::Pair;
-use crate::seen::{Circumstances, Seen};
 use reference::alter;
 use reference::area::{Area, WORDS};
 use reference::call::{Answer, Call};
@@ -29,28 +29,32 @@ struct List {
 
 /// Performs the list of a seed on both sides and gives how many calls it had;
 /// or says at which call the sides differ.
-pub fn run(seed: u64, beginnings: &mut Beginnings, seen: &mut Seen) -> Result<u64, String> {
+pub fn run(
+    seed: u64,
+    initial_areas: &mut InitialAreas,
+    coverage: &mut Coverage,
+) -> Result<u64, String> {
     let mut chooser = Chooser::new(Rng::new(seed));
-    let Beginning { area, rest, calls } = beginnings.next(&mut chooser);
+    let InitialArea { area, rest, calls } = initial_areas.next(&mut chooser);
     let sound = calls::check(&area);
     let pair = Pair::new(area, rest);
     let mut list = List { chooser, pair, sound, altered: false, kept: None, ended: false };
     for number in 1..=calls {
-        list.step(seen).map_err(|fault| format!("seed {seed}, call {number}: {fault}"))?;
+        list.step(coverage).map_err(|fault| format!("seed {seed}, call {number}: {fault}"))?;
     }
     Ok(calls)
 }
 
 impl List {
-    fn step(&mut self, seen: &mut Seen) -> Result<(), String> {
-        self.alter(seen);
+    fn step(&mut self, coverage: &mut Coverage) -> Result<(), String> {
+        self.alter(coverage);
         let call = self.choose();
         let part = self.lend(&call);
         let slots = self.slots(&call);
         let answer = self.pair.call(&call, part, &slots).map_err(|fault| {
             format!("{} lent {part:?} of {:?}: {fault}", described(&call), self.pair.whole())
         })?;
-        self.note(&call, part, &answer, seen);
+        self.note(&call, part, &answer, coverage);
         self.cross(&answer)
     }
 
@@ -66,9 +70,9 @@ impl List {
         }
     }
 
-    /// Alters a sound area now and then. One that is broken by it may be put
-    /// back later, as if its owner had noticed.
-    fn alter(&mut self, seen: &mut Seen) {
+    /// Alters a sound area now and then. One that is broken by it may be
+    /// put back later, as by a caller that keeps a copy.
+    fn alter(&mut self, coverage: &mut Coverage) {
         let rng = &mut self.chooser.rng;
         if self.sound && rng.percent(4) {
             let before = self.pair.area().clone();
@@ -87,7 +91,7 @@ impl List {
                 true => self.altered |= after != before,
                 false => self.kept = Some(before),
             }
-            seen.note_alteration(self.sound);
+            coverage.note_alteration(self.sound);
             self.pair.replace(after);
         } else if !self.sound && rng.percent(20) {
             if let Some(before) = self.kept.take() {
@@ -115,10 +119,10 @@ impl List {
             (true, false) => 1,
         };
         if chooser.rng.percent(due) {
-            chooser.aim_anew();
+            chooser.draw_parameters();
             return chooser.start();
         }
-        if self.sound && chooser.rng.percent(chooser.aim.steps) {
+        if self.sound && chooser.rng.percent(chooser.parameters.steps) {
             return chooser.carry_on(wanted);
         }
         match chooser.rng.below(100) {
@@ -182,7 +186,7 @@ impl List {
         }
     }
 
-    fn note(&mut self, call: &Call, part: Part, answer: &Answer, seen: &mut Seen) {
+    fn note(&mut self, call: &Call, part: Part, answer: &Answer, coverage: &mut Coverage) {
         let altered = self.sound && self.altered;
         match answer {
             Answer::Started => {
@@ -192,7 +196,7 @@ impl List {
             _ => {}
         }
         let area = self.pair.area();
-        seen.note(call, answer, &Circumstances { area, part, altered });
+        coverage.note(call, answer, &Circumstances { area, part, altered });
     }
 }
 
@@ -215,10 +219,10 @@ mod tests {
     /// So a list that a long run names can be had again alone.
     #[test]
     fn a_seed_gives_the_same_list_alone_as_in_a_run() {
-        let mut used = Beginnings::default();
+        let mut used = InitialAreas::default();
         for seed in 0..60 {
-            let (mut one, mut other) = (Seen::default(), Seen::default());
-            let alone = run(seed, &mut Beginnings::default(), &mut one);
+            let (mut one, mut other) = (Coverage::default(), Coverage::default());
+            let alone = run(seed, &mut InitialAreas::default(), &mut one);
             assert_eq!(run(seed, &mut used, &mut other), alone, "seed {seed}");
             assert!(alone.is_ok(), "{alone:?}");
             assert_eq!(one.to_string(), other.to_string(), "seed {seed}");

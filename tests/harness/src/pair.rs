@@ -44,8 +44,8 @@ impl Pair {
     pub fn call(&mut self, call: &Call, part: Part, slots: &Slots) -> Result<Answer, String> {
         let (mut by_library, mut by_reference) = (slots.clone(), slots.clone());
         let answer = self.reference_call(call, part, &mut by_reference);
-        let said = answers::of_library(self.library.part(part), call, &mut by_library);
-        same("the answer", said, answers::said(&answer))?;
+        let return_value = answers::of_library(self.library.part(part), call, &mut by_library);
+        same("the answer", return_value, answers::return_value(&answer))?;
         same("the outcome word", by_library.outcome, by_reference.outcome)?;
         same_each("count word", &by_library.counts, &by_reference.counts)?;
         same_each("total word", &by_library.total, &by_reference.total)?;

@@ -1,7 +1,7 @@
 //! What a run has seen, and what a long one has to have seen: a comparison in
 //! which some clause is never broken says nothing of that clause.
 
-use crate::material::{Case, Kind};
+use crate::check_cases::{Case, Kind};
 use crate::verdict::Verdict;
 use reference::grid::HELD_LIMIT;
 use reference::soundness::{Clause, CLAUSES};
@@ -19,17 +19,17 @@ pub const LONG_RUN: u64 = 50_000;
 /// over its levels k above 1. That is least for (8,7): 129 times 65, so 8,385
 /// readings are reserved, and a budget has at most 8,192. (The reference's tests
 /// work out that least number.) What comes nearest is an excess of 13 with the
-/// reserved readings past the budget, see `SIGHTS`.
+/// reserved readings past the budget, see `CONDITIONS`.
 ///
 /// Every other clause can be broken alone, though three not at their lower end:
 /// a budget of 0 is under the root's one reading, a level of 0 has no block
 /// whose size could be added up, and with nothing held the root isn't first.
 pub const NEVER_ALONE: [Clause; 1] = [Clause::ExcessInRange];
 
-type Sight = fn(&Case, &Verdict) -> bool;
+type Condition = fn(&Case, &Verdict) -> bool;
 
 /// What else has to be seen, besides every clause.
-const SIGHTS: [(&str, Sight); 11] = [
+const CONDITIONS: [(&str, Condition); 11] = [
     ("excess above 12 and nothing else but the budget passed", |_, verdict| {
         verdict.broken == [Clause::ExcessInRange, Clause::ReservedWithinBudget]
     }),
@@ -82,7 +82,7 @@ pub struct Tally {
     /// In storage that is long enough.
     broken: BTreeMap<Clause, u64>,
     alone: BTreeMap<Clause, u64>,
-    sights: BTreeMap<&'static str, u64>,
+    conditions: BTreeMap<&'static str, u64>,
 }
 
 impl Tally {
@@ -107,8 +107,8 @@ impl Tally {
             (false, true) => self.short_of_readings += 1,
             (false, false) => self.note_clauses(&verdict.broken),
         }
-        for (name, seen) in SIGHTS {
-            *self.sights.entry(name).or_default() += u64::from(seen(case, verdict));
+        for (name, seen) in CONDITIONS {
+            *self.conditions.entry(name).or_default() += u64::from(seen(case, verdict));
         }
     }
 
@@ -129,27 +129,27 @@ impl Tally {
         self.alone.get(&clause).copied().unwrap_or(0)
     }
 
-    fn sight(&self, name: &str) -> u64 {
-        self.sights.get(name).copied().unwrap_or(0)
+    fn condition(&self, name: &str) -> u64 {
+        self.conditions.get(name).copied().unwrap_or(0)
     }
 
     /// What a long run has to see and this one didn't, or saw and can't be.
-    pub fn amiss(&self) -> Vec<String> {
-        let mut amiss = Vec::new();
+    pub fn failures(&self) -> Vec<String> {
+        let mut failures = Vec::new();
         for (clause, _) in CLAUSES {
             let may = !NEVER_ALONE.contains(&clause);
             match (self.broken(clause), self.alone(clause)) {
-                (0, _) => amiss.push(format!("{clause:?} was never broken")),
-                (_, 0) if may => amiss.push(format!("{clause:?} was never broken alone")),
+                (0, _) => failures.push(format!("{clause:?} was never broken")),
+                (_, 0) if may => failures.push(format!("{clause:?} was never broken alone")),
                 (_, alone) if alone > 0 && !may => {
-                    amiss.push(format!("{clause:?} was broken alone, which can't be"));
+                    failures.push(format!("{clause:?} was broken alone, which can't be"));
                 }
                 _ => {}
             }
         }
-        let unseen = SIGHTS.iter().filter(|(name, _)| self.sight(name) == 0);
-        amiss.extend(unseen.map(|(name, _)| format!("never seen: {name}")));
-        amiss
+        let unseen = CONDITIONS.iter().filter(|(name, _)| self.condition(name) == 0);
+        failures.extend(unseen.map(|(name, _)| format!("never seen: {name}")));
+        failures
     }
 }
 
@@ -170,8 +170,8 @@ impl Display for Tally {
             let name = format!("{clause:?}");
             writeln!(out, "  {name:<26}{:>8}{:>8}", self.broken(clause), self.alone(clause))?;
         }
-        for (name, _) in SIGHTS {
-            writeln!(out, "{name}: {}", self.sight(name))?;
+        for (name, _) in CONDITIONS {
+            writeln!(out, "{name}: {}", self.condition(name))?;
         }
         Ok(())
     }
@@ -191,7 +191,7 @@ mod tests {
 
     #[test]
     fn a_run_that_saw_nothing_lacks_everything() {
-        assert_eq!(Tally::default().amiss().len(), CLAUSES.len() + SIGHTS.len());
+        assert_eq!(Tally::default().failures().len(), CLAUSES.len() + CONDITIONS.len());
     }
 
     #[test]
@@ -200,7 +200,7 @@ mod tests {
         let all: Vec<Clause> = CLAUSES.iter().map(|(clause, _)| *clause).collect();
         note(&mut tally, &all);
         let lacks = |tally: &Tally, clause: Clause| {
-            tally.amiss().iter().any(|what| what.starts_with(&format!("{clause:?} ")))
+            tally.failures().iter().any(|what| what.starts_with(&format!("{clause:?} ")))
         };
         for &clause in &all {
             assert_eq!(lacks(&tally, clause), !NEVER_ALONE.contains(&clause));

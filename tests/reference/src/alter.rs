@@ -14,8 +14,8 @@ pub use held::promote_past_limits;
 
 type Change = fn(&mut Area, &mut Rng) -> Option<String>;
 
-/// Every kind of change; each says what it did, or nothing if the area gives
-/// it no occasion.
+/// Every kind of change; each says what it did, or nothing if it cannot be
+/// made in this area.
 const CHANGES: [Change; 31] = [
     job_field,
     record_word,
@@ -77,7 +77,7 @@ fn axes(area: &Area) -> usize {
 }
 
 /// A number of 32 bits that is likely to matter in place of this one.
-fn telling(area: &Area, rng: &mut Rng, was: u32) -> u32 {
+fn significant(area: &Area, rng: &mut Rng, was: u32) -> u32 {
     let bit = rng.below(32);
     match rng.below(11) {
         0 | 1 => was.wrapping_add(1),
@@ -93,13 +93,13 @@ fn telling(area: &Area, rng: &mut Rng, was: u32) -> u32 {
     }
 }
 
-fn telling_wide(area: &Area, rng: &mut Rng, was: u64) -> u64 {
+fn significant_wide(area: &Area, rng: &mut Rng, was: u64) -> u64 {
     let bit = rng.below(64);
     match rng.below(6) {
         0 => was.wrapping_add(1),
         1 => was.wrapping_sub(1),
         2 => 0,
-        3 => u64::from(telling(area, rng, was as u32)),
+        3 => u64::from(significant(area, rng, was as u32)),
         4 => was ^ (1 << rng.pick(&[32, 63, bit])),
         _ => rng.number(),
     }
@@ -109,13 +109,13 @@ fn job_field(area: &mut Area, rng: &mut Rng) -> Option<String> {
     let was = area.job;
     let field = rng.below(7);
     match field {
-        0 => area.job.axes = telling(area, rng, was.axes),
-        1 => area.job.threshold = telling_wide(area, rng, was.threshold),
-        2 => area.job.budget = telling(area, rng, was.budget),
-        3 => area.job.held = telling(area, rng, was.held),
-        4 => area.job.reserved = telling(area, rng, was.reserved),
-        5 => area.job.pending = telling_wide(area, rng, was.pending),
-        _ => area.job.mean = telling_wide(area, rng, was.mean as u64) as i64,
+        0 => area.job.axes = significant(area, rng, was.axes),
+        1 => area.job.threshold = significant_wide(area, rng, was.threshold),
+        2 => area.job.budget = significant(area, rng, was.budget),
+        3 => area.job.held = significant(area, rng, was.held),
+        4 => area.job.reserved = significant(area, rng, was.reserved),
+        5 => area.job.pending = significant_wide(area, rng, was.pending),
+        _ => area.job.mean = significant_wide(area, rng, was.mean as u64) as i64,
     }
     Some(format!("job field {field}: {was:?} became {:?}", area.job))
 }
@@ -132,7 +132,7 @@ fn record_word(area: &mut Area, rng: &mut Rng) -> Option<String> {
     let was = words[word];
     words[word] = match rng.percent(20) {
         true => area.records[other].to_words()[word],
-        false => telling(area, rng, was),
+        false => significant(area, rng, was),
     };
     area.records[place] = IndexRecord::from_words(&words);
     Some(format!("word {word} of record {place}: {was} became {}", words[word]))
@@ -147,7 +147,7 @@ fn store_element(area: &mut Area, rng: &mut Rng) -> Option<String> {
         return None;
     }
     let place = rng.place(count);
-    area.store[place] = telling(area, rng, area.store[place] as u32) as i32;
+    area.store[place] = significant(area, rng, area.store[place] as u32) as i32;
     Some(format!("store element {place} became {}", area.store[place]))
 }
 
@@ -171,14 +171,14 @@ fn set_active_indicator(area: &mut Area, place: usize, indicator: u32) {
 
 fn active_indicator_with_pending(area: &mut Area, rng: &mut Rng) -> Option<String> {
     let place = any_in_state(area, rng, ACTIVE)?;
-    let indicator = telling(area, rng, area.records[place].indicator);
+    let indicator = significant(area, rng, area.records[place].indicator);
     set_active_indicator(area, place, indicator);
     Some(format!("indicator of active {place} became {indicator}, pending with it"))
 }
 
 fn old_indicator(area: &mut Area, rng: &mut Rng) -> Option<String> {
     let place = any_in_state(area, rng, OLD)?;
-    area.records[place].indicator = telling(area, rng, area.records[place].indicator);
+    area.records[place].indicator = significant(area, rng, area.records[place].indicator);
     Some(format!("indicator of old {place} became {}", area.records[place].indicator))
 }
 
@@ -191,7 +191,7 @@ fn wanted_indicator(area: &mut Area, rng: &mut Rng) -> Option<String> {
 fn first_reading(area: &mut Area, rng: &mut Rng) -> Option<String> {
     let state = rng.pick(&[WANTED, ACTIVE, OLD]);
     let place = any_in_state(area, rng, state)?;
-    let first = telling(area, rng, area.records[place].first_reading);
+    let first = significant(area, rng, area.records[place].first_reading);
     area.records[place].first_reading = first;
     Some(format!("first reading of {place} became {first}"))
 }

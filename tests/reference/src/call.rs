@@ -1,5 +1,5 @@
 //! A call with its arguments and its answer as values, so that lists of calls
-//! can be made, performed and foretold.
+//! can be made, performed and predicted.
 
 use crate::area::Area;
 use crate::calls::{self, Cause, Promotion, Totals};

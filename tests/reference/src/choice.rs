@@ -1,5 +1,5 @@
-//! The calls of random lists: what a job is meant to become, and calls that
-//! carry it on, stand aside from it, or are to be refused. A choice needs to
+//! The calls of random lists: what a job is meant to become, and calls
+//! that advance it, leave it as it is, or are to be refused. A choice needs to
 //! know the first wanted block and no more, so that lists on any area, altered
 //! ones included, can use it.
 
@@ -10,7 +10,7 @@ use crate::rng::Rng;
 use crate::style::{self, IndicatorStyle, ReadingStyle};
 
 /// What the present job is meant to become.
-pub struct Aim {
+pub struct Parameters {
     pub axes: u32,
     pub threshold: u64,
     pub budget: u32,
@@ -30,13 +30,13 @@ pub struct Block {
 /// Chooses calls; they depend on the seed and on the blocks asked about.
 pub struct Chooser {
     pub rng: Rng,
-    pub aim: Aim,
+    pub parameters: Parameters,
 }
 
-pub fn any_aim(rng: &mut Rng) -> Aim {
+pub fn random_parameters(rng: &mut Rng) -> Parameters {
     let axes = rng.between(1, 8) as usize;
     let readings = style::any_reading_style(rng);
-    let mut aim = Aim {
+    let mut parameters = Parameters {
         axes: axes as u32,
         threshold: rng.pick(&[0, 0, 0, 1, 25, 100, 1 << 33, u64::MAX]),
         budget: rng.between(1, 300) as u32,
@@ -46,24 +46,25 @@ pub fn any_aim(rng: &mut Rng) -> Aim {
     };
     match rng.below(900) {
         0 => {
-            aim.axes = rng.between(5, 8) as u32;
-            aim.indicators = IndicatorStyle::SmallBlocksFirst;
-            aim.budget = BUDGET_LIMIT;
+            parameters.axes = rng.between(5, 8) as u32;
+            parameters.indicators = IndicatorStyle::SmallBlocksFirst;
+            parameters.budget = BUDGET_LIMIT;
         }
         1 => {
-            aim.indicators = rng.pick(&[IndicatorStyle::LargeBlocksFirst, IndicatorStyle::Any]);
-            aim.budget = rng.between(6_000, 8_192) as u32;
+            parameters.indicators =
+                rng.pick(&[IndicatorStyle::LargeBlocksFirst, IndicatorStyle::Any]);
+            parameters.budget = rng.between(6_000, 8_192) as u32;
         }
         2 => {
-            aim.indicators = IndicatorStyle::Toward(ceiling_target(rng, axes));
-            aim.budget = BUDGET_LIMIT;
+            parameters.indicators = IndicatorStyle::Toward(ceiling_target(rng, axes));
+            parameters.budget = BUDGET_LIMIT;
         }
-        _ => return aim,
+        _ => return parameters,
     }
-    // A job meant to grow isn't cut off by its threshold or by many asides.
-    aim.threshold = 0;
-    aim.steps = 95;
-    aim
+    // A job meant to grow isn't cut off by its threshold or by many calls that do not advance it.
+    parameters.threshold = 0;
+    parameters.steps = 95;
+    parameters
 }
 
 /// The size of the wanted block; 1 where none is wanted and it doesn't matter.
@@ -73,23 +74,23 @@ fn size_of(wanted: Option<Block>) -> usize {
 
 impl Chooser {
     pub fn new(mut rng: Rng) -> Chooser {
-        let aim = any_aim(&mut rng);
-        Chooser { rng, aim }
+        let parameters = random_parameters(&mut rng);
+        Chooser { rng, parameters }
     }
 
-    pub fn aim_anew(&mut self) {
-        self.aim = any_aim(&mut self.rng);
+    pub fn draw_parameters(&mut self) {
+        self.parameters = random_parameters(&mut self.rng);
     }
 
     pub fn start(&self) -> Call {
-        let Aim { axes, threshold, budget, .. } = self.aim;
+        let Parameters { axes, threshold, budget, .. } = self.parameters;
         Call::Start { axes, threshold, budget }
     }
 
     /// A start with an argument out of range; the other may be too.
     pub fn damaged_start(&mut self) -> Call {
-        let mut axes = self.aim.axes;
-        let mut budget = self.aim.budget;
+        let mut axes = self.parameters.axes;
+        let mut budget = self.parameters.budget;
         let which = self.rng.below(3);
         if which != 0 {
             axes = self.rng.pick(&[0, 9, 10, 257, 1 << 16, u32::MAX]);
@@ -103,14 +104,14 @@ impl Chooser {
     pub fn point(&mut self, wanted: Option<Block>) -> Call {
         let size = size_of(wanted) as u64;
         let n = if self.rng.percent(30) { size - 1 } else { self.rng.below(size) };
-        Call::Point { n, buffer: self.rng.between(i64::from(self.aim.axes), 12) as usize }
+        Call::Point { n, buffer: self.rng.between(i64::from(self.parameters.axes), 12) as usize }
     }
 
     pub fn damaged_point(&mut self, wanted: Option<Block>) -> Call {
         let size = size_of(wanted) as u64;
         let n = self.rng.pick(&[size, size + 1, 1 << 32, u64::MAX, 0]);
         let buffer = match self.rng.percent(40) {
-            true => self.rng.place(self.aim.axes as usize),
+            true => self.rng.place(self.parameters.axes as usize),
             false => self.rng.between(8, 12) as usize,
         };
         Call::Point { n, buffer }
@@ -121,8 +122,8 @@ impl Chooser {
         let Some(Block { axes, levels }) = wanted else {
             return Call::Promote;
         };
-        let indicator = style::indicator(self.aim.indicators, &mut self.rng, &levels);
-        let readings = style::readings(self.aim.readings, &mut self.rng, axes, &levels);
+        let indicator = style::indicator(self.parameters.indicators, &mut self.rng, &levels);
+        let readings = style::readings(self.parameters.readings, &mut self.rng, axes, &levels);
         Call::Deliver { readings, indicator }
     }
 

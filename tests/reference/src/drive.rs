@@ -200,7 +200,7 @@ impl Driver {
         match answer {
             Answer::Started => {
                 self.ended = false;
-                self.count(format!("jobs of {} axes", self.chooser.aim.axes));
+                self.count(format!("jobs of {} axes", self.chooser.parameters.axes));
             }
             Answer::Promotion(Promotion::Met | Promotion::Spent) => self.ended = true,
             Answer::Totals(totals) => self.highest("ceiling count", u64::from(totals.ceiling)),
@@ -239,10 +239,10 @@ impl Driver {
             return if chooser.rng.percent(50) { chooser.start() } else { chooser.damaged_start() };
         }
         if self.ended && chooser.rng.percent(40) {
-            chooser.aim_anew();
+            chooser.draw_parameters();
             return chooser.start();
         }
-        if chooser.rng.percent(chooser.aim.steps) {
+        if chooser.rng.percent(chooser.parameters.steps) {
             return chooser.carry_on(wanted);
         }
         match chooser.rng.below(100) {
@@ -255,8 +255,8 @@ impl Driver {
             65..=76 => Call::CrossTotal,
             77..=88 => Call::Check,
             89..=95 => chooser.damaged_start(),
-            96 if chooser.aim.steps < 95 => {
-                chooser.aim_anew();
+            96 if chooser.parameters.steps < 95 => {
+                chooser.draw_parameters();
                 chooser.start()
             }
             _ => chooser.point(wanted),

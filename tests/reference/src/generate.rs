@@ -225,11 +225,11 @@ fn job_of_kind(kind: Kind, rng: &mut Rng) -> JobFile {
             let shape = lasting_shape(rng);
             let mut entries = run(&shape, rng).entries;
             let place = rng.place(entries.len());
-            spoil(kind, &mut entries[place].readings, rng);
+            corrupt(kind, &mut entries[place].readings, rng);
             if rng.percent(30) {
                 // A second fault in the same entry: 7 comes before 8, and 8
                 // names the first bad reading.
-                spoil(Kind::ReadingOutside, &mut entries[place].readings, rng);
+                corrupt(Kind::ReadingOutside, &mut entries[place].readings, rng);
             }
             job_of(&shape, entries)
         }
@@ -300,7 +300,7 @@ fn fill_up(entries: &mut Vec<Entry>) {
     }
 }
 
-fn spoil(kind: Kind, readings: &mut Vec<i32>, rng: &mut Rng) {
+fn corrupt(kind: Kind, readings: &mut Vec<i32>, rng: &mut Rng) {
     if kind == Kind::CountWrong {
         if readings.len() > 1 && rng.percent(50) {
             readings.pop();

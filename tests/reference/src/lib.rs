@@ -9,10 +9,10 @@
 //! - [`grid`] and [`sums`]: indices, blocks, differences, tensor rules;
 //! - [`area`] and [`soundness`]: the lent storage and what makes it sound;
 //! - [`calls`]: the seven calls;
-//! - [`call`] and [`log`]: a list of calls and the log that foretells answers;
+//! - [`call`] and [`log`]: a list of calls and the log that predicts answers;
 //! - [`jobfile`], [`jobtext`], [`program`], [`replay`]: job files and reports;
 //! - [`rng`], [`style`], [`generate`], [`damage`], [`survey`]: job files by seed;
-//! - [`cases`], [`pack`]: job files by name, and many in one;
+//! - [`cases`], [`vectors`]: job files by name, and many in one;
 //! - [`choice`], [`drive`] and [`demand`]: lists of calls by seed and the third
 //!   demand;
 //! - [`sample`], [`alter`], [`figures`]: areas by seed, altered, with figures;
@@ -34,7 +34,6 @@ pub mod grid;
 pub mod jobfile;
 pub mod jobtext;
 pub mod log;
-pub mod pack;
 pub mod program;
 pub mod pump;
 pub mod replay;
@@ -46,3 +45,4 @@ pub mod style;
 pub mod sums;
 pub mod survey;
 pub mod trapezoid;
+pub mod vectors;

@@ -1,5 +1,5 @@
 //! The log of the third demand: what the calls' arguments say is held, worked
-//! from arguments and lengths alone and never from an area. It foretells the
+//! from arguments and lengths alone and never from an area. It predicts the
 //! answer of every call, refusals included.
 //!
 //! The rules of selection and admission are written out here once more on the
@@ -35,7 +35,7 @@ pub struct Job {
     pub threshold: u64,
     pub budget: u32,
     pub entries: Vec<Entry>,
-    /// The two sums below, once worked out; forgotten when a block comes.
+    /// The two sums below, once worked out; cleared when a block is delivered.
     sums: OnceCell<(i64, i64)>,
 }
 
@@ -202,7 +202,7 @@ impl Job {
 impl Log {
     /// The answer that a call on storage of these lengths must give; makes the
     /// log's entries follow an accepted call. Before the first accepted start
-    /// only start has a foretold answer.
+    /// only start has a predicted answer.
     pub fn expect(&mut self, call: &Call, lengths: Lengths) -> Answer {
         match self.judge(call, lengths) {
             Ok(answer) => answer,

@@ -1,5 +1,5 @@
 //! A job file worked on the log alone, without an area: the report it must
-//! print, foretold from arguments. Its readings are judged here on their own.
+//! print, predicted from arguments. Its readings are tested here separately.
 
 use crate::call::{Answer, Call, Lengths};
 use crate::calls::{Cause, Promotion};
@@ -11,7 +11,7 @@ use crate::program::{Ending, Outcome};
 pub const LENT: Lengths = Lengths { records: 512, store: 8192 };
 
 #[derive(Clone, Debug, PartialEq, Eq)]
-pub struct Foretold {
+pub struct Prediction {
     pub outcome: Outcome,
     /// The broken part of a malformed file.
     pub part: Option<Part>,
@@ -20,34 +20,34 @@ pub struct Foretold {
     pub past_budget: bool,
 }
 
-impl Foretold {
-    fn plain(outcome: Outcome) -> Foretold {
-        Foretold { outcome, part: None, past_held: false, past_budget: false }
+impl Prediction {
+    fn plain(outcome: Outcome) -> Prediction {
+        Prediction { outcome, part: None, past_held: false, past_budget: false }
     }
 
-    fn refused(cause: Cause, byte: usize) -> Foretold {
-        Foretold::plain(Outcome::Refused { cause, byte })
+    fn refused(cause: Cause, byte: usize) -> Prediction {
+        Prediction::plain(Outcome::Refused { cause, byte })
     }
 }
 
-pub fn foretell(input: &[u8]) -> Foretold {
+pub fn predict(input: &[u8]) -> Prediction {
     match jobfile::parse(input) {
-        Ok(job) => foretell_job(&job),
-        Err(fault) => Foretold {
+        Ok(job) => predict_job(&job),
+        Err(fault) => Prediction {
             part: Some(fault.part),
-            ..Foretold::refused(Cause::JobFileMalformed, fault.byte)
+            ..Prediction::refused(Cause::JobFileMalformed, fault.byte)
         },
     }
 }
 
-fn foretell_job(file: &JobFile) -> Foretold {
+fn predict_job(file: &JobFile) -> Prediction {
     let mut log = Log::default();
     let start = Call::Start { axes: file.axes, threshold: file.threshold, budget: file.budget };
     match log.expect(&start, LENT) {
         Answer::Refused(Cause::AxesOutOfRange) => {
-            return Foretold::refused(Cause::AxesOutOfRange, 0)
+            return Prediction::refused(Cause::AxesOutOfRange, 0)
         }
-        Answer::Refused(cause) => return Foretold::refused(cause, 4),
+        Answer::Refused(cause) => return Prediction::refused(cause, 4),
         _ => {}
     }
     // The bytes of the count field and the first reading of the next entry.
@@ -64,11 +64,11 @@ fn foretell_job(file: &JobFile) -> Foretold {
                 Call::Deliver { readings: entry.readings.clone(), indicator: entry.indicator };
             match log.expect(&call, LENT) {
                 Answer::Refused(Cause::ReadingCountWrong) => {
-                    return Foretold::refused(Cause::ReadingCountWrong, count_byte);
+                    return Prediction::refused(Cause::ReadingCountWrong, count_byte);
                 }
                 Answer::Refused(cause) => {
                     let good = entry.readings.iter().take_while(|r| r.unsigned_abs() <= 1_048_576);
-                    return Foretold::refused(cause, reading_byte + 4 * good.count());
+                    return Prediction::refused(cause, reading_byte + 4 * good.count());
                 }
                 _ => {}
             }
@@ -95,11 +95,11 @@ fn ended(
     unused: usize,
     past_held: bool,
     past_budget: bool,
-) -> Foretold {
+) -> Prediction {
     let Answer::Totals(totals) = log.expect(&Call::Result, LENT) else {
         unreachable!("result is not refused in a run");
     };
     let axes = log.job.as_ref().expect("the start was accepted").axes as u32;
     let outcome = Outcome::Ended { axes, totals, unused, ending };
-    Foretold { past_held, past_budget, ..Foretold::plain(outcome) }
+    Prediction { past_held, past_budget, ..Prediction::plain(outcome) }
 }

@@ -1,10 +1,10 @@
 //! Runs generated job files through the program, holds each report against the
-//! one foretold from the log, and counts what was seen.
+//! one predicted from the log, and counts what was seen.
 
 use crate::damage::DAMAGES;
 use crate::generate::{self, Generated, Kind};
 use crate::program::{self, Ending, Outcome};
-use crate::replay::{self, Foretold};
+use crate::replay::{self, Prediction};
 use std::collections::BTreeMap;
 
 pub type Counts = BTreeMap<String, u64>;
@@ -21,42 +21,42 @@ pub fn kind_name(kind: Kind) -> String {
 pub fn survey(first: u64, files: u64) -> Counts {
     let mut counts = Counts::new();
     for seed in first..first + files {
-        seen(seed, &generate::generate(seed), &mut counts);
+        checked_outcome(seed, &generate::generate(seed), &mut counts);
     }
     counts
 }
 
-/// The outcome of a seed's file, held against the foretold one and counted.
-pub fn seen(seed: u64, generated: &Generated, counts: &mut Counts) -> Outcome {
+/// The outcome of a seed's file, held against the predicted one and counted.
+pub fn checked_outcome(seed: u64, generated: &Generated, counts: &mut Counts) -> Outcome {
     let outcome = program::outcome(&generated.bytes);
-    let foretold = replay::foretell(&generated.bytes);
-    assert_eq!(outcome, foretold.outcome, "the report of seed {seed}");
-    assert_fault(seed, generated, &foretold);
+    let predicted = replay::predict(&generated.bytes);
+    assert_eq!(outcome, predicted.outcome, "the report of seed {seed}");
+    assert_fault(seed, generated, &predicted);
     let mut count = |what: String| *counts.entry(what).or_insert(0) += 1;
     count(kind_name(generated.kind));
-    note(&foretold, &mut count);
+    note(&predicted, &mut count);
     outcome
 }
 
 /// Where the damage alone tells the byte, the report names it.
-fn assert_fault(seed: u64, generated: &Generated, foretold: &Foretold) {
+fn assert_fault(seed: u64, generated: &Generated, predicted: &Prediction) {
     if let Some(byte) = generated.fault_byte {
-        let text = program::text(&foretold.outcome);
+        let text = program::text(&predicted.outcome);
         assert_eq!(text, format!("refused 10 at {byte}\n"), "the fault of seed {seed}");
     }
 }
 
-fn note(foretold: &Foretold, count: &mut impl FnMut(String)) {
-    match foretold.outcome {
+fn note(predicted: &Prediction, count: &mut impl FnMut(String)) {
+    match predicted.outcome {
         Outcome::Refused { cause, .. } => {
             count(format!("refused {}", cause.number()));
-            if let Some(part) = foretold.part {
+            if let Some(part) = predicted.part {
                 count(format!("fault in {part:?}"));
             }
         }
         Outcome::Ended { axes, totals, unused, ending } => {
             count(format!("ended with axes {axes}"));
-            count(spent_by(ending, foretold));
+            count(spent_by(ending, predicted));
             if unused > 0 {
                 count("ended with unused entries".to_string());
             }
@@ -73,8 +73,8 @@ fn note(foretold: &Foretold, count: &mut impl FnMut(String)) {
     }
 }
 
-fn spent_by(ending: Ending, foretold: &Foretold) -> String {
-    match (ending, foretold.past_held, foretold.past_budget) {
+fn spent_by(ending: Ending, predicted: &Prediction) -> String {
+    match (ending, predicted.past_held, predicted.past_budget) {
         (Ending::Spent, true, true) => "end spent by both limits".to_string(),
         (Ending::Spent, true, false) => "end spent by the limit of 512".to_string(),
         (Ending::Spent, false, _) => "end spent by the budget".to_string(),

@@ -15,8 +15,8 @@ extern "C" {
     fn clock_gettime(clock: c_int, time: *mut Time) -> c_int;
 }
 
-/// For how long this thread has run. Unlike the time of day it stands still
-/// while something else has the processor.
+/// For how long this thread has run. Unlike the time of day it does not
+/// advance while something else has the processor.
 pub fn thread_seconds() -> f64 {
     let mut time = Time { seconds: 0, nanoseconds: 0 };
     // The call writes one such struct and keeps nothing of it.

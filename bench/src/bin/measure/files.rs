@@ -1,5 +1,5 @@
-//! The job files that the programs are measured on, in a directory of their
-//! own that goes when they are done with.
+//! The job files that the programs are measured on, in a directory of
+//! their own that is removed afterwards.
 
 use crate::job::Job;
 use reference::jobfile::{self, Entry, JobFile};

@@ -2,7 +2,7 @@
 //! to its end.
 
 use crate::files::Files;
-use crate::rounds::{print_head, Row, Spread};
+use crate::rounds::{print_head, Row, Summary};
 use std::fs::File;
 use std::path::Path;
 use std::process::{Command, Stdio};
@@ -20,8 +20,8 @@ pub fn print(proved: &Path, idiomatic: &Path, files: &Files) {
         for _ in 0..ROUNDS {
             // The programs take turns process by process.
             let times = [(); SPAWNS].map(|()| [proved, idiomatic].map(|it| wall(it, path)));
-            row.proved.push(Spread::of(times.map(|[time, _]| time)).median);
-            row.idiomatic.push(Spread::of(times.map(|[_, time]| time)).median);
+            row.proved.push(Summary::of(times.map(|[time, _]| time)).median);
+            row.idiomatic.push(Summary::of(times.map(|[_, time]| time)).median);
         }
         row.print();
     }

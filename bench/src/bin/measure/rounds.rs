@@ -12,7 +12,7 @@ pub struct Row {
 
 /// Median, lowest and highest of some figures.
 #[derive(Clone, Copy)]
-pub struct Spread {
+pub struct Summary {
     pub median: f64,
     pub lowest: f64,
     pub highest: f64,
@@ -34,12 +34,12 @@ pub fn repeats(mut work: impl FnMut()) -> usize {
     ((ENOUGH.as_secs_f64() / once) as usize).clamp(1, 100_000)
 }
 
-impl Spread {
-    pub fn of(figures: impl IntoIterator<Item = f64>) -> Spread {
+impl Summary {
+    pub fn of(figures: impl IntoIterator<Item = f64>) -> Summary {
         let mut figures: Vec<f64> = figures.into_iter().collect();
         figures.sort_by(f64::total_cmp);
         let median = figures[figures.len() / 2];
-        Spread { median, lowest: figures[0], highest: figures[figures.len() - 1] }
+        Summary { median, lowest: figures[0], highest: figures[figures.len() - 1] }
     }
 }
 
@@ -60,13 +60,13 @@ impl Row {
     }
 
     /// The rounds' ratios of proved to idiomatic.
-    pub fn ratio(&self) -> Spread {
-        Spread::of(self.proved.iter().zip(&self.idiomatic).map(|(one, other)| one / other))
+    pub fn ratio(&self) -> Summary {
+        Summary::of(self.proved.iter().zip(&self.idiomatic).map(|(one, other)| one / other))
     }
 
     pub fn print(&self) {
-        let proved = Spread::of(self.proved.iter().copied());
-        let idiomatic = Spread::of(self.idiomatic.iter().copied());
+        let proved = Summary::of(self.proved.iter().copied());
+        let idiomatic = Summary::of(self.idiomatic.iter().copied());
         let ratio = self.ratio();
         println!(
             "{:<42} {:>12} {:>12} {:>8.2} {:>8.2} {:>8.2} {:>8.2}",
@@ -91,7 +91,7 @@ pub fn print_head(title: &str) {
 /// How much more a side takes for the larger of two areas.
 pub fn print_growth(name: &str, small: &Row, large: &Row) {
     let growth = |large: &[f64], small: &[f64]| {
-        Spread::of(large.iter().zip(small).map(|(large, small)| large / small))
+        Summary::of(large.iter().zip(small).map(|(large, small)| large / small))
     };
     for (side, growth) in [
         ("proved", growth(&large.proved, &small.proved)),

@@ -1,4 +1,4 @@
--- `running::run_formed` meets its contract: start refuses, or the run goes its course. Assumes nothing.
+-- `running::run_formed` meets its contract: start refuses, or the run is executed. Assumes nothing.
 use mathlib.Core.Path.{refl, ap, sym, _∙_}
 use native.Mathlib.Omega.{arith}
 use denote.Ref.{now}

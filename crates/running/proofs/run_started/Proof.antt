@@ -1,4 +1,4 @@
--- `running::run_started` meets its contract: start leaves a valid area with the started state, and the run goes its course. Assumes nothing.
+-- `running::run_started` meets its contract: start leaves a valid area with the started state, and the run is executed. Assumes nothing.
 use mathlib.Core.Path.{refl, subst}
 use native.Mathlib.Omega.{arith}
 use denote.Ref.{now}

@@ -4,7 +4,7 @@
 // Each file of tests uses its own part of this.
 #![allow(dead_code)]
 
-use harness::answers::{self, Said, Slots};
+use harness::answers::{self, ReturnValue, Slots};
 use harness::calls::{self, CountWords};
 use harness::lent::{Lent, Part};
 use reference::area::WORDS;
@@ -104,19 +104,19 @@ fn slots(buffer: usize) -> Slots {
     Slots { outcome: [MARK], counts: [MARK; 9], total: [MARK; 2], buffer: vec![0xa5; buffer] }
 }
 
-fn perform(lent: &mut Lent, part: Part, call: &Call) -> (Said, Slots, Slots) {
+fn perform(lent: &mut Lent, part: Part, call: &Call) -> (ReturnValue, Slots, Slots) {
     let length = if let Call::Point { buffer, .. } = call { *buffer } else { 0 };
     let before = slots(length);
     let mut after = before.clone();
-    let said = answers::of_library(lent.part(part), call, &mut after);
-    (said, before, after)
+    let return_value = answers::of_library(lent.part(part), call, &mut after);
+    (return_value, before, after)
 }
 
 /// The call is refused with this number, and all that was lent is as it was.
 pub fn refused_in(lent: &mut Lent, part: Part, call: &Call, number: u32) {
     let area = lent.clone();
-    let (said, before, after) = perform(lent, part, call);
-    assert_eq!(said, Said::Number(number), "{call:?}");
+    let (return_value, before, after) = perform(lent, part, call);
+    assert_eq!(return_value, ReturnValue::Number(number), "{call:?}");
     assert_eq!(after, before, "{call:?} wrote into what it gives back");
     assert!(*lent == area, "{call:?} wrote into the area");
 }
@@ -128,8 +128,8 @@ pub fn refused(lent: &mut Lent, call: &Call, number: u32) {
 /// The call is accepted in a copy of the storage, so that the next case finds
 /// it as it was.
 pub fn accepted_in(lent: &Lent, part: Part, call: &Call) {
-    let (said, ..) = perform(&mut lent.clone(), part, call);
-    assert_eq!(said, Said::Number(0), "{call:?}");
+    let (return_value, ..) = perform(&mut lent.clone(), part, call);
+    assert_eq!(return_value, ReturnValue::Number(0), "{call:?}");
 }
 
 pub fn accepted(lent: &Lent, call: &Call) {

@@ -80,18 +80,18 @@ pub fn append_beyond_axes(area: &mut Area, rng: &mut Rng) -> Option<String> {
 /// area as many as it takes to pass the 512.
 pub fn promote_past_limits(area: &mut Area, rng: &mut Rng) -> Option<String> {
     let mut promoted = vec![any_in_state(area, rng, ACTIVE)?];
-    promote_in_spite(area, promoted[0]);
+    promote_ignoring_limits(area, promoted[0]);
     while (500..=HELD_LIMIT).contains(&area.held().len()) {
         let Some(selected) = any_in_state(area, rng, ACTIVE) else {
             break;
         };
-        promote_in_spite(area, selected);
+        promote_ignoring_limits(area, selected);
         promoted.push(selected);
     }
     Some(format!("active {promoted:?} promoted without regard to the limits"))
 }
 
-fn promote_in_spite(area: &mut Area, selected: usize) {
+fn promote_ignoring_limits(area: &mut Area, selected: usize) {
     let levels = area.records[selected].levels;
     area.records[selected].state = OLD;
     area.job.pending = area.job.pending.wrapping_sub(u64::from(area.records[selected].indicator));

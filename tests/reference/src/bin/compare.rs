@@ -38,7 +38,7 @@ fn compare(other: &str, first: u64, files: u64) -> Result<bool> {
     let mut differences = 0;
     for seed in first..first + files {
         let generated = generate::generate(seed);
-        let expected = program::text(&survey::seen(seed, &generated, &mut counts));
+        let expected = program::text(&survey::checked_outcome(seed, &generated, &mut counts));
         let output = match seed % 2 {
             0 => run_on_file(other, &place, &generated.bytes)?,
             _ => run_on_pipe(other, seed, &generated.bytes)?,
@@ -52,11 +52,11 @@ fn compare(other: &str, first: u64, files: u64) -> Result<bool> {
     if Path::new(&place).exists() {
         std::fs::remove_file(&place)?;
     }
-    Ok(told(&counts, files, differences))
+    Ok(print_summary(&counts, files, differences))
 }
 
 /// The counts, what is missing, and whether all is well.
-fn told(counts: &Counts, files: u64, differences: u64) -> bool {
+fn print_summary(counts: &Counts, files: u64, differences: u64) -> bool {
     for (what, count) in counts {
         println!("{what}: {count}");
     }

@@ -1,5 +1,5 @@
 //! `survey FIRST_SEED FILES`: runs generated job files through the program,
-//! compares each report with the one foretold from the log, prints how often
+//! compares each report with the one predicted from the log, prints how often
 //! each thing was seen, and fails if something due wasn't.
 
 use reference::survey;

@@ -2,17 +2,17 @@
 //! to be started first, or an area that the reference's calls have made, some
 //! of them near a ceiling or near 512 held.
 
-use crate::material;
+use crate::check_cases;
 use reference::area::{Area, IndexRecord, JobRecord, WORDS};
 use reference::calls::{self, Promotion};
-use reference::choice::{Aim, Chooser};
+use reference::choice::{Chooser, Parameters};
 use reference::grid::{BUDGET_LIMIT, HELD_LIMIT, MOST_AXES};
 use reference::rng::Rng;
 use reference::sample;
 use reference::style::{self, IndicatorStyle, ReadingStyle};
 use std::collections::BTreeMap;
 
-pub struct Beginning {
+pub struct InitialArea {
     pub area: Area,
     /// Cells past the last whole record, fewer than a record has.
     pub rest: Vec<u32>,
@@ -22,13 +22,13 @@ pub struct Beginning {
 
 /// Jobs near 512 held take up to a second to make, so each is made once.
 #[derive(Default)]
-pub struct Beginnings {
+pub struct InitialAreas {
     nearly_full: BTreeMap<usize, Vec<Area>>,
 }
 
-impl Beginnings {
+impl InitialAreas {
     /// The beginning of a list; it depends on the numbers drawn alone.
-    pub fn next(&mut self, chooser: &mut Chooser) -> Beginning {
+    pub fn next(&mut self, chooser: &mut Chooser) -> InitialArea {
         let rng = &mut chooser.rng;
         let mut calls = rng.between(30, 240) as u64;
         let mut area = match rng.below(1_000) {
@@ -36,7 +36,7 @@ impl Beginnings {
                 calls = rng.between(20, 80) as u64;
                 self.nearly_full(rng)
             }
-            30..=69 => material::near_ceiling(rng),
+            30..=69 => check_cases::near_ceiling(rng),
             70..=169 => sample::area(rng.number()),
             _ => garbage(rng),
         };
@@ -44,9 +44,9 @@ impl Beginnings {
         area.store.truncate(BUDGET_LIMIT as usize + rng.pick(&[0, 1, 40]));
         let rest = (0..rng.place(WORDS)).map(|_| rng.number() as u32).collect();
         if calls::check(&area) {
-            follow(&mut chooser.aim, &area, rng);
+            follow(&mut chooser.parameters, &area, rng);
         }
-        Beginning { area, rest, calls }
+        InitialArea { area, rest, calls }
     }
 
     /// A job a few promotions before its end at 512 held, or at that end. Its
@@ -64,10 +64,10 @@ impl Beginnings {
 }
 
 /// The job goes on as it came to be.
-fn follow(aim: &mut Aim, area: &Area, rng: &mut Rng) {
-    aim.axes = area.job.axes;
-    aim.steps = rng.pick(&[60, 80, 90]);
-    aim.indicators = rng.pick(&[
+fn follow(parameters: &mut Parameters, area: &Area, rng: &mut Rng) {
+    parameters.axes = area.job.axes;
+    parameters.steps = rng.pick(&[60, 80, 90]);
+    parameters.indicators = rng.pick(&[
         IndicatorStyle::SmallBlocksFirst,
         IndicatorStyle::LargeBlocksFirst,
         IndicatorStyle::Ties,

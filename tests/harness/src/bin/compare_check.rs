@@ -1,12 +1,12 @@
-//! `altered SEED COUNT`: holds the exported check against the reference's on
+//! `compare_check SEED COUNT`: holds the exported check against the reference's on
 //! the areas of so many seeds from the first on, and prints what was seen. It
-//! fails at the first area on which the two differ; `altered` with that seed
+//! fails at the first area on which the two differ; `compare_check` with that seed
 //! and a count of 1 has it again. A long run fails also if some clause was
 //! never broken, or never alone.
 
 use harness::calls;
+use harness::check_cases::{Case, CheckCases, Kind};
 use harness::lent::Lent;
-use harness::material::{Case, Kind, Material};
 use harness::tally::{Tally, LONG_RUN};
 use harness::verdict::Verdict;
 use std::process::ExitCode;
@@ -45,12 +45,12 @@ fn compare(case: &Case) -> Result<Verdict, String> {
 }
 
 fn run(first: u64, count: u64) -> Result<Tally, String> {
-    let mut material = Material::default();
+    let mut cases = CheckCases::default();
     let mut tally = Tally::default();
     for number in 0..count {
         let seed = first.wrapping_add(number);
         SEED.store(seed, Ordering::Relaxed);
-        for case in material.cases(seed) {
+        for case in cases.cases(seed) {
             let verdict = compare(&case)
                 .map_err(|fault| format!("seed {seed}, area {} of the run: {fault}", number + 1))?;
             tally.note(&case, &verdict);
@@ -62,25 +62,25 @@ fn run(first: u64, count: u64) -> Result<Tally, String> {
 fn main() -> ExitCode {
     let arguments: Vec<Option<u64>> = std::env::args().skip(1).map(|a| a.parse().ok()).collect();
     let [Some(first), Some(count)] = arguments[..] else {
-        eprintln!("say `altered SEED COUNT`");
+        eprintln!("say `compare_check SEED COUNT`");
         return ExitCode::FAILURE;
     };
     std::panic::set_hook(Box::new(|panic| {
-        eprintln!("altered: seed {}: {panic}", SEED.load(Ordering::Relaxed));
+        eprintln!("compare_check: seed {}: {panic}", SEED.load(Ordering::Relaxed));
     }));
     let tally = match run(first, count) {
         Ok(tally) => tally,
         Err(fault) => {
-            eprintln!("altered: {fault}");
+            eprintln!("compare_check: {fault}");
             return ExitCode::FAILURE;
         }
     };
     print!("{tally}");
-    let amiss = if count < LONG_RUN { Vec::new() } else { tally.amiss() };
-    for what in &amiss {
-        eprintln!("altered: {what}");
+    let failures = if count < LONG_RUN { Vec::new() } else { tally.failures() };
+    for what in &failures {
+        eprintln!("compare_check: {what}");
     }
-    match amiss.is_empty() {
+    match failures.is_empty() {
         true => ExitCode::SUCCESS,
         false => ExitCode::FAILURE,
     }

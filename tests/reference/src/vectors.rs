@@ -1,7 +1,7 @@
-//! Many named job files in one pack, for a program that runs one after the
+//! Many named job files in one bundle, for a program that runs one after the
 //! other, and what it must print.
 //!
-//! A pack is the number of its files (4 bytes, as all numbers here), and for
+//! A bundle is the number of its files (4 bytes, as all numbers here), and for
 //! each the length of its name, the name, the length of the file and its bytes,
 //! at most as many as decide.
 
@@ -50,26 +50,26 @@ fn generated() -> Vec<Named> {
     files
 }
 
-/// The pack's bytes.
+/// The bundle's bytes.
 pub fn write(files: &[Named]) -> Vec<u8> {
-    let mut pack = Vec::new();
-    put(&mut pack, files.len());
+    let mut bundle = Vec::new();
+    put(&mut bundle, files.len());
     for file in files {
-        put(&mut pack, file.name.len());
-        pack.extend(file.name.bytes());
+        put(&mut bundle, file.name.len());
+        bundle.extend(file.name.bytes());
         let deciding = &file.bytes[..file.bytes.len().min(DECIDING_BYTES)];
-        put(&mut pack, deciding.len());
-        pack.extend(deciding);
+        put(&mut bundle, deciding.len());
+        bundle.extend(deciding);
     }
-    pack
+    bundle
 }
 
-fn put(pack: &mut Vec<u8>, number: usize) {
-    let number = u32::try_from(number).expect("a pack's numbers have 4 bytes");
-    pack.extend(number.to_le_bytes());
+fn put(bundle: &mut Vec<u8>, number: usize) {
+    let number = u32::try_from(number).expect("a bundle's numbers have 4 bytes");
+    bundle.extend(number.to_le_bytes());
 }
 
-/// What running a pack prints: each name as a line, then the report of the
+/// What running a bundle prints: each name as a line, then the report of the
 /// whole file.
 pub fn reports(files: &[Named]) -> String {
     files.iter().map(|file| format!("{}\n{}", file.name, program::report(&file.bytes))).collect()

@@ -33,11 +33,11 @@ pub struct Case {
 
 /// Full areas take up to a second to make, so each is made once.
 #[derive(Default)]
-pub struct Material {
+pub struct CheckCases {
     full: BTreeMap<usize, Area>,
 }
 
-impl Material {
+impl CheckCases {
     /// The cases of a seed: an area as the calls left it and what became of
     /// it, or garbage. They depend on the seed alone.
     pub fn cases(&mut self, seed: u64) -> Vec<Case> {
@@ -71,7 +71,7 @@ impl Material {
             _ => sample::area(seed),
         };
         if rng.percent(50) {
-            litter(&mut area, rng);
+            fill_unused(&mut area, rng);
         }
         area
     }
@@ -104,7 +104,7 @@ pub fn near_ceiling(rng: &mut Rng) -> Area {
 }
 
 /// Anything in the records past the last held, where no clause looks.
-fn litter(area: &mut Area, rng: &mut Rng) {
+fn fill_unused(area: &mut Area, rng: &mut Rng) {
     let held = area.held().len();
     for record in &mut area.records[held..] {
         *record = any_record(rng, any_word);
@@ -230,9 +230,9 @@ mod tests {
     /// So a seed that a long run names can be had again alone.
     #[test]
     fn a_seed_gives_the_same_cases_alone_as_in_a_run() {
-        let mut used = Material::default();
+        let mut used = CheckCases::default();
         for seed in 0..80 {
-            assert_eq!(used.cases(seed), Material::default().cases(seed), "seed {seed}");
+            assert_eq!(used.cases(seed), CheckCases::default().cases(seed), "seed {seed}");
         }
     }
 }

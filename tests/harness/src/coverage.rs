@@ -53,12 +53,12 @@ pub struct Circumstances<'a> {
 }
 
 #[derive(Default)]
-pub struct Seen {
+pub struct Coverage {
     counts: BTreeMap<String, u64>,
     highest: BTreeMap<&'static str, u64>,
 }
 
-impl Seen {
+impl Coverage {
     fn count(&mut self, what: impl Into<String>) {
         *self.counts.entry(what.into()).or_insert(0) += 1;
     }
@@ -173,7 +173,7 @@ impl Seen {
     }
 }
 
-impl Display for Seen {
+impl Display for Coverage {
     fn fmt(&self, out: &mut Formatter) -> fmt::Result {
         for (what, count) in &self.counts {
             writeln!(out, "{what}: {count}")?;
@@ -193,6 +193,6 @@ mod tests {
     fn a_run_that_saw_nothing_lacks_everything() {
         let refusals: usize = REFUSALS.iter().map(|(_, numbers)| 1 + numbers.len()).sum();
         let due = OUTCOMES.len() + LENT.len() + CROSS_TOTALS.len() + refusals + 8 + 3 + 2;
-        assert_eq!(Seen::default().missing().len(), due);
+        assert_eq!(Coverage::default().missing().len(), due);
     }
 }
