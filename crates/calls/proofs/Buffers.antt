@@ -1,7 +1,7 @@
 -- The buffer after point: as long as it was, its later bytes untouched.
 -- The idea: the point has as many positions as its index has levels, and these are eight where the area is sound.
 -- Assumes nothing.
-use mathlib.Core.Path.{_≡_, refl, ap, _∙_}
+use mathlib.Core.Path.{_≡_, refl, ap, sym, _∙_}
 use mathlib.Core.Bool.{_&&_}
 use mathlib.Core.List.{List, [], _∷_, _++_}
 use Prim.Native.Nat.{ℕ, suc, _+_, _-_, _%_, _≤_}
@@ -9,9 +9,10 @@ use native.Mathlib.Omega.{arith}
 use borrow.Author.Tests.{not-false}
 use lib.Dec.{leb}
 use lib.ListN.{length, getD, take, drop, length-append, length-drop}
-use lib.Seq.{length-take-le, getD-drop, getD-append-add}
+use lib.Seq.{take-at, length-take-le, getD-drop, getD-append-add}
 use Rattle.area.specs.Settings.{leastStore}
-use Rattle.grid.specs.Block.{blockSize, pointOf}
+use Rattle.grid.specs.Block.{block, blockSize, pointOf}
+use Rattle.grid.proofs.Facts.{block-facts}
 use Rattle.area.specs.Encoding.{Area, entriesOf, machineOf}
 use Rattle.soundness.specs.Clauses.{isSound}
 use Rattle.soundness.proofs.Exactly.{reads-and, reads-le}
@@ -83,3 +84,9 @@ module _ (a : Area) (n : ℕ) (buffer : List ℕ) (none : firstCause (pointCause
 
   pub laid-later : (i : ℕ) → a .job .settings .axes ≤ i → getD laid i 0 ≡ getD buffer i 0
   laid-later = over-later point buffer (a .job .settings .axes) positions
+
+  pub laid-first : take (a .job .settings .axes) laid ≡ take (a .job .settings .axes) (getD (block (wantedIndex (entriesOf a))) n [])
+  unfolding machineOf
+  laid-first =
+      take-at (take (a .job .settings .axes) point) (drop (a .job .settings .axes) buffer) (a .job .settings .axes) (length-take-le (a .job .settings .axes) point positions)
+      ∙ ap (take (a .job .settings .axes)) (sym (block-facts .nth (wantedIndex (entriesOf a)) n (pointable (lengthsOf a) (isSound a) (machineOf a .log) n (length buffer) none .inside)))

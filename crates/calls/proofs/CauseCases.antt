@@ -9,7 +9,7 @@ use lib.Dec.{eqb}
 use Rattle.area.specs.Encoding.{Area, machineOf}
 use Rattle.soundness.specs.Clauses.{isSound}
 use Rattle.calls.specs.Replies.{refused, lengthsOf}
-use Rattle.calls.specs.Table.{Call, Row, free, onJob, row, effectOf, fitting, acceptedAnswer, refusedAnswer, answerOf}
+use Rattle.calls.specs.Table.{Call, Row, anyArea, onJob, row, effectOf, passesCheck, acceptedAnswer, refusedAnswer, answerOf}
 use Rattle.calls.specs.Calls.{CallResult, areaAfter, refusalOn, callOn}
 
 module _ (a : Area) (c : Call) where
@@ -17,7 +17,7 @@ module _ (a : Area) (c : Call) where
   abbrev pub acceptedCall : CallResult
   acceptedCall =
       record {
-        answer = acceptedAnswer (fitting (lengthsOf a) (isSound a) (machineOf a .log)) (machineOf a) (row c);
+        answer = acceptedAnswer (passesCheck (lengthsOf a) (isSound a) (machineOf a .log)) (machineOf a) (row c);
         area = areaAfter a (effectOf (machineOf a) (row c));
       }
 
@@ -52,5 +52,5 @@ module _ (a : Area) (c : Call) where
 -- a refused call says so
 pub refused-reply : (n : ℕ) (r : Row) → refusedAnswer n r .reply ≡ refused n
 unfolding refusedAnswer
-refused-reply n (free r) = refl
+refused-reply n (anyArea r) = refl
 refused-reply n (onJob r) = refl

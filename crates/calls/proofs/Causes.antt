@@ -13,7 +13,7 @@ use Rattle.grid.specs.Block.{blockSize}
 use Rattle.area.specs.Log.{Log}
 use Rattle.soundness.proofs.Settings.{reads-axes, reads-budget}
 use Rattle.machine.specs.Log.{firstWanted, anyWanted, wantedIndex}
-use Rattle.machine.specs.Causes.{Lengths, cause, firstCause, short, inRange, jobCauses, pointOwn, startCauses, pointCauses, deliverCauses, promoteCauses, resultCauses}
+use Rattle.machine.specs.Causes.{Lengths, cause, firstCause, short, inRange, jobCauses, pointOwnCauses, startCauses, pointCauses, deliverCauses, promoteCauses, resultCauses}
 use Rattle.calls.proofs.Tests.{hit, miss, end, Clear, clear, refusing, passing}
 
 -- ---- start
@@ -107,9 +107,9 @@ module _ (z : Lengths) (sound : Bool) (l : Log) where
 
     module _ (room : l .settings .axes ≤ w) where
       -- storage alone can be too short
-      buffered : firstCause (pointCauses z sound l n w) ≡ firstCause (jobCauses z sound (l .settings) false (pointOwn l n))
+      buffered : firstCause (pointCauses z sound l n w) ≡ firstCause (jobCauses z sound (l .settings) false (pointOwnCauses l n))
       unfolding pointCauses
-      buffered = ap (λ t. firstCause (jobCauses z sound (l .settings) (not t) (pointOwn l n))) (le-leb (l .settings .axes) w room)
+      buffered = ap (λ t. firstCause (jobCauses z sound (l .settings) (not t) (pointOwnCauses l n))) (le-leb (l .settings .axes) w room)
 
       pub point-common : (common ≡ 0 → ⊥) → firstCause (pointCauses z sound l n w) ≡ common
       unfolding resultCauses

@@ -3,30 +3,31 @@
 -- Assumes nothing.
 use mathlib.Core.Path.{_≡_, refl, ap, sym, _∙_, subst}
 use mathlib.Core.Logic.{_⊎_, inl, inr}
-use mathlib.Core.List.{List, List·Memᴰ}
+use mathlib.Core.List.{List, [], List·Memᴰ}
 use Prim.Native.Nat.{ℕ, _+_, _<_, _≤_}
 use native.Mathlib.Omega.{arith}
 use lib.IntN.{ℤ, pos}
-use lib.ListN.{length, getD}
+use lib.ListN.{length, getD, take}
 use Rattle.area.specs.declared.Settings.{Settings}
 use Rattle.area.specs.Encoding.{Area, heldOf, entriesOf, machineOf}
 use Rattle.quadrature.specs.Readings.{recordAt}
 use Rattle.soundness.specs.Clauses.{isSound}
 use Rattle.encoding.specs.Encodes.{WellFormed}
-use Rattle.machine.specs.Log.{firstWanted}
+use Rattle.grid.specs.Block.{block}
+use Rattle.machine.specs.Log.{firstWanted, wantedIndex}
 use Rattle.machine.specs.Promote.{met, spent}
 use Rattle.machine.specs.Steps.{started}
 use Rattle.machine.specs.Causes.{firstCause, startCauses, pointCauses, deliverCauses, promoteCauses}
 use Rattle.machine.specs.Areas.{startOn, deliverOn, promoteOn}
 use Rattle.writing.specs.ValidArea.{ValidArea}
 use Rattle.calls.specs.Replies.{refused, accepted, promotion, lengthsOf}
-use Rattle.calls.specs.Table.{Call, start, point, deliver, promote, result, crossTotal, check, answer, row, causesOf, effectOf, fitting, acceptedAnswer, refusedAnswer, refusal, stateAfter}
+use Rattle.calls.specs.Table.{Call, Answer, changed, start, point, deliver, promote, result, crossTotal, check, answer, row, causesOf, effectOf, passesCheck, acceptedAnswer, refusedAnswer, refusal, stateAfter}
 use Rattle.calls.specs.Calls.{CallResult, areaAfter, refusalOn, callOn}
-use Rattle.calls.specs.Facts.{PastUnchanged, numbersOf, Accepted, CallFacts}
-use Rattle.calls.proofs.Buffers.{laid-length, laid-later}
+use Rattle.calls.specs.Facts.{PastUnchanged, numbersOf, NotRefused, CallFacts}
+use Rattle.calls.proofs.Buffers.{laid-first, laid-length, laid-later}
 use Rattle.calls.proofs.Numbers.{cause-number, accepted-reply}
 use Rattle.calls.proofs.CauseCases.{refused-reply, call-accepts, call-ways}
-use Rattle.calls.proofs.Rows.{start-accepts, start-refuses, promote-accepts}
+use Rattle.calls.proofs.Rows.{promote-effect, point-accepts, start-accepts, start-refuses, promote-accepts}
 use Rattle.calls.proofs.Outcomes.{idle-area}
 use Rattle.calls.proofs.Next.{IsJob, Next, next-start, next-valid, allowed-there, valid-before, after-valid, after-state, after-lengths, after-past}
 use Rattle.calls.proofs.ResultValues.{cross-mean, result-recorded, check-answer}
@@ -39,7 +40,7 @@ module _ (a : Area) (c : Call) where
   refused-keeps : (n : ℕ) → callOn a c .answer .reply ≡ refused n → (callOn a c .area ≡ a) × (callOn a c .answer ≡ refusedAnswer n (row c)) × List·Memᴰ n (numbersOf c)
   refused-keeps n =
       call-ways a c (λ (x : CallResult). x .answer .reply ≡ refused n → (x .area ≡ a) × (x .answer ≡ refusedAnswer n (row c)) × List·Memᴰ n (numbersOf c))
-      (λ none e. absurd (accepted-reply (fitting (lengthsOf a) (isSound a) (machineOf a .log)) (machineOf a) c n e))
+      (λ none e. absurd (accepted-reply (passesCheck (lengthsOf a) (isSound a) (machineOf a .log)) (machineOf a) c n e))
       (λ some e. let same : refusalOn a c ≡ n = same-number e in
       (refl, ap (λ k. refusedAnswer k (row c)) same, subst (λ k. List·Memᴰ k (numbersOf c)) same (cause-number (lengthsOf a) (isSound a) (machineOf a .log) c some)))
     where
@@ -47,7 +48,7 @@ module _ (a : Area) (c : Call) where
       same-number e = let k : refused (refusalOn a c) ≡ refused n = sym (refused-reply (refusalOn a c) (row c)) ∙ e in cc
 
   -- a call that answers no refusal has no cause
-  pub no-cause : Accepted a c → refusalOn a c ≡ 0
+  pub no-cause : NotRefused a c → refusalOn a c ≡ 0
   no-cause f = call-ways a c (λ (x : CallResult). ((n : ℕ) → x .answer .reply ≡ refused n → ⊥) → refusalOn a c ≡ 0) (λ none g. none)
       (λ some g. absurd (g (refusalOn a c) (refused-reply (refusalOn a c) (row c)))) f
 
@@ -58,11 +59,17 @@ module _ (a : Area) (c : Call) where
     lengths : lengthsOf (callOn a c .area) ≡ lengthsOf a
     lengths = call-ways a c (λ (x : CallResult). lengthsOf (x .area) ≡ lengthsOf a) (λ none. after-lengths a (effectOf (machineOf a) (row c)) (allowed-there a well-formed c none)) (λ some. refl)
 
-    state : Accepted a c → machineOf (callOn a c .area) ≡ stateAfter (lengthsOf a) (isSound a) (machineOf a) c
+    state : NotRefused a c → machineOf (callOn a c .area) ≡ stateAfter (lengthsOf a) (isSound a) (machineOf a) c
     unfolding stateAfter callOn
     state f =
         let none = no-cause f in
         rw none (after-state a (effectOf (machineOf a) (row c)) (allowed-there a well-formed c none))
+
+-- ---- the states of deliver and promote
+
+not-refused-state : (a : Area) (c : Call) → WellFormed (heldOf a) → NotRefused a c → machineOf (callOn a c .area) ≡ changed (machineOf a) (effectOf (machineOf a) (row c))
+unfolding stateAfter
+not-refused-state a c well-formed f = state a c well-formed f ∙ rw (no-cause a c f) refl
 
 -- ---- an accepted start
 
@@ -131,13 +138,20 @@ module _ (a : Area) (well-formed : WellFormed (heldOf a)) where
   by-call crossTotal none h = job-leaves-valid crossTotal (unfold row in tt) none
   by-call check none h = absurd (h refl)
 
-leaves-valid : (a : Area) (c : Call) → WellFormed (heldOf a) → Accepted a c → (c ≡ check → ⊥) → ValidArea (callOn a c .area)
+leaves-valid : (a : Area) (c : Call) → WellFormed (heldOf a) → NotRefused a c → (c ≡ check → ⊥) → ValidArea (callOn a c .area)
 unfolding callOn
 leaves-valid a c well-formed f other = rw (no-cause a c f) (by-call a well-formed c (no-cause a c f) other)
 
 -- ---- point
 
 module _ (a : Area) (m : ℕ) where
+  point-written : (buffer : List ℕ) → NotRefused a (point m buffer)
+      → take (a .job .settings .axes) (callOn a (point m buffer) .answer .buffer) ≡ take (a .job .settings .axes) (getD (block (wantedIndex (entriesOf a))) m [])
+  unfolding refusal causesOf row pointCauses
+  point-written buffer f =
+      let none = no-cause a (point m buffer) f in
+      ap (λ (x : Answer). take (a .job .settings .axes) (x .buffer)) (sym (point-accepts a m buffer (refusalOn a (point m buffer)) refl none)) ∙ laid-first a m buffer none
+
   point-length : (buffer : List ℕ) → length (callOn a (point m buffer) .answer .buffer) ≡ length buffer
   unfolding refusal causesOf row acceptedAnswer refusedAnswer pointCauses machineOf
   point-length buffer = call-ways a (point m buffer) (λ (x : CallResult). length (x .answer .buffer) ≡ length buffer) (laid-length a m buffer) (λ some. refl)
@@ -178,7 +192,7 @@ module _ (a : Area) where
   promote-ways P f g = call-ways a promote P (λ none. subst P (sym (call-accepts-promote none)) (f none)) g
     where
       call-accepts-promote : refusalOn a promote ≡ 0
-          → _≡_ {A = CallResult} (record { answer = acceptedAnswer (fitting (lengthsOf a) (isSound a) (machineOf a .log)) (machineOf a) (row promote); area = areaAfter a (effectOf (machineOf a) (row promote)) })
+          → _≡_ {A = CallResult} (record { answer = acceptedAnswer (passesCheck (lengthsOf a) (isSound a) (machineOf a .log)) (machineOf a) (row promote); area = areaAfter a (effectOf (machineOf a) (row promote)) })
           (record { answer = answer (promotion (promoteOn a .outcome)); area = promoteOn a .area })
       call-accepts-promote none = call-accepts a promote (refusalOn a promote) refl none ∙ is-promote none
 
@@ -203,6 +217,8 @@ call-facts =
       start-state = start-state;
       leaves-valid = leaves-valid;
       state = state;
+      deliver-state = λ a rs i well-formed f. not-refused-state a (deliver rs i) well-formed f ∙ unfold effectOf row changed in refl;
+      promote-state = λ a well-formed f. not-refused-state a promote well-formed f ∙ promote-effect (machineOf a);
       start-lengths = start-lengths;
       lengths = lengths;
       past = past;
@@ -211,6 +227,7 @@ call-facts =
       deliver-store = λ a rs i n well-formed. deliver-store a rs i well-formed n;
       deliver-stored = λ a rs i n well-formed. deliver-stored a rs i well-formed n;
       promote-unchanged = promote-unchanged;
+      point-written = point-written;
       point-length = point-length;
       point-later = λ a n i buffer. point-later a n i buffer;
       result-recorded = result-recorded;

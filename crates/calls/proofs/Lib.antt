@@ -4,12 +4,12 @@ pub mod Causes
 pub mod Validity
 pub mod Accepted
 pub mod Ranges
+pub mod Outcomes
 pub mod CauseCases
 pub mod Rows
 pub mod Numbers
 pub mod Buffers
 pub mod ResultValues
-pub mod Outcomes
 pub mod Written
 pub mod Next
 pub mod StepEffects

@@ -15,12 +15,12 @@ use Rattle.encoding.specs.Encodes.{WellFormed}
 use Rattle.encoding.specs.Entries.{SoundMachine}
 use Rattle.machine.specs.Promote as rule
 use Rattle.machine.specs.Steps as steps
-use Rattle.machine.specs.Causes.{Cause, Lengths, firstCause, jobCauses, short, startCauses, deliverCauses, promoteCauses, resultCauses}
+use Rattle.machine.specs.Causes.{Lengths, firstCause, short, startCauses, deliverCauses, promoteCauses, resultCauses}
 use Rattle.machine.proofs.Facts.{step-facts}
 use Rattle.writing.specs.ValidArea.{ValidArea}
 use Rattle.writing.proofs.After.{machine-sound}
 use Rattle.calls.specs.Replies.{lengthsOf}
-use Rattle.calls.specs.Table.{Call, start, point, deliver, promote, result, crossTotal, check, Effect, leaves, becomes, promotionEffect, row, causesOf, effectOf, refusal, changed, Row, free, onJob}
+use Rattle.calls.specs.Table.{Call, start, point, deliver, promote, result, crossTotal, check, Effect, unchanged, becomes, promotionEffect, row, causesOf, effectOf, refusal, changed, Row, anyArea, onJob}
 use Rattle.calls.specs.Calls.{areaAfter, refusalOn}
 use Rattle.calls.specs.Facts.{PastUnchanged}
 use Rattle.calls.proofs.Accepted.{missed, neither, startable, first-two, long-enough, promotable, deliverable}
@@ -32,12 +32,12 @@ use Rattle.calls.proofs.Written.{written-past, written-valid, written-s
 -- ---- a call on a job: storage and area did not refuse it
 
 abbrev pub IsJob : Row → Type 0
-IsJob (free r) = ⊥
+IsJob (anyArea r) = ⊥
 IsJob (onJob r) = Unit {0}
 
 pub job-clear : (z : Lengths) (sound : Bool) (l : Log) (r : Row) → IsJob r → firstCause (causesOf z sound l r) ≡ 0 → firstCause (resultCauses z sound l) ≡ 0
 unfolding causesOf
-job-clear z sound l (free r) j e = absurd j
+job-clear z sound l (anyArea r) j e = absurd j
 job-clear z sound l (onJob r) j e =
     let one = missed _ 2 _ e in
     let two = missed _ 3 _ (one .later) in
@@ -53,7 +53,7 @@ pub record Next (z : Lengths) (m : Machine) : Type 0 where
 
 -- What a call does to the state is such a state, or nothing.
 abbrev pub Allowed : Lengths → Effect → Type 0
-Allowed z leaves = Unit {0}
+Allowed z unchanged = Unit {0}
 Allowed z (becomes m) = Next z m
 
 pub next-start : (z : Lengths) (g : Settings) → firstCause (startCauses z g) ≡ 0 → Next z (steps.started g)
@@ -123,20 +123,20 @@ next-valid a n x = written-valid a n (x .sound) (x .records) (x .readings)
 module _ (a : Area) where
   pub after-valid : (e : Effect) → ValidArea a → Allowed (lengthsOf a) e → ValidArea (areaAfter a e)
   unfolding areaAfter
-  after-valid leaves s x = s
+  after-valid unchanged s x = s
   after-valid (becomes n) s x = next-valid a n x
 
   pub after-state : (e : Effect) → Allowed (lengthsOf a) e → machineOf (areaAfter a e) ≡ changed (machineOf a) e
   unfolding areaAfter changed
-  after-state leaves x = refl
+  after-state unchanged x = refl
   after-state (becomes n) x = written-state a n (x .sound)
 
   pub after-lengths : (e : Effect) → Allowed (lengthsOf a) e → lengthsOf (areaAfter a e) ≡ lengthsOf a
   unfolding areaAfter
-  after-lengths leaves x = refl
+  after-lengths unchanged x = refl
   after-lengths (becomes n) x = written-lengths a n (x .sound) (x .records) (x .readings)
 
   pub after-past : (e : Effect) → PastUnchanged a (areaAfter a e)
   unfolding areaAfter
-  after-past leaves = record { records = refl; rest = refl }
+  after-past unchanged = record { records = refl; rest = refl }
   after-past (becomes n) = written-past a n

@@ -19,7 +19,7 @@ use Rattle.encoding.specs.Entries.{SoundMachine}
 use Rattle.machine.specs.Means.{meanOf, crossOf}
 use Rattle.machine.proofs.Means.{mean-facts}
 use Rattle.calls.specs.Replies.{counts, total, verdict, lengthsOf}
-use Rattle.calls.specs.Table.{result, crossTotal, check, answer, row, causesOf, effectOf, fitting, acceptedAnswer, refusedAnswer, refusal}
+use Rattle.calls.specs.Table.{result, crossTotal, check, answer, row, causesOf, effectOf, passesCheck, acceptedAnswer, refusedAnswer, refusal}
 use Rattle.calls.specs.Calls.{CallResult, areaAfter, callOn}
 use Rattle.calls.proofs.Validity.{sound-there, long-there}
 use Rattle.calls.proofs.CauseCases.{call-accepts, call-ways}
@@ -55,9 +55,9 @@ module _ (a : Area) where
       (λ some e. let z : _≡_ {A = ℕ} 0 1 = cc in absurd (omega arith))
 
   -- check is never refused, and its verdict is the storage test and the clauses
-  fitting-checked : fitting (lengthsOf a) (isSound a) (machineOf a .log) ≡ checked a
-  unfolding fitting short checked machineOf
-  fitting-checked = split (leb 512 (length (a .run .records))) (leb (leastStore (a .job .settings)) (length (a .store))) (isSound a)
+  passes-checked : passesCheck (lengthsOf a) (isSound a) (machineOf a .log) ≡ checked a
+  unfolding passesCheck short checked machineOf
+  passes-checked = split (leb 512 (length (a .run .records))) (leb (leastStore (a .job .settings)) (length (a .store))) (isSound a)
     where
       split : (t u s : Bool) → (not (not (t && u)) && s) ≡ (t && u && s)
       split true true s = refl
@@ -66,4 +66,4 @@ module _ (a : Area) where
 
   pub check-answer : callOn a check ≡ record { answer = answer (verdict (checked a)); area = a }
   unfolding row causesOf effectOf refusal firstCause acceptedAnswer areaAfter
-  check-answer = sym (call-accepts a check 0 refl refl) ∙ ap {B = CallResult} (λ (t : Bool). record { answer = answer (verdict t); area = a }) fitting-checked
+  check-answer = sym (call-accepts a check 0 refl refl) ∙ ap {B = CallResult} (λ (t : Bool). record { answer = answer (verdict t); area = a }) passes-checked

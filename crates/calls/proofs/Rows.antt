@@ -3,6 +3,7 @@
 use mathlib.Core.Path.{_≡_, refl, ap, sym, _∙_}
 use mathlib.Core.List.{List, _++_}
 use Prim.Native.Nat.{ℕ}
+use native.Mathlib.Omega.{arith}
 use lib.IntN.{ℤ}
 use lib.ListN.{length, take, drop}
 use Rattle.area.specs.declared.Settings.{Settings}
@@ -11,6 +12,7 @@ use Rattle.area.specs.Log.{Machine}
 use Rattle.area.specs.Encoding.{Area, entriesOf, machineOf, written}
 use Rattle.soundness.specs.Clauses.{isSound}
 use Rattle.machine.specs.Log.{wantedIndex}
+use Rattle.machine.specs.Promote as rule
 use Rattle.machine.specs.Promote.{Outcome, met, spent, promoted}
 use Rattle.machine.specs.Steps.{promoteStep}
 use Rattle.machine.specs.Causes.{firstCause, startCauses, pointCauses, deliverCauses, promoteCauses, resultCauses}
@@ -18,8 +20,9 @@ use Rattle.machine.specs.Areas.{startOn, deliverOn, changedBy, promoteOn}
 use Rattle.machine.specs.Counts.{countsOf}
 use Rattle.machine.specs.Means.{crossOf}
 use Rattle.calls.specs.Replies.{refused, accepted, promotion, counts, total, lengthsOf}
-use Rattle.calls.specs.Table.{start, point, deliver, promote, result, crossTotal, answer, promotionEffect, row, causesOf, effectOf, acceptedAnswer, refusedAnswer, refusal}
+use Rattle.calls.specs.Table.{start, point, deliver, promote, result, crossTotal, answer, promotionEffect, row, causesOf, effectOf, acceptedAnswer, refusedAnswer, refusal, changed}
 use Rattle.calls.specs.Calls.{CallResult, areaAfter, callOn}
+use Rattle.calls.proofs.Outcomes.{same-log}
 use Rattle.calls.proofs.CauseCases.{call-accepts, call-refuses}
 
 module _ (a : Area) (g : Settings) (n : ℕ) (is : n ≡ firstCause (startCauses (lengthsOf a) g)) where
@@ -46,6 +49,19 @@ unfolding areaAfter promotionEffect changedBy
 outcome-area a met m = refl
 outcome-area a spent m = refl
 outcome-area a promoted m = refl
+
+-- whatever its outcome, a promotion leaves the state of the machine's promotion
+pub promote-effect : (m : Machine) → changed m (effectOf m (row promote)) ≡ promoteStep m
+unfolding effectOf row changed promotionEffect
+promote-effect m = split (rule.promote (m .log) .outcome) stays
+  where
+    stays : (rule.promote (m .log) .outcome ≡ promoted → ⊥) → m ≡ promoteStep m
+    stays n = unfold promoteStep in sym (ap {B = Machine} (λ l. record { log = l; mean = m .mean }) (same-log (m .log) n))
+
+    split : (o : Outcome) → ((o ≡ promoted → ⊥) → m ≡ promoteStep m) → changed m (promotionEffect o (promoteStep m)) ≡ promoteStep m
+    split met f = f (λ e. let y : _≡_ {A = ℕ} 0 1 = cc in absurd (omega arith))
+    split spent f = f (λ e. let y : _≡_ {A = ℕ} 0 1 = cc in absurd (omega arith))
+    split promoted f = refl
 
 module _ (a : Area) (n : ℕ) (is : n ≡ firstCause (promoteCauses (lengthsOf a) (isSound a) (machineOf a .log))) where
   pub promote-refuses : (n ≡ 0 → ⊥) → record { answer = answer (refused n); area = a } ≡ callOn a promote

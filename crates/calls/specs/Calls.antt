@@ -11,7 +11,7 @@ use Rattle.soundness.specs.Clauses.{isSound}
 use Rattle.machine.specs.Causes.{firstCause, pointCauses, deliverCauses, promoteCauses, resultCauses}
 use Rattle.calls.specs.declared.CallOutput.{CallOutput}
 use Rattle.calls.specs.Replies.{replyOf, lengthsOf}
-use Rattle.calls.specs.Table.{Call, Effect, leaves, becomes, Answer, answer, row, effectOf, refusal, answerOf}
+use Rattle.calls.specs.Table.{Call, Effect, unchanged, becomes, Answer, answer, row, effectOf, refusal, answerOf}
 
 -- What a call leaves: its answer, with the buffer, and the area.
 pub record CallResult : Type 0 where
@@ -20,7 +20,7 @@ pub record CallResult : Type 0 where
 
 -- The area after an accepted call.
 unfoldable pub areaAfter : Area → Effect → Area
-areaAfter a leaves = a
+areaAfter a unchanged = a
 areaAfter a (becomes m) = written a m
 
 -- Why a call is refused: the number of the first cause that applies, 0 if none does.
@@ -50,5 +50,5 @@ abbrev pub promoteCause : Area → ℕ
 promoteCause a = firstCause (promoteCauses (lengthsOf a) (isSound a) (machineOf a .log))
 
 -- Result and cross total ask for storage and area alone.
-abbrev pub resultCause : Area → ℕ
-resultCause a = firstCause (resultCauses (lengthsOf a) (isSound a) (machineOf a .log))
+abbrev pub areaCause : Area → ℕ
+areaCause a = firstCause (resultCauses (lengthsOf a) (isSound a) (machineOf a .log))

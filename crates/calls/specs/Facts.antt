@@ -5,14 +5,16 @@ use mathlib.Core.Logic.{_⊎_}
 use mathlib.Core.List.{List, [], _∷_, List·Memᴰ}
 use Prim.Native.Nat.{ℕ, _+_, _<_, _≤_}
 use lib.IntN.{ℤ, pos}
-use lib.ListN.{length, getD, drop}
+use lib.ListN.{length, getD, take, drop}
 use Rattle.area.specs.declared.Settings.{Settings}
 use Rattle.area.specs.Encoding.{Area, heldOf, entriesOf, machineOf}
 use Rattle.quadrature.specs.Readings.{recordAt}
 use Rattle.soundness.specs.Clauses.{isSound, checked}
 use Rattle.encoding.specs.Encodes.{WellFormed}
-use Rattle.machine.specs.Log.{firstWanted}
+use Rattle.grid.specs.Block.{block}
+use Rattle.machine.specs.Log.{firstWanted, wantedIndex}
 use Rattle.machine.specs.Promote.{met, spent}
+use Rattle.machine.specs.Steps as steps
 use Rattle.machine.specs.Steps.{started}
 use Rattle.machine.specs.Counts.{Counts}
 use Rattle.machine.specs.Means.{meanOf}
@@ -37,8 +39,8 @@ numbersOf crossTotal = 3 ∷ 4 ∷ []
 numbersOf check = []
 
 -- The call is not refused.
-abbrev pub Accepted : Area → Call → Type 0
-Accepted a c = (n : ℕ) → callOn a c .answer .reply ≡ refused n → ⊥
+abbrev pub NotRefused : Area → Call → Type 0
+NotRefused a c = (n : ℕ) → callOn a c .answer .reply ≡ refused n → ⊥
 
 pub record CallFacts : Type 0 where
   -- a refused call keeps everything, the area and the buffer, and each cause is returned by the calls of its row and no other (that it is
@@ -49,9 +51,12 @@ pub record CallFacts : Type 0 where
   -- next state. Start asks nothing of the area; check is accepted on any area and leaves it
   pub start-leaves-valid : (a : Area) (g : Settings) → callOn a (start g) .answer .reply ≡ accepted → ValidArea (callOn a (start g) .area)
   pub start-state : (a : Area) (g : Settings) → callOn a (start g) .answer .reply ≡ accepted → machineOf (callOn a (start g) .area) ≡ started g
-  pub leaves-valid : (a : Area) (c : Call) → WellFormed (heldOf a) → Accepted a c → (c ≡ check → ⊥) → ValidArea (callOn a c .area)
-  pub state : (a : Area) (c : Call) → WellFormed (heldOf a) → Accepted a c
+  pub leaves-valid : (a : Area) (c : Call) → WellFormed (heldOf a) → NotRefused a c → (c ≡ check → ⊥) → ValidArea (callOn a c .area)
+  pub state : (a : Area) (c : Call) → WellFormed (heldOf a) → NotRefused a c
       → machineOf (callOn a c .area) ≡ stateAfter (lengthsOf a) (isSound a) (machineOf a) c
+  -- which is, of deliver and of promote, the machine's step
+  pub deliver-state : (a : Area) (rs : List ℤ) (i : ℕ) → WellFormed (heldOf a) → NotRefused a (deliver rs i) → machineOf (callOn a (deliver rs i) .area) ≡ steps.deliver (machineOf a) rs i
+  pub promote-state : (a : Area) → WellFormed (heldOf a) → NotRefused a promote → machineOf (callOn a promote .area) ≡ steps.promoteStep (machineOf a)
   -- the lengths of the lent storage stay
   pub start-lengths : (a : Area) (g : Settings) → lengthsOf (callOn a (start g) .area) ≡ lengthsOf a
   pub lengths : (a : Area) (c : Call) → WellFormed (heldOf a) → lengthsOf (callOn a c .area) ≡ lengthsOf a
@@ -68,7 +73,9 @@ pub record CallFacts : Type 0 where
       → getD (callOn a (deliver rs i) .area .store) (recordAt (heldOf a) (firstWanted (entriesOf a)) .first + n) (pos 0) ≡ getD rs n (pos 0)
   -- met and spent change nothing
   pub promote-unchanged : (a : Area) → (callOn a promote .answer .reply ≡ promotion met) ⊎ (callOn a promote .answer .reply ≡ promotion spent) → callOn a promote .area ≡ a
-  -- point's buffer stays as long, and its later bytes are untouched
+  -- point writes the first d positions of the block's n-th point; the buffer stays as long, and its later bytes are untouched
+  pub point-written : (a : Area) (n : ℕ) (buffer : List ℕ) → NotRefused a (point n buffer)
+      → take (a .job .settings .axes) (callOn a (point n buffer) .answer .buffer) ≡ take (a .job .settings .axes) (getD (block (wantedIndex (entriesOf a))) n [])
   pub point-length : (a : Area) (n : ℕ) (buffer : List ℕ) → length (callOn a (point n buffer) .answer .buffer) ≡ length buffer
   pub point-later : (a : Area) (n i : ℕ) (buffer : List ℕ) → a .job .settings .axes ≤ i → getD (callOn a (point n buffer) .answer .buffer) i 0 ≡ getD buffer i 0
   -- result's reserved, pending error and mean are the recorded ones

@@ -13,7 +13,7 @@ use Rattle.area.specs.Log.{Log, Machine}
 use Rattle.machine.specs.Log.{wantedIndex}
 use Rattle.machine.specs.Promote as rule
 use Rattle.machine.specs.Steps as steps
-use Rattle.machine.specs.Causes.{Cause, Lengths, firstCause, short, jobCauses, startCauses, pointOwn, pointBufferShort, deliverOwn, promoteOwn}
+use Rattle.machine.specs.Causes.{Cause, Lengths, firstCause, short, jobCauses, startCauses, pointOwnCauses, pointBufferShort, deliverOwnCauses, promoteOwnCauses}
 use Rattle.machine.specs.Counts.{countsOf}
 use Rattle.machine.specs.Means.{crossOf}
 use Rattle.calls.specs.Replies.{Reply, refused, accepted, promotion, counts, total, verdict}
@@ -30,13 +30,13 @@ pub data Call : Type 0 where
 
 -- What an accepted call does to the state.
 pub data Effect : Type 0 where
-  leaves : Effect
+  unchanged : Effect
   becomes : Machine → Effect
 
 -- A promotion changes the state if it is *promoted*; met and spent change nothing.
 unfoldable pub promotionEffect : rule.Outcome → Machine → Effect
-promotionEffect rule.met m = leaves
-promotionEffect rule.spent m = leaves
+promotionEffect rule.met m = unchanged
+promotionEffect rule.spent m = unchanged
 promotionEffect rule.promoted m = becomes m
 
 -- The row of a call on a job, which asks for storage that is long enough and for a sound area before its own causes (`jobCauses`).
@@ -51,56 +51,56 @@ pub record JobRow : Type 0 where
   pub lent : List ℕ
   pub left : Log → List ℕ
 
--- The row of start or check, which ask for nothing that was there before.
-pub record FreeRow : Type 0 where
+-- The row of a call that no area refuses: start, which does not read the old one, and check, which answers whether it is sound.
+pub record AnyAreaRow : Type 0 where
   pub causes : Lengths → List Cause
   pub effect : Effect
-  -- the answer, where one is told whether storage is long enough and the area sound
+  -- the answer, given whether storage is long enough and the area sound
   pub reply : Bool → Reply
 
 pub data Row : Type 0 where
-  free : FreeRow → Row
+  anyArea : AnyAreaRow → Row
   onJob : JobRow → Row
 
 -- A call without a buffer.
-abbrev plain : (Log → List Cause) → (Machine → Effect) → (Machine → Reply) → Row
-plain causes effect reply = onJob (record { bufferShort = λ g. false; causes = causes; effect = effect; reply = reply; lent = []; left = λ l. [] })
+abbrev withoutBuffer : (Log → List Cause) → (Machine → Effect) → (Machine → Reply) → Row
+withoutBuffer causes effect reply = onJob (record { bufferShort = λ g. false; causes = causes; effect = effect; reply = reply; lent = []; left = λ l. [] })
 
 -- ---- the rows
 
 unfoldable pub row : Call → Row
 -- **Start** doesn't read the old area.
-row (start g) = free (record { causes = λ z. startCauses z g; effect = becomes (steps.started g); reply = λ fit. accepted })
+row (start g) = anyArea (record { causes = λ z. startCauses z g; effect = becomes (steps.started g); reply = λ passes. accepted })
 -- **Point** writes the d positions of the n-th point of the first wanted block into the buffer, later bytes untouched.
 row (point n buffer) =
     onJob
     (record {
       bufferShort = λ g. pointBufferShort g (length buffer);
-      causes = λ l. pointOwn l n;
-      effect = λ m. leaves;
+      causes = λ l. pointOwnCauses l n;
+      effect = λ m. unchanged;
       reply = λ m. accepted;
       lent = buffer;
       left = λ l. take (l .settings .axes) (pointOf (wantedIndex (l .entries)) n) ++ drop (l .settings .axes) buffer;
     })
 -- **Deliver** takes the first wanted block's readings and an indicator.
-row (deliver rs i) = plain (λ l. deliverOwn l rs) (λ m. becomes (steps.deliver m rs i)) (λ m. accepted)
+row (deliver rs i) = withoutBuffer (λ l. deliverOwnCauses l rs) (λ m. becomes (steps.deliver m rs i)) (λ m. accepted)
 -- **Promote** answers met, spent or promoted; met and spent change nothing.
-row promote = plain (λ l. promoteOwn l) (λ m. promotionEffect (rule.promote (m .log) .outcome) (steps.promoteStep m)) (λ m. promotion (rule.promote (m .log) .outcome))
+row promote = withoutBuffer (λ l. promoteOwnCauses l) (λ m. promotionEffect (rule.promote (m .log) .outcome) (steps.promoteStep m)) (λ m. promotion (rule.promote (m .log) .outcome))
 -- **Result** gives the counts.
-row result = plain (λ l. []) (λ m. leaves) (λ m. counts (countsOf m))
+row result = withoutBuffer (λ l. []) (λ m. unchanged) (λ m. counts (countsOf m))
 -- **Cross total**: the scaled mean worked out from the readings, as the combination sum.
-row crossTotal = plain (λ l. []) (λ m. leaves) (λ m. total (crossOf (m .log .entries)))
+row crossTotal = withoutBuffer (λ l. []) (λ m. unchanged) (λ m. total (crossOf (m .log .entries)))
 -- **Check** answers yes exactly if the area is sound, and no to short storage.
-row check = free (record { causes = λ z. []; effect = leaves; reply = verdict })
+row check = anyArea (record { causes = λ z. []; effect = unchanged; reply = verdict })
 
 -- ---- a row in use: at the lengths lent, whether the area is sound, and the state
 
 unfoldable pub causesOf : Lengths → Bool → Log → Row → List Cause
-causesOf z sound l (free r) = r .causes z
+causesOf z sound l (anyArea r) = r .causes z
 causesOf z sound l (onJob r) = jobCauses z sound (l .settings) (r .bufferShort (l .settings)) (r .causes l)
 
 unfoldable pub effectOf : Machine → Row → Effect
-effectOf m (free r) = r .effect
+effectOf m (anyArea r) = r .effect
 effectOf m (onJob r) = r .effect m
 
 -- The answer, and the buffer as it is left; a call without a buffer leaves none.
@@ -112,17 +112,17 @@ abbrev pub answer : Reply → Answer
 answer r = record { reply = r; buffer = [] }
 
 unfoldable pub acceptedAnswer : Bool → Machine → Row → Answer
-acceptedAnswer fit m (free r) = answer (r .reply fit)
-acceptedAnswer fit m (onJob r) = record { reply = r .reply m; buffer = r .left (m .log) }
+acceptedAnswer passes m (anyArea r) = answer (r .reply passes)
+acceptedAnswer passes m (onJob r) = record { reply = r .reply m; buffer = r .left (m .log) }
 
 -- A refused call answers the number of its cause and leaves the buffer.
 unfoldable pub refusedAnswer : ℕ → Row → Answer
-refusedAnswer n (free r) = answer (refused n)
+refusedAnswer n (anyArea r) = answer (refused n)
 refusedAnswer n (onJob r) = record { reply = refused n; buffer = r .lent }
 
 -- Storage is long enough and the area sound.
-unfoldable pub fitting : Lengths → Bool → Log → Bool
-fitting z sound l = not (short z (l .settings)) && sound
+unfoldable pub passesCheck : Lengths → Bool → Log → Bool
+passesCheck z sound l = not (short z (l .settings)) && sound
 
 -- The number of the first cause that refuses the call, 0 if none does.
 unfoldable pub refusal : Lengths → Bool → Log → Call → ℕ
@@ -130,11 +130,11 @@ refusal z sound l c = firstCause (causesOf z sound l (row c))
 
 unfoldable pub answerOf : Lengths → Bool → Machine → Call → Answer
 answerOf z sound m c =
-    cond (eqb (refusal z sound (m .log) c) 0) (acceptedAnswer (fitting z sound (m .log)) m (row c)) (refusedAnswer (refusal z sound (m .log) c) (row c))
+    cond (eqb (refusal z sound (m .log) c) 0) (acceptedAnswer (passesCheck z sound (m .log)) m (row c)) (refusedAnswer (refusal z sound (m .log) c) (row c))
 
 -- The state after the call: a refused one, and one that only looks, leave it.
 unfoldable pub changed : Machine → Effect → Machine
-changed m leaves = m
+changed m unchanged = m
 changed m (becomes n) = n
 
 unfoldable pub stateAfter : Lengths → Bool → Machine → Call → Machine

@@ -6,7 +6,7 @@ ghost use Rattle.machine.specs.Causes.{firstCause, inRange, startCauses};
 ghost use Rattle.promotion.specs.Outcomes.{outcomeOf};
 ghost use Rattle.calls.specs.Replies.{promotion as outcomeReply, replyOf, replyOfResult, replyOfTotal};
 ghost use Rattle.calls.specs.Table.{start, point, deliver, promote, result, crossTotal, answer};
-ghost use Rattle.calls.specs.Calls.{callOn, callResultOf, pointCause, deliverCause, promoteCause, resultCause};
+ghost use Rattle.calls.specs.Calls.{callOn, callResultOf, pointCause, deliverCause, promoteCause, areaCause};
 
 // What a call answers; `Refused` carries the number of the cause.
 pub enum Answer {
@@ -69,7 +69,7 @@ pub fn start_cause(settings: area::Settings, records: usize, readings: usize) ->
 
 // Why the storage or the area refuses a call other than start and check; 0 if neither does.
 fn area_cause(job: area::JobRecord, cells: &[u32], store: &[i32]) -> u32
-    ensures { λ r. ⌜ r ≡ resultCause (areaOf job (now (cells .entry)) (now (store .entry))) ⌝ }
+    ensures { λ r. ⌜ r ≡ areaCause (areaOf job (now (cells .entry)) (now (store .entry))) ⌝ }
 {
     if cells.len() / 27 < 512 {
         return 3;

@@ -34,7 +34,7 @@ use Rattle.machine.specs.Steps.{deliverAt, deliver}
 use Rattle.machine.specs.Areas.{deliverOn}
 use Rattle.machine.specs.Causes.{inRange}
 use Rattle.machine.proofs.Facts.{step-facts}
-use Rattle.writing.specs.Changes.{restated}
+use Rattle.writing.specs.Changes.{withState}
 use Rattle.writing.specs.ValidArea.{ValidArea}
 use Rattle.writing.proofs.Areas.{held-is, held-record, levels-is}
 use Rattle.writing.proofs.Facts.{write-facts}
@@ -94,7 +94,7 @@ module _ (j : JobRecord) (c : List ℕ) (s : List ℤ) (rs : List ℤ) (i : ℕ)
         pending = j .pending + i;
         mean = after .mean;
       };
-      run = stored (runOf c) place (restated (recordAt (recordsOf c) place) 1 i);
+      run = stored (runOf c) place (withState (recordAt (recordsOf c) place) 1 i);
       store = sets s (recordAt (recordsOf c) place .first) rs;
     }
     changed = write-facts .deliver a rs i valid wanted-there whole
@@ -118,7 +118,7 @@ module _ (j : JobRecord) (c : List ℕ) (s : List ℤ) (rs : List ℤ) (i : ℕ)
     mean-fits = omega (arith, range-facts .mean a (valid .sound))
 
     -- ---- what the code leaves
-    module _ (c₁ : List ℕ) (s₁ : List ℤ) (run : runOf c₁ ≡ stored (runOf c) place (restated (recordAt (recordsOf c) place) 1 i)) (store : s₁ ≡ sets s (recordAt (recordsOf c) place .first) rs) where
+    module _ (c₁ : List ℕ) (s₁ : List ℤ) (run : runOf c₁ ≡ stored (runOf c) place (withState (recordAt (recordsOf c) place) 1 i)) (store : s₁ ≡ sets s (recordAt (recordsOf c) place .first) rs) where
       run-is : b .run ≡ runOf c₁
       run-is = ap (λ (x : Area). x .run) changed ∙ sym run
 
@@ -129,17 +129,17 @@ module _ (j : JobRecord) (c : List ℕ) (s : List ℤ) (rs : List ℤ) (i : ℕ)
       store-is₁ = ap (λ (x : Area). x .store) changed ∙ sym store
 
       -- the delivered record
-      here : recordAt (recordsOf c₁) place ≡ restated (recordAt (recordsOf c) place) 1 i
+      here : recordAt (recordsOf c₁) place ≡ withState (recordAt (recordsOf c) place) 1 i
       here =
           ap (λ (u : Run). recordAt (u .records) place) run
-          ∙ getD-set-same (recordsOf c) place (restated (recordAt (recordsOf c) place) 1 i) blank (omega (arith, valid .sound .held-lent))
+          ∙ getD-set-same (recordsOf c) place (withState (recordAt (recordsOf c) place) 1 i) blank (omega (arith, valid .sound .held-lent))
 
       here-levels : recordAt (recordsOf c₁) place .levels ≡ wantedIndex (entriesOf a)
-      unfolding restated
+      unfolding withState
       here-levels = ap (λ (r : IndexRecord). r .levels) here ∙ sym levels-are
 
       here-state : recordAt (recordsOf c₁) place .state ≡ 1
-      unfolding restated
+      unfolding withState
       here-state = ap (λ (r : IndexRecord). r .state) here
 
       all-ready : AllReady (b .job .settings .axes) (b .job .held) (b .run .records) (b .store)

@@ -113,7 +113,7 @@ pub fn deliver(
     let axes = job.settings.axes as usize;
     let first = area::first_at(cells, place) as usize;
     put_readings(first, readings, store);
-    writing::restate(place, area::ACTIVE, indicator, cells);
+    writing::set_state(place, area::ACTIVE, indicator, cells);
     let levels = area::levels_at(cells, place);
     let difference = quadrature::scaled_difference(axes, levels, cells, store);
     let mut after = job;

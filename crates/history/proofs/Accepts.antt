@@ -25,11 +25,12 @@ use Rattle.calls.specs.Replies.{accepted, promotion}
 use Rattle.calls.proofs.Causes.{common-none, wanted-yes, wanted-no, deliver-fits, promote-free}
 use Rattle.published.specs.Figure.{Problem}
 use Rattle.published.specs.Turns.{supply, ReadingValued}
-use Rattle.calls.specs.Table.{Call, promote, answer, row, causesOf, effectOf, fitting, acceptedAnswer, refusal, answerOf, changed, stateAfter}
-use Rattle.history.specs.Calls.{LentCall, lengthsLent}
+use Rattle.calls.specs.Table.{Call, promote, answer, row, causesOf, effectOf, passesCheck, acceptedAnswer, refusal, answerOf, changed, stateAfter}
+use Rattle.calls.proofs.Rows.{promote-effect}
+use Rattle.history.specs.LentCalls.{LentCall, lengthsLent}
 use Rattle.history.specs.Logged.{stateOf, refusalBy, answerBy}
 use Rattle.history.specs.Source.{supplyCall}
-use Rattle.history.proofs.Moves.{moved, machineStep, promote-moved}
+use Rattle.history.proofs.Moves.{moved, machineStep}
 
 -- ---- the wanted, counted
 
@@ -84,7 +85,7 @@ module _ (P : Problem) (z : Lengths) (l : Log) (enough : short z (l .settings) �
       (whole-block (P .integrand) (wantedIndex (l .entries)) ∙ sym (reading-facts .single (l .settings) (wantedIndex (l .entries)))) (in-range (P .integrand) measured (block (wantedIndex (l .entries))))
 
   -- a call that is not refused
-  answer-clear : (c : Call) → refusalBy z l c ≡ 0 → answerBy z l c ≡ acceptedAnswer (fitting z true l) (stateOf l) (row c)
+  answer-clear : (c : Call) → refusalBy z l c ≡ 0 → answerBy z l c ≡ acceptedAnswer (passesCheck z true l) (stateOf l) (row c)
   unfolding answerBy answerOf stateOf
   answer-clear c e = rw e refl
 
@@ -117,4 +118,4 @@ module _ (P : Problem) (x : LentCall) (m : Machine) (enough : short (lengthsLent
 
   -- a promotion
   pub promote-step : length (l .entries) ≤ firstWanted (l .entries) → x .call ≡ promote → machineStep m x ≡ steps.promoteStep m
-  promote-step free is = step-clear promote (promote-clear P z l enough free) is ∙ promote-moved m
+  promote-step free is = step-clear promote (promote-clear P z l enough free) is ∙ promote-effect m

@@ -19,7 +19,7 @@ use Rattle.published.specs.Figure.{Problem}
 use Rattle.published.specs.Turns.{supply, ReadingValued}
 use Rattle.calls.specs.Table.{Call, promote, Answer, answer}
 use Rattle.calls.proofs.Outcomes.{promoted-settings}
-use Rattle.history.specs.Calls.{Part, LentCall, lengthsLent}
+use Rattle.history.specs.LentCalls.{Part, LentCall, lengthsLent}
 use Rattle.history.specs.Logged.{logStep, logAfter, answersBy}
 use Rattle.history.specs.Source.{supplyCall, suppliedLog, supplyCalls, turnCalls, lendAll}
 use Rattle.history.proofs.Moves.{step-log}

@@ -21,7 +21,7 @@ use Rattle.machine.specs.Means.{crossOf}
 use Rattle.machine.proofs.Means.{mean-facts}
 use Rattle.writing.proofs.After.{written-sound, written-long, written-machine}
 use Rattle.calls.specs.Replies.{accepted, refused, counts, total, lengthsOf}
-use Rattle.calls.specs.Table.{start, result, crossTotal, Row, row, causesOf, fitting, acceptedAnswer, refusal, answerOf, Answer, answer}
+use Rattle.calls.specs.Table.{start, result, crossTotal, Row, row, causesOf, passesCheck, acceptedAnswer, refusal, answerOf, Answer, answer}
 use Rattle.calls.specs.Calls.{callOn}
 use Rattle.calls.proofs.Facts.{no-cause}
 use Rattle.calls.proofs.Tests as tests
@@ -30,7 +30,7 @@ use Rattle.soundness.specs.Sound.{Sound, LongEnough}
 use Rattle.soundness.specs.Clauses.{checked}
 use Rattle.soundness.proofs.Clauses.{clause-facts}
 use Rattle.area.proofs.Records.{length-recordsOf}
-use Rattle.history.specs.Calls.{Part, LentCall, lengthsLent}
+use Rattle.history.specs.LentCalls.{Part, LentCall, lengthsLent}
 use Rattle.history.specs.Logged.{stateOf, answerBy, answersBy, logAfter}
 use Rattle.history.specs.Storage.{Storage, areaLent, Lent, AllLent, returned, callIn, storageStep, storageAfter, answersOf}
 use Rattle.history.specs.Found.{Neighbours, LinksAgree, Found, ThirdDemand}
@@ -85,7 +85,7 @@ module _ (w : Storage) (m : Machine) (h : Holds w m) where
     none = common-none z true l (tests.enough z (l .settings) (omega (arith, long)) room) refl
 
     -- neither is refused
-    given : (r : Row) → causesOf z true l r ≡ resultCauses z true l → rowAnswer z true (stateOf l) r ≡ acceptedAnswer (fitting z true l) (stateOf l) r
+    given : (r : Row) → causesOf z true l r ≡ resultCauses z true l → rowAnswer z true (stateOf l) r ≡ acceptedAnswer (passesCheck z true l) (stateOf l) r
     unfolding stateOf
     given r is = rw (is, none) refl
 

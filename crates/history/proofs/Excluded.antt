@@ -31,7 +31,7 @@ use Rattle.machine.specs.Causes.{firstCause, short, inRange, deliverCauses, sta
 use Rattle.machine.specs.Counts.{countOf, ceilingCount, countsOf}
 use Rattle.machine.specs.Means.{crossOf}
 use Rattle.calls.specs.Replies.{lengthsOf, accepted}
-use Rattle.calls.specs.Table.{deliver, answer, promotionEffect, row, causesOf, effectOf, fitting, acceptedAnswer, refusedAnswer, refusal, answerOf, changed, stateAfter}
+use Rattle.calls.specs.Table.{deliver, answer, promotionEffect, row, causesOf, effectOf, passesCheck, acceptedAnswer, refusedAnswer, refusal, answerOf, changed, stateAfter}
 use Rattle.published.proofs.Outcomes.{promoted-log}
 use Rattle.soundness.specs.Clauses.{isSound}
 use Rattle.soundness.proofs.Clauses.{clause-facts}
@@ -140,7 +140,8 @@ excluded =
       refines = promoted-log;
       later-means = unfold crossOf crossTotal deliveredOf readingIn readingsOf coefficient sumOf subsets sign raisedOn isIn sameLevels tensorRule tensorSum units unit sumTo wholeWeight endsOne newCount behind blockSize pair in (refl, refl);
       reserved-counted = unfold reservedBy blockSize newCount pair in refl;
-      ceiling-counted = unfold ceilingCount cappedAxes within levelsWithin excess forward pair in refl;
+      states-counted = unfold countsOf countOf stateOf in (refl, refl, refl);
+      ceiling-counted = unfold countsOf stateOf ceilingCount cappedAxes within levelsWithin excess forward pair in refl;
       met = met-if;
       met-only = met-only-if;
       promoted = promoted-above;
@@ -154,5 +155,5 @@ excluded =
     }
 
 pub call-cases : CallCases
-unfolding answersAfter axesFit budgetFit readingsFor readingCount leastStore startCauses pointOf newPoint answersBy answerBy answerOf acceptedAnswer refusedAnswer fitting refusal causesOf effectOf row promotionEffect changed stateAfter stateOf logStep fileCalls firstCause short inRange anyWanted firstWanted wanted root steps.started steps.deliver steps.promoteStep deliverAt delivered rule.promote rule.promoteAt rule.refine rule.retire rule.retired rule.selected rule.firstActive rule.largest rule.isMet rule.fits rule.admittedAxes rule.passing rule.admits rule.backwardOld rule.isOld within levelsWithin excess forward backward allFrom sameLevels countsOf countOf cappedAxes ceilingCount reservedBy pendingOf crossOf crossTotal deliveredOf readingIn readingsOf coefficient sumOf subsets sign raisedOn isIn tensorRule tensorSum units unit sumTo wholeWeight endsOne newCount behind blockSize
+unfolding answersAfter axesFit budgetFit readingsFor readingCount leastStore startCauses pointOf newPoint answersBy answerBy answerOf acceptedAnswer refusedAnswer passesCheck refusal causesOf effectOf row promotionEffect changed stateAfter stateOf logStep fileCalls firstCause short inRange anyWanted firstWanted wanted root steps.started steps.deliver steps.promoteStep deliverAt delivered rule.promote rule.promoteAt rule.refine rule.makeOld rule.madeOld rule.selected rule.firstActive rule.largest rule.isMet rule.fits rule.admittedAxes rule.passing rule.admits rule.backwardOld rule.isOld within levelsWithin excess forward backward allFrom sameLevels countsOf countOf cappedAxes ceilingCount reservedBy pendingOf crossOf crossTotal deliveredOf readingIn readingsOf coefficient sumOf subsets sign raisedOn isIn tensorRule tensorSum units unit sumTo wholeWeight endsOne newCount behind blockSize
 call-cases = record { between = refl; mean-zero = refl; threshold-equal = refl; budget-four = refl; budget-five = refl; file = refl }

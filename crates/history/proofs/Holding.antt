@@ -22,7 +22,7 @@ use Rattle.area.specs.Log.{Machine}
 use Rattle.encoding.specs.Entries.{SoundMachine}
 use Rattle.machine.specs.Means.{meanOf}
 use Rattle.calls.proofs.Written.{well-formed-records, store-small}
-use Rattle.history.specs.Calls.{Part}
+use Rattle.history.specs.LentCalls.{Part}
 use Rattle.history.specs.Storage.{Storage, areaLent, Lent, returned}
 use Rattle.history.proofs.Overlays.{over, over-part, over-whole, over-twice, over-length}
 

@@ -2,6 +2,7 @@
 pub mod Overlays
 pub mod Holding
 pub mod Moves
+pub mod LogSteps
 pub mod Shorts
 pub mod Steps
 pub mod Lists

@@ -6,7 +6,7 @@ use native.Mathlib.Omega.{arith}
 use lib.ListN.{length}
 use Rattle.area.specs.Log.{Log, Machine}
 use Rattle.calls.specs.Table.{Answer}
-use Rattle.history.specs.Calls.{LentCall}
+use Rattle.history.specs.LentCalls.{LentCall}
 use Rattle.history.specs.Logged.{logAfter, answersBy}
 use Rattle.history.specs.Storage.{Storage, AllLent, storageStep, storageAfter, answersOf}
 use Rattle.history.proofs.Holding.{Holds, Kept}

@@ -21,9 +21,10 @@ use Rattle.calls.proofs.Accepted.{deliverable, promotable}
 use Rattle.published.proofs.Problems.{posed}
 use Rattle.published.proofs.Moments.{OnCourse, start-course, deliver-course, promote-course, course-simulates}
 use Rattle.calls.specs.Table.{Call, start, point, deliver, promote, result, crossTotal, check, row, causesOf, effectOf, refusal, changed, stateAfter}
-use Rattle.history.specs.Calls.{LentCall, lengthsLent}
+use Rattle.calls.proofs.Rows.{promote-effect}
+use Rattle.history.specs.LentCalls.{LentCall, lengthsLent}
 use Rattle.history.specs.Source.{StepsFollow, StepsFollowAll}
-use Rattle.history.proofs.Moves.{moved, machineStep, promote-moved, MachineInvariant, moved-fine, step-fine}
+use Rattle.history.proofs.Moves.{moved, machineStep, MachineInvariant, moved-fine, step-fine}
 use Rattle.history.proofs.Lists.{machineAfter}
 use Rattle.history.proofs.Demand.{log-there, state-fine}
 use Rattle.history.proofs.Simulation.{follows-at}
@@ -36,7 +37,7 @@ module _ (m : Machine) (f : MachineInvariant m) (c : OnCourse m) where
   moved-course z (start g) e = start-course g
   moved-course z (point n buffer) e = c
   moved-course z (deliver rs i) e = deliver-course m rs i (deliverable z true (m .log) rs e .wanted) (moved-fine m f z (deliver rs i) e .sound) c
-  moved-course z promote e = subst OnCourse (sym (promote-moved m)) (promote-course m (f .sound) (promotable z true (m .log) e .free) c)
+  moved-course z promote e = subst OnCourse (sym (promote-effect m)) (promote-course m (f .sound) (promotable z true (m .log) e .free) c)
   moved-course z result e = c
   moved-course z crossTotal e = c
   moved-course z check e = c

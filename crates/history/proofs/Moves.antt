@@ -3,8 +3,6 @@
 -- Assumes nothing.
 use mathlib.Core.Path.{_≡_, refl, ap, sym, _∙_, subst}
 use mathlib.Core.Bool.{Bool, true, false, cond}
-use Prim.Native.Nat.{ℕ}
-use native.Mathlib.Omega.{arith}
 use borrow.Author.Tests.{eqb-true}
 use lib.Dec.{eqb}
 use lib.IntN.{_+ℤ_}
@@ -18,11 +16,11 @@ use Rattle.encoding.specs.Entries.{SoundMachine}
 use Rattle.machine.specs.Means.{meanOf, crossOf}
 use Rattle.machine.specs.Causes.{Lengths, deliverCauses}
 use Rattle.machine.proofs.Means.{mean-facts}
-use Rattle.calls.specs.Table.{Call, start, point, deliver, promote, result, crossTotal, check, Effect, leaves, becomes, promotionEffect, row, causesOf, effectOf, refusal, changed, stateAfter}
+use Rattle.calls.specs.Table.{Call, start, point, deliver, promote, result, crossTotal, check, Effect, unchanged, becomes, row, causesOf, effectOf, refusal, changed, stateAfter}
 use Rattle.calls.proofs.Accepted.{deliverable}
+use Rattle.calls.proofs.Rows.{promote-effect}
 use Rattle.calls.proofs.Next.{Allowed, allowed}
-use Rattle.calls.proofs.Outcomes.{same-log}
-use Rattle.history.specs.Calls.{LentCall, lengthsLent}
+use Rattle.history.specs.LentCalls.{LentCall, lengthsLent}
 use Rattle.history.specs.Logged.{stateOf, logStep}
 
 -- The state after an accepted call, and after any.
@@ -32,19 +30,6 @@ moved m c = changed m (effectOf m (row c))
 abbrev pub machineStep : Machine → LentCall → Machine
 machineStep m x = stateAfter (lengthsLent (x .part)) true m (x .call)
 
--- whatever its outcome, a promotion leaves the state of the promotion's step
-pub promote-moved : (m : Machine) → moved m promote ≡ steps.promoteStep m
-unfolding effectOf row changed promotionEffect
-promote-moved m = split (rule.promote (m .log) .outcome) wanted-indicator-zero
-  where
-    wanted-indicator-zero : (rule.promote (m .log) .outcome ≡ rule.promoted → ⊥) → m ≡ steps.promoteStep m
-    wanted-indicator-zero n = unfold steps.promoteStep in sym (ap {B = Machine} (λ l. record { log = l; mean = m .mean }) (same-log (m .log) n))
-
-    split : (o : rule.Outcome) → ((o ≡ rule.promoted → ⊥) → m ≡ steps.promoteStep m) → changed m (promotionEffect o (steps.promoteStep m)) ≡ steps.promoteStep m
-    split rule.met f = f (λ e. let y : _≡_ {A = ℕ} 0 1 = cc in absurd (omega arith))
-    split rule.spent f = f (λ e. let y : _≡_ {A = ℕ} 0 1 = cc in absurd (omega arith))
-    split rule.promoted f = refl
-
 -- ---- its log is the log: the recorded mean decides nothing of it
 
 moved-log : (m n : Machine) → m .log ≡ n .log → (c : Call) → moved m c .log ≡ moved n c .log
@@ -53,9 +38,9 @@ moved-log m n e (start g) = refl
 moved-log m n e (point k buffer) = e
 moved-log m n e (deliver rs i) = unfold steps.deliver in ap (λ (l : Log). steps.deliverLog l rs i) e
 moved-log m n e promote =
-    ap (λ (y : Machine). y .log) (promote-moved m)
+    ap (λ (y : Machine). y .log) (promote-effect m)
     ∙ unfold steps.promoteStep in ap (λ (l : Log). rule.promote l .log) e
-    ∙ ap (λ (y : Machine). y .log) (sym (promote-moved n))
+    ∙ ap (λ (y : Machine). y .log) (sym (promote-effect n))
 moved-log m n e result = e
 moved-log m n e crossTotal = e
 moved-log m n e check = e
@@ -90,7 +75,7 @@ module _ (m : Machine) (f : MachineInvariant m) where
 
     sound-kept : (e : Effect) → Allowed z e → SoundMachine (changed m e)
     unfolding changed
-    sound-kept leaves x = f .sound
+    sound-kept unchanged x = f .sound
     sound-kept (becomes n) x = x .sound
 
     -- and its mean is worked from its readings
@@ -102,7 +87,7 @@ module _ (m : Machine) (f : MachineInvariant m) where
         unfold steps.deliver in
         ap (λ y. y +ℤ scaledDifference (wantedIndex (m .log .entries)) (readingIn (steps.deliver m rs i .log .entries))) (f .mean)
         ∙ sym (mean-facts .deliver m rs i (f .sound) (deliverable z true (m .log) rs e .wanted))
-    mean-kept promote e = subst (λ (n : Machine). n .mean ≡ meanOf (n .log .entries)) (sym (promote-moved m)) (unfold steps.promoteStep in f .mean ∙ sym (mean-facts .promote m (f .sound)))
+    mean-kept promote e = subst (λ (n : Machine). n .mean ≡ meanOf (n .log .entries)) (sym (promote-effect m)) (unfold steps.promoteStep in f .mean ∙ sym (mean-facts .promote m (f .sound)))
     mean-kept result e = f .mean
     mean-kept crossTotal e = f .mean
     mean-kept check e = f .mean

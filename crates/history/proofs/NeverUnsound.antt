@@ -12,10 +12,10 @@ use lib.Dec.{eqb}
 use Rattle.area.specs.Log.{Log}
 use Rattle.machine.specs.Causes.{Lengths, Cause, firstCause, startCauses}
 use Rattle.calls.specs.Replies.{refused}
-use Rattle.calls.specs.Table.{Call, start, point, deliver, promote, result, crossTotal, check, Answer, row, causesOf, fitting, acceptedAnswer, refusedAnswer, refusal, answerOf}
+use Rattle.calls.specs.Table.{Call, start, point, deliver, promote, result, crossTotal, check, Answer, row, causesOf, passesCheck, acceptedAnswer, refusedAnswer, refusal, answerOf}
 use Rattle.calls.proofs.Numbers.{accepted-reply}
 use Rattle.calls.proofs.CauseCases.{refused-reply}
-use Rattle.history.specs.Calls.{LentCall, lengthsLent}
+use Rattle.history.specs.LentCalls.{LentCall, lengthsLent}
 use Rattle.history.specs.Logged.{stateOf, logStep, answerBy, answersBy}
 
 -- every row with the number 4 has a test that does not refuse
@@ -49,8 +49,8 @@ one : (z : Lengths) (l : Log) (c : Call) → answerBy z l c .reply ≡ refused 4
 unfolding answerBy answerOf stateOf
 one z l c = step (eqb (refusal z true l c) 0)
   where
-    step : (t : Bool) → cond t (acceptedAnswer (fitting z true l) (stateOf l) (row c)) (refusedAnswer (refusal z true l c) (row c)) .reply ≡ refused 4 → ⊥
-    step true e = accepted-reply (fitting z true l) (stateOf l) c 4 e
+    step : (t : Bool) → cond t (acceptedAnswer (passesCheck z true l) (stateOf l) (row c)) (refusedAnswer (refusal z true l c) (row c)) .reply ≡ refused 4 → ⊥
+    step true e = accepted-reply (passesCheck z true l) (stateOf l) c 4 e
     step false e = let same : refused (refusal z true l c) ≡ refused 4 = sym (refused-reply (refusal z true l c) (row c)) ∙ e in let number : refusal z true l c ≡ 4 = cc in not-four z l c number
 
 pub never-four : (l : Log) (xs : List LentCall) (y : Answer) → List·Memᴰ y (answersBy l xs) → y .reply ≡ refused 4 → ⊥

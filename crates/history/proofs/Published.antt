@@ -27,7 +27,7 @@ use Rattle.published.specs.Figure.{Problem, loopCondition, turns}
 use Rattle.published.specs.Turns.{turnsOn, SettingsMatch, ReadingValued}
 use Rattle.published.proofs.Outcomes.{promoted-goes-on}
 use Rattle.published.proofs.Sums.{sum-facts}
-use Rattle.history.specs.Calls.{Part, LentCall, lengthsLent}
+use Rattle.history.specs.LentCalls.{Part, LentCall, lengthsLent}
 use Rattle.history.specs.Logged.{logStep, logAfter, answerBy, answersBy}
 use Rattle.history.specs.Storage.{Storage, areaLent, Lent, AllLent, storageAfter, answersOf}
 use Rattle.history.specs.Found.{Found, Demand}

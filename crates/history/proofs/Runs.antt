@@ -32,7 +32,7 @@ use Rattle.published.proofs.Facts.{published-facts}
 use Rattle.published.proofs.Increments.{value-at}
 use Rattle.calls.specs.Table.{Call, start, deliver, promote, row, causesOf, effectOf, refusal, changed, stateAfter}
 use Rattle.calls.proofs.Outcomes.{promoted-settings}
-use Rattle.history.specs.Calls.{Part, LentCall, lengthsLent}
+use Rattle.history.specs.LentCalls.{Part, LentCall, lengthsLent}
 use Rattle.history.specs.Logged.{logAfter}
 use Rattle.history.specs.Source.{supplyCall, suppliedLog, supplyCalls, turnCalls, lendAll, begun, logOf, callsOf}
 use Rattle.history.proofs.Moves.{machineStep}

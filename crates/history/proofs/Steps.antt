@@ -25,11 +25,11 @@ use Rattle.machine.specs.Means.{meanOf}
 use Rattle.machine.proofs.Means.{mean-facts}
 use Rattle.writing.proofs.After.{written-sound}
 use Rattle.calls.specs.Replies.{lengthsOf}
-use Rattle.calls.specs.Table.{Call, start, Effect, leaves, becomes, Row, row, causesOf, effectOf, refusal, answerOf, changed, stateAfter}
+use Rattle.calls.specs.Table.{Call, start, Effect, unchanged, becomes, Row, row, causesOf, effectOf, refusal, answerOf, changed, stateAfter}
 use Rattle.calls.specs.Calls.{areaAfter, callOn}
 use Rattle.calls.proofs.Next.{Next, Allowed, next-start}
 use Rattle.calls.proofs.Written.{written-state}
-use Rattle.history.specs.Calls.{Part, LentCall, lengthsLent}
+use Rattle.history.specs.LentCalls.{Part, LentCall, lengthsLent}
 use Rattle.history.specs.Logged.{answerBy}
 use Rattle.history.specs.Storage.{Storage, areaLent, Lent, returned, callIn, storageStep}
 use Rattle.history.proofs.Holding.{Holds, Kept, Enough, still, area-holds, returned-holds}
@@ -64,12 +64,12 @@ module _ (w : Storage) (x : Part) (lent : Lent w x) where
 
   -- A state that fits what is lent, with its mean worked from its readings.
   abbrev Ready : Effect → Type 0
-  Ready leaves = Unit {0}
+  Ready unchanged = Unit {0}
   Ready (becomes n) = Next z n × (n .mean ≡ meanOf (n .log .entries))
 
   put-back : (m : Machine) (e : Effect) (t : Bool) → Holds w m → (t ≡ true → Ready e) → Kept w (returned w x (cond t (areaAfter a e) a)) (cond t (changed m e) m)
   unfolding areaAfter changed
-  put-back m leaves true h f = still w x m h
+  put-back m unchanged true h f = still w x m h
   put-back m (becomes n) true h f =
       let y = f refl in
       returned-holds w x n (y .0 .sound) (record { lent = lent; cells = omega (arith, y .0 .records); readings = y .0 .readings }) (y .1)
@@ -84,7 +84,7 @@ module _ (w : Storage) (x : Part) (lent : Lent w x) where
     ready c none = by (effectOf m (row c)) (allowed-here m invariant z c none) (moved-fine m invariant z c none .mean)
       where
         by : (e : Effect) → Allowed z e → changed m e .mean ≡ meanOf (changed m e .log .entries) → Ready e
-        by leaves y q = tt
+        by unchanged y q = tt
         by (becomes n) y q = (y, q)
 
     -- ---- lent enough: the part holds the state, and is sound

@@ -16,7 +16,7 @@ use Rattle.encoding.specs.Encodes.{WellFormed}
 use Rattle.machine.specs.Causes.{Lengths}
 use Rattle.writing.specs.ValidArea.{ValidArea}
 use Rattle.calls.specs.Replies.{lengthsOf}
-use Rattle.calls.specs.Table.{Call, Effect, leaves, becomes, row, effectOf}
+use Rattle.calls.specs.Table.{Call, Effect, unchanged, becomes, row, effectOf}
 use Rattle.calls.specs.Calls.{CallResult, areaAfter, callOn}
 use Rattle.calls.specs.Facts.{PastUnchanged}
 use Rattle.calls.proofs.CauseCases.{call-ways}
@@ -98,7 +98,7 @@ module _ (a : Area) (f : WellFormed (a .run .records)) where
       call-ways a c (λ (x : CallResult). Leaves a (x .area)) (λ none. after (effectOf (machineOf a) (row c)) (allowed-there a held-well-formed c none)) (λ some. itself)
     where
       after : (e : Effect) → Allowed (lengthsOf a) e → Leaves a (areaAfter a e)
-      after leaves x = itself
+      after unchanged x = itself
       after (becomes n) x =
           let past = written-past a n in
           let same = written-lengths a n (x .sound) (x .records) (x .readings) in

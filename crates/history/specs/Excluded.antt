@@ -20,14 +20,14 @@ use Rattle.machine.specs.Log.{anyWanted, wantedIndex}
 use Rattle.machine.specs.Promote as rule
 use Rattle.machine.specs.Steps.{startLog, deliverLog}
 use Rattle.machine.specs.Causes.{Lengths, inRange}
-use Rattle.machine.specs.Counts.{ceilingCount}
+use Rattle.machine.specs.Counts.{countsOf}
 use Rattle.machine.specs.Means.{crossOf}
 use Rattle.writing.specs.ValidArea.{ValidArea}
 use Rattle.calls.specs.Replies.{refused, accepted, promotion, counts, total, verdict}
 use Rattle.calls.specs.Table.{Call, start, point, deliver, promote, result, crossTotal, check, Answer, answer}
 use Rattle.calls.specs.Calls.{callOn}
-use Rattle.history.specs.Calls.{LentCall}
-use Rattle.history.specs.Logged.{refusalBy, answersBy}
+use Rattle.history.specs.LentCalls.{LentCall}
+use Rattle.history.specs.Logged.{stateOf, refusalBy, answersBy}
 
 -- The entries with the selected refined.
 abbrev pub refined : Log → List Entry
@@ -39,6 +39,10 @@ entry k s = record { levels = k; state = s; indicator = 0; readings = [] }
 
 abbrev read : List ℕ → ℕ → List ℤ → Entry
 read k s rs = record { levels = k; state = s; indicator = 0; readings = rs }
+
+-- Three old, two active, one wanted.
+abbrev mixed : Log
+mixed = record { settings = settingsOf 2 0 64; entries = entry (pair 1 1) 2 ∷ entry (pair 2 1) 2 ∷ entry (pair 1 2) 2 ∷ entry (pair 3 1) 1 ∷ entry (pair 2 2) 1 ∷ entry (pair 1 3) 0 ∷ [] }
 
 -- With the selected refined, the held would be above 512 or the reserved above the budget.
 abbrev pub ExceedsLimits : Log → Type 0
@@ -54,7 +58,7 @@ pub record Excluded : Type 0 where
       → length rs ≡ readingCount (l .settings) (wantedIndex (l .entries)) → inRange rs ≡ true → refusalBy z l (deliver rs i) ≡ 0
   -- "reports one fixed mean": the root's reading times 2^20 after its delivery
   pub means : (crossOf (deliverLog (startLog (settingsOf 3 0 9)) (pos 1 ∷ []) 7 .entries) ≡ pos (2 ^ 20)) × (crossOf (deliverLog (startLog (settingsOf 3 0 9)) (pos 2 ∷ []) 7 .entries) ≡ pos (2 * 2 ^ 20))
-  -- "acknowledges calls, area untouched": the log changes, and the held records are the log's entries (`Found.entries`)
+  -- "acknowledges calls, area untouched": the log changes (`LogFacts`), and the held records are the log's entries (`Found.entries`)
   pub started : (g : Settings) → startLog g .entries ≡ entry root 0 ∷ []
   pub delivered : (g : Settings) (i : ℕ) (rs : List ℤ) → deliverLog (startLog g) rs i .entries ≡ record { levels = root; state = 1; indicator = i; readings = rs } ∷ []
   pub refines : (l : Log) → rule.promote l .outcome ≡ rule.promoted → rule.promote l .log ≡ withEntries l (refined l)
@@ -63,7 +67,9 @@ pub record Excluded : Type 0 where
       × (crossOf (read (pair 1 1) 2 (pos 0 ∷ []) ∷ read (pair 2 1) 1 (pos 1 ∷ pos 2 ∷ []) ∷ entry (pair 1 2) 0 ∷ []) ≡ pos (3 * 2 ^ 18))
   -- "invents reserved or ceiling": both are counted from the held
   pub reserved-counted : reservedBy (entry (pair 1 1) 2 ∷ entry (pair 3 4) 0 ∷ []) ≡ 9
-  pub ceiling-counted : ceilingCount 2 (entry (pair 8 6) 2 ∷ entry (pair 8 5) 2 ∷ entry (pair 8 6) 1 ∷ []) ≡ 3
+  pub ceiling-counted : countsOf (stateOf (record { settings = settingsOf 2 0 64; entries = entry (pair 8 6) 2 ∷ entry (pair 8 5) 2 ∷ entry (pair 8 6) 1 ∷ [] })) .ceiling ≡ 3
+  -- and so are old, active and wanted
+  pub states-counted : (countsOf (stateOf mixed) .old ≡ 3) × (countsOf (stateOf mixed) .active ≡ 2) × (countsOf (stateOf mixed) .wanted ≡ 1)
   -- "says met or spent from the start": met exactly if the pending error is at most the threshold
   pub met : (l : Log) → pendingOf (l .entries) ≤ l .settings .threshold → rule.promote l .outcome ≡ rule.met
   pub met-only : (l : Log) → rule.promote l .outcome ≡ rule.met → pendingOf (l .entries) ≤ l .settings .threshold
@@ -83,14 +89,19 @@ pub record Excluded : Type 0 where
   -- a wanted index is not in the coefficients: (1,2) is wanted, and with it the root's would be −1
   pub wanted-out : map (coefficient (deliveredOf (entry (pair 1 1) 2 ∷ entry (pair 2 1) 1 ∷ entry (pair 1 2) 0 ∷ []))) (pair 1 1 ∷ pair 2 1 ∷ []) ≡ pos 0 ∷ pos 1 ∷ []
 
--- The file with 2 axes, budget 64 and threshold 40, as calls: each entry delivered while a block is wanted, a promotion otherwise.
+-- The file with 2 axes, budget 64 and threshold 40, as calls: each entry delivered while a block is wanted, a promotion otherwise. In between
+-- some points of the wanted blocks, (2,1) and then (3,1), and a first result.
 unfoldable pub fileCalls : List Call
 fileCalls =
     deliver (pos 4160 ∷ []) 100
+    ∷ result
     ∷ promote
+    ∷ point 0 (0 ∷ 0 ∷ [])
+    ∷ point 1 (0 ∷ 0 ∷ [])
     ∷ deliver (pos 64 ∷ pos 16448 ∷ []) 50
     ∷ deliver (pos 4096 ∷ pos 4224 ∷ []) 0
     ∷ promote
+    ∷ point 0 (0 ∷ 0 ∷ [])
     ∷ deliver (pos 1088 ∷ pos 9280 ∷ []) 10
     ∷ promote
     ∷ result
@@ -126,10 +137,14 @@ pub record CallCases : Type 0 where
   -- the file: its report's figures
   pub file : answersAfter (startLog (settingsOf 2 40 64)) fileCalls
       ≡ answer accepted
+      ∷ answer (counts (record { old = 0; active = 1; wanted = 0; reserved = 1; pending = 100; mean = pos 4362076160; ceiling = 0 }))
       ∷ answer (promotion rule.promoted)
+      ∷ record { reply = accepted; buffer = 0 ∷ 64 ∷ [] }
+      ∷ record { reply = accepted; buffer = 128 ∷ 64 ∷ [] }
       ∷ answer accepted
       ∷ answer accepted
       ∷ answer (promotion rule.promoted)
+      ∷ record { reply = accepted; buffer = 32 ∷ 64 ∷ [] }
       ∷ answer accepted
       ∷ answer (promotion rule.met)
       ∷ answer (counts (record { old = 2; active = 2; wanted = 0; reserved = 7; pending = 10; mean = pos 5972688896; ceiling = 0 }))

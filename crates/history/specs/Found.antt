@@ -22,7 +22,7 @@ use Rattle.machine.specs.Means.{meanOf, crossOf}
 use Rattle.calls.specs.Replies.{refused, accepted, counts, total}
 use Rattle.calls.specs.Table.{start, result, crossTotal, Answer, answer}
 use Rattle.calls.specs.Calls.{callOn}
-use Rattle.history.specs.Calls.{Part, LentCall}
+use Rattle.history.specs.LentCalls.{Part, LentCall}
 use Rattle.history.specs.Logged.{stateOf, logAfter, answersBy}
 use Rattle.history.specs.Storage.{Storage, areaLent, Lent, AllLent, storageAfter, answersOf}
 

@@ -3,7 +3,7 @@
 -- statements shut out.
 -- The cross total goes by these names: `crossTotal` of indices and readings (`grid`), `crossOf` of entries (`machine`), `crossTotal` the
 -- call (`calls`), `total` its answer.
-pub mod Calls
+pub mod LentCalls
 pub mod Logged
 pub mod Storage
 pub mod Found

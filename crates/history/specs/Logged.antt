@@ -1,14 +1,19 @@
 -- The *log* after a list of calls, and what each call answers by it ("The third demand's list"). Everything here is worked from the calls'
 -- arguments, the lengths of what is lent, and the log; the area does not occur. What a call does is its row of the table (crate `calls`,
 -- specs/Table.antt) at the log.
+use mathlib.Core.Path.{_≡_}
 use mathlib.Core.Bool.{true}
 use mathlib.Core.List.{List, [], _∷_}
 use Prim.Native.Nat.{ℕ}
+use lib.IntN.{ℤ}
+use Rattle.area.specs.declared.Settings.{Settings}
 use Rattle.area.specs.Log.{Log, Machine}
+use Rattle.machine.specs.Promote as rule
+use Rattle.machine.specs.Steps.{startLog, deliverLog}
 use Rattle.machine.specs.Causes.{Lengths}
 use Rattle.machine.specs.Means.{crossOf}
-use Rattle.calls.specs.Table.{Call, Answer, refusal, answerOf, stateAfter}
-use Rattle.history.specs.Calls.{LentCall, lengthsLent}
+use Rattle.calls.specs.Table.{Call, start, point, deliver, promote, result, crossTotal, check, Answer, refusal, answerOf, stateAfter}
+use Rattle.history.specs.LentCalls.{LentCall, lengthsLent}
 
 -- The state that a log stands for. The mean is the combination sum over the delivered entries, from their readings; so result and cross
 -- total give the same.
@@ -22,9 +27,7 @@ refusalBy z l c = refusal z true l c
 
 -- ---- the log
 
--- An accepted start leaves in it the settings and the root alone, wanted; an accepted deliver makes the first wanted entry active, with its
--- readings and indicator; a promote that is *promoted* makes the selected entry old and appends the admitted, wanted. Any call besides, and
--- any refused one, leaves it.
+-- The log of the state after the call. What that is, call by call, is `LogFacts`.
 unfoldable pub logStep : Log → LentCall → Log
 logStep l x = stateAfter (lengthsLent (x .part)) true (stateOf l) (x .call) .log
 
@@ -41,3 +44,23 @@ answerBy z l c = answerOf z true (stateOf l) c
 unfoldable pub answersBy : Log → List LentCall → List Answer
 answersBy l [] = []
 answersBy l (x ∷ xs) = answerBy (lengthsLent (x .part)) l (x .call) ∷ answersBy (logStep l x) xs
+
+-- ---- the log's step, call by call
+
+abbrev pub AcceptedBy : Log → LentCall → Type 0
+AcceptedBy l x = refusalBy (lengthsLent (x .part)) l (x .call) ≡ 0
+
+pub record LogFacts : Type 0 where
+  -- an accepted start leaves in it the settings and the root alone, wanted
+  pub accepted-start : (l : Log) (x : LentCall) (g : Settings) → x .call ≡ start g → AcceptedBy l x → logStep l x ≡ startLog g
+  -- an accepted deliver makes the first wanted entry active, with its readings and indicator
+  pub accepted-deliver : (l : Log) (x : LentCall) (rs : List ℤ) (i : ℕ) → x .call ≡ deliver rs i → AcceptedBy l x → logStep l x ≡ deliverLog l rs i
+  -- a promote that is *promoted* makes the selected entry old and appends the admitted, wanted; one that is met or spent leaves it
+  pub accepted-promote : (l : Log) (x : LentCall) → x .call ≡ promote → AcceptedBy l x → logStep l x ≡ rule.promote l .log
+  pub idle-promote : (l : Log) (x : LentCall) → x .call ≡ promote → (rule.promote l .outcome ≡ rule.promoted → ⊥) → logStep l x ≡ l
+  -- any call besides, and any refused one, leaves it
+  pub after-point : (l : Log) (x : LentCall) (n : ℕ) (buffer : List ℕ) → x .call ≡ point n buffer → logStep l x ≡ l
+  pub after-result : (l : Log) (x : LentCall) → x .call ≡ result → logStep l x ≡ l
+  pub after-cross : (l : Log) (x : LentCall) → x .call ≡ crossTotal → logStep l x ≡ l
+  pub after-check : (l : Log) (x : LentCall) → x .call ≡ check → logStep l x ≡ l
+  pub after-refusal : (l : Log) (x : LentCall) → (AcceptedBy l x → ⊥) → logStep l x ≡ l

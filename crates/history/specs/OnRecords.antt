@@ -23,7 +23,7 @@ use Rattle.calls.specs.Replies.{refused, accepted, counts, total}
 use Rattle.calls.specs.Table.{Call, start, result, crossTotal, Answer, answer}
 use Rattle.calls.specs.Calls.{CallResult, callOn}
 use Rattle.records.specs.Lent.{areaOn}
-use Rattle.history.specs.Calls.{Part, LentCall}
+use Rattle.history.specs.LentCalls.{Part, LentCall}
 use Rattle.history.specs.Logged.{stateOf, logAfter, answersBy}
 use Rattle.history.specs.Found.{Neighbours, LinksAgree}
 

@@ -26,7 +26,7 @@ use Rattle.calls.specs.Calls.{callOn}
 use Rattle.published.specs.Figure.{Problem, increment, loopCondition, turns}
 use Rattle.published.specs.Turns.{activeOf, SettingsMatch, ReadingValued, Supplied}
 use Rattle.published.specs.Sums.{SampledFrom}
-use Rattle.history.specs.Calls.{Part, LentCall}
+use Rattle.history.specs.LentCalls.{Part, LentCall}
 use Rattle.history.specs.Logged.{logAfter, answerBy}
 use Rattle.history.specs.Storage.{Storage, areaLent, Lent, AllLent, storageAfter, answersOf}
 use Rattle.history.specs.Found.{Found}

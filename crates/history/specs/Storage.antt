@@ -9,7 +9,7 @@ use Rattle.area.specs.Records.{cellsOf}
 use Rattle.area.specs.Encoding.{Area, areaOf}
 use Rattle.calls.specs.Table.{Answer}
 use Rattle.calls.specs.Calls.{CallResult, callOn}
-use Rattle.history.specs.Calls.{Part, LentCall}
+use Rattle.history.specs.LentCalls.{Part, LentCall}
 
 pub record Storage : Type 0 where
   pub job : JobRecord

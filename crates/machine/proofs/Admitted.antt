@@ -14,7 +14,7 @@ use Rattle.area.specs.Entry.{Entry}
 use Rattle.area.specs.Log.{Machine}
 use Rattle.soundness.proofs.Levels.{at-least}
 use Rattle.encoding.specs.Entries.{entryAt, Has, Entered, EnteredOld, SoundMachine}
-use Rattle.machine.specs.Promote.{retired, retire, admits, passing, admittedAxes}
+use Rattle.machine.specs.Promote.{madeOld, makeOld, admits, passing, admittedAxes}
 use Rattle.machine.proofs.Passing.{Occurs, Rising, passing-is, passing-has, passing-rises}
 use Rattle.machine.proofs.Old.{Admits, reads-admits}
 use Rattle.machine.proofs.Sets.{has-set, set-has, old-set, set-old}
@@ -58,28 +58,28 @@ module _ {d : ℕ} {k : List ℕ} (few : d ≤ 8) (index : Index d k) where
         beyond = λ c l h8. forward-other k a c (λ e. omega arith) ∙ index .beyond c l h8;
       }
 
--- ---- retiring a place makes its index old, and no other
+-- ---- making a place old makes its index old, and no other
 
 module _ (es : List Entry) (p : ℕ) (inside : p < length es) where
-  pub retire-length : length (retire es p) ≡ length es
-  unfolding retire
-  retire-length = length-set es p (retired (entryAt es p))
+  pub makeOld-length : length (makeOld es p) ≡ length es
+  unfolding makeOld
+  makeOld-length = length-set es p (madeOld (entryAt es p))
 
-  pub has-retire : (x : List ℕ) (q : ℕ) → Has es x q → Has (retire es p) x q
-  unfolding retire retired
-  has-retire = has-set es p (retired (entryAt es p)) inside refl
+  pub has-makeOld : (x : List ℕ) (q : ℕ) → Has es x q → Has (makeOld es p) x q
+  unfolding makeOld madeOld
+  has-makeOld = has-set es p (madeOld (entryAt es p)) inside refl
 
-  pub retire-has : (x : List ℕ) (q : ℕ) → Has (retire es p) x q → Has es x q
-  unfolding retire retired
-  retire-has = set-has es p (retired (entryAt es p)) inside refl
+  pub makeOld-has : (x : List ℕ) (q : ℕ) → Has (makeOld es p) x q → Has es x q
+  unfolding makeOld madeOld
+  makeOld-has = set-has es p (madeOld (entryAt es p)) inside refl
 
-  pub old-retire : (x : List ℕ) → EnteredOld es x → EnteredOld (retire es p) x
-  unfolding retire retired
-  old-retire = old-set es p (retired (entryAt es p)) inside refl (λ e. refl)
+  pub old-makeOld : (x : List ℕ) → EnteredOld es x → EnteredOld (makeOld es p) x
+  unfolding makeOld madeOld
+  old-makeOld = old-set es p (madeOld (entryAt es p)) inside refl (λ e. refl)
 
-  pub retire-old : (x : List ℕ) → EnteredOld (retire es p) x → EnteredOld es x ⊎ (x ≡ entryAt es p .levels)
-  unfolding retire retired
-  retire-old x h = ⊎-elim (λ o. inl o) (λ e. inr (e .0)) (set-old es p (retired (entryAt es p)) inside refl x h)
+  pub makeOld-old : (x : List ℕ) → EnteredOld (makeOld es p) x → EnteredOld es x ⊎ (x ≡ entryAt es p .levels)
+  unfolding makeOld madeOld
+  makeOld-old x h = ⊎-elim (λ o. inl o) (λ e. inr (e .0)) (set-old es p (madeOld (entryAt es p)) inside refl x h)
 
 -- ---- no forward neighbour of an active entry is entered
 

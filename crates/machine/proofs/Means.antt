@@ -33,7 +33,7 @@ use Rattle.encoding.specs.Encodes.{encodedArea}
 use Rattle.encoding.proofs.Places.{state-at, has}
 use Rattle.encoding.proofs.Facts.{encoding-facts}
 use Rattle.machine.specs.Log.{wanted, firstWanted, wantedIndex}
-use Rattle.machine.specs.Promote.{selected, retired, retire, admittedAxes, refine, isMet, fits, met, spent, promoted, Promotion, promoteAt, promote}
+use Rattle.machine.specs.Promote.{selected, madeOld, makeOld, admittedAxes, refine, isMet, fits, met, spent, promoted, Promotion, promoteAt, promote}
 use Rattle.machine.specs.Steps.{started, delivered, deliverAt, deliver, promoteStep}
 use Rattle.machine.specs.Means.{meanOf, crossOf, MeanFacts}
 use Rattle.machine.proofs.Wanted.{first-is}
@@ -140,13 +140,13 @@ module _ {m : Machine} (v : SoundMachine m) where
     k = entryAt es p .levels
 
     abbrev axes : List ℕ
-    axes = admittedAxes d (retire es p) k
+    axes = admittedAxes d (makeOld es p) k
 
     refine-readings : (l : List ℕ) → readingsOf (refine d es p) l ≡ readingsOf es l
-    unfolding refine retire retired
+    unfolding refine makeOld madeOld
     refine-readings l =
-        readings-append (retire es p) (ahead k axes) l (ahead-empty k axes)
-        ∙ readings-set es p (retired (entryAt es p)) l refl refl
+        readings-append (makeOld es p) (ahead k axes) l (ahead-empty k axes)
+        ∙ readings-set es p (madeOld (entryAt es p)) l refl refl
 
     refine-mean : meanOf (refine d es p) ≡ meanOf es
     unfolding meanOf readingIn

@@ -22,13 +22,13 @@ use Rattle.soundness.proofs.Exactly.{reads-le, reads-and}
 use Rattle.soundness.proofs.Levels.{find}
 use Rattle.encoding.specs.Entries.{entryAt, Entered, EnteredOld, SoundMachine}
 use Rattle.machine.specs.Log.{wanted}
-use Rattle.machine.specs.Promote.{retired, retire, admittedAxes, refine, fits}
+use Rattle.machine.specs.Promote.{madeOld, makeOld, admittedAxes, refine, fits}
 use Rattle.machine.proofs.Passing.{rising-once}
 use Rattle.machine.proofs.Old.{Admits}
 use Rattle.machine.proofs.Sets.{Different, Last, set-each, last-set, levels-kept, different-set, delivered-set}
 use Rattle.machine.proofs.Appends.{append-left, append-each, has-left, has-right, old-left, different-append, last-append, old-before, delivered-append}
 use Rattle.machine.proofs.Clauses.{SoundEntry, sound-kept, sound-wanted, Joint, sound-at, sound-from}
-use Rattle.machine.proofs.Admitted.{axis-is, axis-has, axes-rise, forward-once, admitted-index, retire-length, has-retire, retire-has, old-retire, retire-old, not-entered}
+use Rattle.machine.proofs.Admitted.{axis-is, axis-has, axes-rise, forward-once, admitted-index, makeOld-length, has-makeOld, makeOld-has, old-makeOld, makeOld-old, not-entered}
 
 -- the entries of forward neighbours of k
 abbrev pub ahead : List ℕ → List ℕ → List Entry
@@ -61,7 +61,7 @@ module _ {m : Machine} (v : SoundMachine m) (p : ℕ) (inside : p < length (m .l
   k = entryAt es p .levels
 
   abbrev kept : List Entry
-  kept = retire es p
+  kept = makeOld es p
 
   abbrev axes : List ℕ
   axes = admittedAxes d kept k
@@ -79,16 +79,16 @@ module _ {m : Machine} (v : SoundMachine m) (p : ℕ) (inside : p < length (m .l
   index-k = v .index p inside
 
   old-after : (x : List ℕ) → EnteredOld es x → EnteredOld after x
-  old-after x h = old-left kept new x (old-retire es p inside x h)
+  old-after x h = old-left kept new x (old-makeOld es p inside x h)
 
   old-since : (x : List ℕ) → EnteredOld after x → EnteredOld kept x
   old-since = old-before kept new (ahead-wanted k axes)
 
   -- ---- each entry
 
-  retired-sound : SoundEntry g (EnteredOld after) (retired (entryAt es p))
-  unfolding retired
-  retired-sound =
+  madeOld-sound : SoundEntry g (EnteredOld after) (madeOld (entryAt es p))
+  unfolding madeOld
+  madeOld-sound =
       let r = sound-at v p inside in
       record {
         index = r .index;
@@ -101,9 +101,9 @@ module _ {m : Machine} (v : SoundMachine m) (p : ℕ) (inside : p < length (m .l
       }
 
   kept-sound : (q : ℕ) → q < length kept → SoundEntry g (EnteredOld after) (entryAt kept q)
-  unfolding retire
+  unfolding makeOld
   kept-sound q h =
-      set-each es p (retired (entryAt es p)) inside (SoundEntry g (EnteredOld after)) retired-sound (λ r l n. sound-kept old-after (sound-at v r l)) q (omega (arith, retire-length es p inside))
+      set-each es p (madeOld (entryAt es p)) inside (SoundEntry g (EnteredOld after)) madeOld-sound (λ r l n. sound-kept old-after (sound-at v r l)) q (omega (arith, makeOld-length es p inside))
 
   new-sound : (i : ℕ) → i < length new → SoundEntry g (EnteredOld after) (entryAt new i)
   new-sound i h =
@@ -115,9 +115,9 @@ module _ {m : Machine} (v : SoundMachine m) (p : ℕ) (inside : p < length (m .l
   -- ---- all together
 
   different : Different after
-  unfolding retire retired
+  unfolding makeOld madeOld
   different =
-      different-append kept new (different-set es p (retired (entryAt es p)) inside refl (v .different)) among apart
+      different-append kept new (different-set es p (madeOld (entryAt es p)) inside refl (v .different)) among apart
     where
       among : Different new
       among i j hi hj e =
@@ -130,11 +130,11 @@ module _ {m : Machine} (v : SoundMachine m) (p : ℕ) (inside : p < length (m .l
       apart q i hq hi e =
           let gi : i < length axes = omega (arith, new-length) in
           not-entered v p inside active (getD axes i 0) (axis-is d kept k i gi .0)
-          (q, retire-has es p inside (forward k (getD axes i 0)) q (record { place = hq; same = e ∙ ahead-levels k axes i gi }))
+          (q, makeOld-has es p inside (forward k (getD axes i 0)) q (record { place = hq; same = e ∙ ahead-levels k axes i gi }))
 
   last : Last after
-  unfolding retire retired
-  last = last-append kept new (ahead-wanted k axes) (last-set es p (retired (entryAt es p)) inside (omega arith) before (v .wanted-last))
+  unfolding makeOld madeOld
+  last = last-append kept new (ahead-wanted k axes) (last-set es p (madeOld (entryAt es p)) inside (omega arith) before (v .wanted-last))
     where
       before : (q : ℕ) → q < p → 1 ≤ entryAt es q .state
       before q h = step (ℕ-discrete (entryAt es q .state) 0)
@@ -174,23 +174,23 @@ module _ {m : Machine} (v : SoundMachine m) (p : ℕ) (inside : p < length (m .l
       step (inl s) =
           step-entered x (s .0) (s .1) (ap (λ y. forward y (s .0)) (sym (s .2 .1)) ∙ forward-backward x (s .0) (omega (arith, s .1, v .settings .axes .1, j .eight)) (s .2 .0)) j old
       step (inr n) =
-          let h = v .admissible x j (λ a ha l. ⊎-elim (λ o. o) (λ e. absurd (n a ha (l, e))) (retire-old es p inside (backward x a) (old-since (backward x a) (old a ha l)))) in
-          (h .0, has-left kept new x (h .0) (has-retire es p inside x (h .0) (h .1)))
+          let h = v .admissible x j (λ a ha l. ⊎-elim (λ o. o) (λ e. absurd (n a ha (l, e))) (makeOld-old es p inside (backward x a) (old-since (backward x a) (old a ha l)))) in
+          (h .0, has-left kept new x (h .0) (has-makeOld es p inside x (h .0) (h .1)))
 
   delivered-same : deliveredOf after ≡ deliveredOf es
-  unfolding retire retired
-  delivered-same = delivered-append kept new (ahead-wanted k axes) ∙ delivered-set es p (retired (entryAt es p)) inside refl (omega arith) (omega arith)
+  unfolding makeOld madeOld
+  delivered-same = delivered-append kept new (ahead-wanted k axes) ∙ delivered-set es p (madeOld (entryAt es p)) inside refl (omega arith) (omega arith)
 
   joint : length after ≤ 512 → reservedBy after ≤ g .budget → Joint (machineWithEntries m after)
-  unfolding retire retired
+  unfolding makeOld madeOld
   joint few within =
       record {
         settings = v .settings;
-        count = (omega (arith, length-append kept new, retire-length es p inside, v .count .0), few);
+        count = (omega (arith, length-append kept new, makeOld-length es p inside, v .count .0), few);
         different = different;
         first =
-            ap (λ (e : Entry). e .levels) (append-left kept new 0 (omega (arith, retire-length es p inside, v .count .0)))
-            ∙ levels-kept es p (retired (entryAt es p)) inside refl 0
+            ap (λ (e : Entry). e .levels) (append-left kept new 0 (omega (arith, makeOld-length es p inside, v .count .0)))
+            ∙ levels-kept es p (madeOld (entryAt es p)) inside refl 0
             ∙ v .first;
         admissible = admissible;
         last = last;

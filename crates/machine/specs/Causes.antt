@@ -1,5 +1,5 @@
 -- What refuses a call ("Causes and numbers"): for each call its rows of the table, in the table's order. The tests are worked from the
--- arguments, the lengths of the lent storage, the log, and whether the area is sound.
+-- arguments, the lengths of the lent storage, a log (the scope document's, or what an area holds), and whether the area is sound.
 use mathlib.Core.Bool.{Bool, true, false, not, cond, _&&_}
 use mathlib.Core.List.{List, [], _∷_}
 use Prim.Native.Nat.{ℕ}
@@ -12,7 +12,7 @@ use Rattle.area.specs.Settings.{axesFit, budgetFit, readingCount, leastStore}
 use Rattle.area.specs.Log.{Log}
 use Rattle.machine.specs.Log.{anyWanted, wantedIndex}
 
--- A row: a test that refuses, and its number.
+-- A cause: a test that refuses, and its number, which is never 0.
 pub record Cause : Type 0 where
   pub test : Bool
   pub number : ℕ
@@ -30,7 +30,8 @@ pub record Lengths : Type 0 where
   pub records : ℕ
   pub readings : ℕ
 
--- Records under 512, or reading store under the least: by start's own settings in start, and by the log's in every other call.
+-- Records under 512, or reading store under the least: by start's own settings in start; in every other call by those of the state that is
+-- asked, on an area the recorded ones, whatever they are.
 unfoldable pub short : Lengths → Settings → Bool
 short z g = not (leb 512 (z .records) && leb (leastStore g) (z .readings))
 
@@ -49,33 +50,33 @@ abbrev pub jobCauses : Lengths → (sound : Bool) → Settings → (bufferShort 
 jobCauses z sound g bufferShort own = cause (cond bufferShort true (short z g)) 3 ∷ cause (not sound) 4 ∷ own
 
 -- Point's own causes: no block wanted; the point's number n not below the block's size.
-abbrev pub pointOwn : Log → ℕ → List Cause
-pointOwn l n = cause (not (anyWanted (l .entries))) 5 ∷ cause (leb (blockSize (wantedIndex (l .entries))) n) 9 ∷ []
+abbrev pub pointOwnCauses : Log → ℕ → List Cause
+pointOwnCauses l n = cause (not (anyWanted (l .entries))) 5 ∷ cause (leb (blockSize (wantedIndex (l .entries))) n) 9 ∷ []
 
 -- Its buffer of w bytes is under d.
 abbrev pub pointBufferShort : Settings → ℕ → Bool
 pointBufferShort g w = not (leb (g .axes) w)
 
 unfoldable pub pointCauses : Lengths → Bool → Log → (n w : ℕ) → List Cause
-pointCauses z sound l n w = jobCauses z sound (l .settings) (pointBufferShort (l .settings) w) (pointOwn l n)
+pointCauses z sound l n w = jobCauses z sound (l .settings) (pointBufferShort (l .settings) w) (pointOwnCauses l n)
 
 -- Deliver's: no block wanted; the reading count is not the block's; a reading out of range.
-abbrev pub deliverOwn : Log → List ℤ → List Cause
-deliverOwn l readings =
+abbrev pub deliverOwnCauses : Log → List ℤ → List Cause
+deliverOwnCauses l readings =
     cause (not (anyWanted (l .entries))) 5
     ∷ cause (not (eqb (length readings) (readingCount (l .settings) (wantedIndex (l .entries))))) 7
     ∷ cause (not (inRange readings)) 8
     ∷ []
 
 unfoldable pub deliverCauses : Lengths → Bool → Log → List ℤ → List Cause
-deliverCauses z sound l readings = jobCauses z sound (l .settings) false (deliverOwn l readings)
+deliverCauses z sound l readings = jobCauses z sound (l .settings) false (deliverOwnCauses l readings)
 
 -- Promote's: a block wanted.
-abbrev pub promoteOwn : Log → List Cause
-promoteOwn l = cause (anyWanted (l .entries)) 6 ∷ []
+abbrev pub promoteOwnCauses : Log → List Cause
+promoteOwnCauses l = cause (anyWanted (l .entries)) 6 ∷ []
 
 unfoldable pub promoteCauses : Lengths → Bool → Log → List Cause
-promoteCauses z sound l = jobCauses z sound (l .settings) false (promoteOwn l)
+promoteCauses z sound l = jobCauses z sound (l .settings) false (promoteOwnCauses l)
 
 -- Result and cross total have none of their own.
 unfoldable pub resultCauses : Lengths → Bool → Log → List Cause

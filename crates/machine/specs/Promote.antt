@@ -31,11 +31,11 @@ selected es = firstActive (largest es) es
 -- ---- refining: the selected index becomes old; a forward neighbour within the ceilings is admitted if all its own backward
 -- neighbours are old, the selected one now included
 
-unfoldable pub retired : Entry → Entry
-retired e = record { levels = e .levels; state = 2; indicator = e .indicator; readings = e .readings }
+unfoldable pub madeOld : Entry → Entry
+madeOld e = record { levels = e .levels; state = 2; indicator = e .indicator; readings = e .readings }
 
-unfoldable pub retire : List Entry → ℕ → List Entry
-retire es p = set es p (retired (entryAt es p))
+unfoldable pub makeOld : List Entry → ℕ → List Entry
+makeOld es p = set es p (madeOld (entryAt es p))
 
 -- The index has an old entry.
 unfoldable pub isOld : List Entry → List ℕ → Bool
@@ -60,7 +60,7 @@ admittedAxes d es k = passing d 0 (admits d es k)
 
 -- The admitted are appended in axis order, wanted. This is for any active place, whatever selected it.
 unfoldable pub refine : ℕ → List Entry → ℕ → List Entry
-refine d es p = retire es p ++ map (λ a. wanted (forward (entryAt es p .levels) a)) (admittedAxes d (retire es p) (entryAt es p .levels))
+refine d es p = makeOld es p ++ map (λ a. wanted (forward (entryAt es p .levels) a)) (admittedAxes d (makeOld es p) (entryAt es p .levels))
 
 -- ---- the answers
 

@@ -25,7 +25,7 @@ use Rattle.soundness.proofs.Exactly.{same-answer, reads-as, reads-eq}
 use Rattle.soundness.proofs.Forth.{none-far}
 use Rattle.soundness.proofs.Lower.{held-place}
 use Rattle.encoding.specs.Entries.{noEntry, entryAt, Has, EnteredOld}
-use Rattle.machine.specs.Promote.{retired, retire, isOld}
+use Rattle.machine.specs.Promote.{madeOld, makeOld, isOld}
 use Rattle.machine.proofs.Old.{reads-old}
 use Rattle.writing.specs.Heads.{headsOf}
 use Rattle.promotion.specs.Marks.{Searchable}
@@ -36,23 +36,23 @@ module _ (c : List ℕ) (held refined : ℕ) (k : List ℕ) (room : held * 27 �
   rs = heldIn c held
 
   abbrev es : List Entry
-  es = retire (headsOf rs) refined
+  es = makeOld (headsOf rs) refined
 
   es-length : length es ≡ held
-  unfolding retire
-  es-length = length-set (headsOf rs) refined (retired (entryAt (headsOf rs) refined)) ∙ heads-length c held room
+  unfolding makeOld
+  es-length = length-set (headsOf rs) refined (madeOld (entryAt (headsOf rs) refined)) ∙ heads-length c held room
 
-  here : entryAt es refined ≡ retired (entryAt (headsOf rs) refined)
-  unfolding retire
-  here = getD-set-same (headsOf rs) refined (retired (entryAt (headsOf rs) refined)) noEntry (omega (arith, heads-length c held room))
+  here : entryAt es refined ≡ madeOld (entryAt (headsOf rs) refined)
+  unfolding makeOld
+  here = getD-set-same (headsOf rs) refined (madeOld (entryAt (headsOf rs) refined)) noEntry (omega (arith, heads-length c held room))
 
   there : (p : ℕ) → p ≢ refined → entryAt es p ≡ entryAt (headsOf rs) p
-  unfolding retire
-  there p n = getD-set-other (headsOf rs) refined p (retired (entryAt (headsOf rs) refined)) noEntry n
+  unfolding makeOld
+  there p n = getD-set-other (headsOf rs) refined p (madeOld (entryAt (headsOf rs) refined)) noEntry n
 
   -- levels stay
   es-levels : (p : ℕ) → p < held → entryAt es p .levels ≡ levelsAt rs p
-  unfolding retired
+  unfolding madeOld
   es-levels p h = step (ℕ-discrete p refined) ∙ (head-levels c held room p h ∙ sym (ap (λ (r : IndexRecord). r .levels) (held-record c held room p h)))
     where
       step : Dec (p ≡ refined) → entryAt es p .levels ≡ entryAt (headsOf rs) p .levels
@@ -60,7 +60,7 @@ module _ (c : List ℕ) (held refined : ℕ) (k : List ℕ) (room : held * 27 �
       step (no e) = ap (λ (x : Entry). x .levels) (there p e)
 
   es-state-here : entryAt es refined .state ≡ 2
-  unfolding retired
+  unfolding madeOld
   es-state-here = ap (λ (x : Entry). x .state) here
 
   es-state-there : (p : ℕ) → p < held → p ≢ refined → entryAt es p .state ≡ recordAt (recordsOf c) p .state

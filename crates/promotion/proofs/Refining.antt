@@ -25,15 +25,15 @@ use Rattle.quadrature.specs.Readings.{recordAt}
 use Rattle.quadrature.proofs.Held.{held-length, held-record}
 use Rattle.soundness.specs.Held.{levelsAt, stateAt}
 use Rattle.machine.specs.Log.{firstWanted}
-use Rattle.machine.specs.Promote.{retire, admits, admittedAxes, refine, fits, spent, promoted, promoteAt}
+use Rattle.machine.specs.Promote.{makeOld, admits, admittedAxes, refine, fits, spent, promoted, promoteAt}
 use Rattle.machine.specs.Areas.{changedBy, refineOn}
 use Rattle.encoding.specs.Entries.{SoundMachine}
 use Rattle.machine.proofs.Old.{reads-admits}
 use Rattle.machine.proofs.Facts.{step-facts}
-use Rattle.writing.specs.Changes.{restated, appendedAll, sizesOf}
+use Rattle.writing.specs.Changes.{withState, appendedAll, sizesOf}
 use Rattle.writing.specs.Heads.{headsOf}
 use Rattle.writing.specs.ValidArea.{ValidArea}
-use Rattle.writing.proofs.Unread.{heads-are, alike-retire, alike-axes}
+use Rattle.writing.proofs.Unread.{heads-are, alike-makeOld, alike-axes}
 use Rattle.writing.proofs.Areas.{held-is, state-is}
 use Rattle.writing.proofs.Refine.{refined-held, refined-reserved, indicator-within}
 use Rattle.writing.proofs.Facts.{write-facts}
@@ -87,18 +87,18 @@ refinable job c store p r h = record { valid = r .0; idle = r .1; place = h .0; 
 -- its levels as they are read, and the marks that the scan answers with
 pub record Scanned (job : JobRecord) (c : List ℕ) (p : ℕ) (levels marks : List ℕ) : Type 0 where
   pub levels-are : levels ≡ levelsAt (recordsOf c) p
-  pub marks-are : marks ≡ marksOf (job .settings .axes) (admits (job .settings .axes) (retire (headsIn job c) p) (levelsAt (heldIn c (job .held)) p))
+  pub marks-are : marks ≡ marksOf (job .settings .axes) (admits (job .settings .axes) (makeOld (headsIn job c) p) (levelsAt (heldIn c (job .held)) p))
 
 -- how many are marked, and the sizes of their blocks together
 pub record Counted (job : JobRecord) (levels marks : List ℕ) (count sizes : ℕ) : Type 0 where
   pub count-is : count ≡ length (markedAxes (job .settings .axes) marks)
   pub sizes-are : sizes ≡ sizesOf levels (markedAxes (job .settings .axes) marks)
 
--- the cells after the place is restated, and after the marked are appended
+-- the cells after the place has its new state, and after the marked are appended
 pub record Changed (job : JobRecord) (c : List ℕ) (p : ℕ) (levels marks : List ℕ) (indicator first : ℕ) (c₁ c₂ : List ℕ) : Type 0 where
   pub first-is : first ≡ readingsFor (job .settings) (job .reserved)
   pub indicator-is : indicator ≡ recordAt (recordsOf c) p .indicator
-  pub restated-is : runOf c₁ ≡ stored (runOf c) p (restated (recordAt (recordsOf c) p) 2 indicator)
+  pub withState-is : runOf c₁ ≡ stored (runOf c) p (withState (recordAt (recordsOf c) p) 2 indicator)
   pub appended-is : runOf c₂ ≡ record { records = appendedAll (job .settings) (recordsOf c₁) (job .held) first levels (markedAxes (job .settings .axes) marks); rest = runOf c₁ .rest }
 
 module _ {job : JobRecord} {c : List ℕ} {store : List ℤ} {p : ℕ} (t : Refinable job c store p) where
@@ -116,7 +116,7 @@ module _ {job : JobRecord} {c : List ℕ} {store : List ℤ} {p : ℕ} (t : Refi
 
   -- the axes along which it admits
   abbrev axes : List ℕ
-  axes = admittedAxes (job .settings .axes) (retire es p) k
+  axes = admittedAxes (job .settings .axes) (makeOld es p) k
 
   -- the state after it
   abbrev after : Machine
@@ -157,7 +157,7 @@ module _ {job : JobRecord} {c : List ℕ} {store : List ℤ} {p : ℕ} (t : Refi
   module _ {levels marks : List ℕ} (u : Scanned job c p levels marks) where
     -- what the scan marks by
     abbrev scanned : ℕ → Bool
-    scanned = admits (job .settings .axes) (retire (headsIn job c) p) (levelsAt (heldIn c (job .held)) p)
+    scanned = admits (job .settings .axes) (makeOld (headsIn job c) p) (levelsAt (heldIn c (job .held)) p)
 
     levels-same : levelsAt (heldIn c (job .held)) p ≡ k
     levels-same = ap (λ (x : IndexRecord). x .levels) (held-record c (job .held) (room job c store (t .valid)) p (t .place))
@@ -172,13 +172,13 @@ module _ {job : JobRecord} {c : List ℕ} {store : List ℤ} {p : ℕ} (t : Refi
     marked-axes =
         ap (markedAxes (job .settings .axes)) (u .marks-are)
         ∙ marked-are (job .settings .axes) scanned (few-axes job c store (t .valid))
-        ∙ ap (admittedAxes (job .settings .axes) (retire (headsIn job c) p)) levels-same
-        ∙ alike-axes (retire (headsIn job c) p) (retire es p) (alike-retire (headsIn job c) es (heads-are job c store) p) (job .settings .axes) k
+        ∙ ap (admittedAxes (job .settings .axes) (makeOld (headsIn job c) p)) levels-same
+        ∙ alike-axes (makeOld (headsIn job c) p) (makeOld es p) (alike-makeOld (headsIn job c) es (heads-are job c store) p) (job .settings .axes) k
 
     marked-within : MarkedWithin (job .settings .axes) levels marks
     marked-within a l e =
         subst (λ x. Within (forward x a)) (levels-same ∙ sym (u .levels-are))
-        (reads-admits (job .settings .axes) (retire (headsIn job c) p) (levelsAt (heldIn c (job .held)) p) a .sure
+        (reads-admits (job .settings .axes) (makeOld (headsIn job c) p) (levelsAt (heldIn c (job .held)) p) a .sure
         (marked-passes (job .settings .axes) scanned (few-axes job c store (t .valid)) a l (ap (λ x. getD x a 0) (sym (u .marks-are)) ∙ e)) .ceilings)
 
     pub marks-ask : (job .settings .axes ≤ 8) × MarkedWithin (job .settings .axes) levels marks × ((a : ℕ) → a < 8 → level levels a ≤ 8)
@@ -243,15 +243,15 @@ module _ {job : JobRecord} {c : List ℕ} {store : List ℤ} {p : ℕ} (t : Refi
         fit = rw (le-leb (length refined) 512 (omega (arith, held-refined)), le-leb (reservedBy refined) (job .settings .budget) (omega (arith, reserved-refined)))
 
         run-is : runOf c₂ ≡ record {
-          records = appendedAll (job .settings) (set (recordsOf c) p (restated (recordAt (recordsOf c) p) 2 (recordAt (recordsOf c) p .indicator))) (job .held)
+          records = appendedAll (job .settings) (set (recordsOf c) p (withState (recordAt (recordsOf c) p) 2 (recordAt (recordsOf c) p .indicator))) (job .held)
               (readingsFor (job .settings) (job .reserved)) k axes;
           rest = runOf c .rest;
         }
         run-is =
             w .appended-is
-            ∙ ap (λ (x : Run). record { records = appendedAll (job .settings) (x .records) (job .held) first levels (markedAxes (job .settings .axes) marks); rest = x .rest }) (w .restated-is)
+            ∙ ap (λ (x : Run). record { records = appendedAll (job .settings) (x .records) (job .held) first levels (markedAxes (job .settings .axes) marks); rest = x .rest }) (w .withState-is)
             ∙ (λ i. record {
-              records = appendedAll (job .settings) (set (recordsOf c) p (restated (recordAt (recordsOf c) p) 2 (w .indicator-is i))) (job .held) (w .first-is i) (u .levels-are i) (marked-axes i);
+              records = appendedAll (job .settings) (set (recordsOf c) p (withState (recordAt (recordsOf c) p) 2 (w .indicator-is i))) (job .held) (w .first-is i) (u .levels-are i) (marked-axes i);
               rest = runOf c .rest;
             })
 

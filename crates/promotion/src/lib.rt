@@ -9,7 +9,7 @@ ghost use Rattle.area.specs.Encoding.{areaOf, entriesOf};
 ghost use Rattle.quadrature.specs.Readings.{recordAt};
 ghost use Rattle.machine.specs.Log.{firstWanted};
 ghost use Rattle.machine.specs.Areas.{refineOn, promoteOn};
-ghost use Rattle.machine.specs.Promote.{selected, retire, isOld, admits};
+ghost use Rattle.machine.specs.Promote.{selected, makeOld, isOld, admits};
 ghost use Rattle.writing.specs.Changes.{appendedAll, sizesOf};
 ghost use Rattle.writing.specs.Heads.{headsOf};
 ghost use Rattle.writing.specs.ValidArea.{ValidArea};
@@ -52,7 +52,7 @@ pub fn select(held: usize, cells: &[u32]) -> usize
 // Whether an index is held and old; the place that is refined counts as old.
 fn is_old(held: usize, refined: usize, levels: [u32; 8], cells: &[u32]) -> bool
     requires { ⌜ (held * 27 ≤ length (now cells)) × (refined < held) × Searchable (heldIn (now cells) held) ⌝ }
-    ensures { λ r. ⌜ r ≡ isOld (retire (headsOf (heldIn (now (cells .entry)) held)) refined) levels ⌝ }
+    ensures { λ r. ⌜ r ≡ isOld (makeOld (headsOf (heldIn (now (cells .entry)) held)) refined) levels ⌝ }
 {
     match area::lookup(cells, held, levels) {
         area::LookupResult::At(place) => {
@@ -70,7 +70,7 @@ fn is_old(held: usize, refined: usize, levels: [u32; 8], cells: &[u32]) -> bool
 // neighbours old. The scan leaves a neighbour for the next axis at the first that is not.
 fn admitted(axes: usize, held: usize, refined: usize, cells: &[u32]) -> [u32; 8]
     requires { ⌜ (axes ≤ 8) × (held * 27 ≤ length (now cells)) × (refined < held) × Searchable (heldIn (now cells) held) ⌝ }
-    ensures { λ r. ⌜ r ≡ marksOf axes (admits axes (retire (headsOf (heldIn (now (cells .entry)) held)) refined) (recordAt (heldIn (now (cells .entry)) held) refined .levels)) ⌝ }
+    ensures { λ r. ⌜ r ≡ marksOf axes (admits axes (makeOld (headsOf (heldIn (now (cells .entry)) held)) refined) (recordAt (heldIn (now (cells .entry)) held) refined .levels)) ⌝ }
 {
     let levels = area::levels_at(cells, refined);
     let mut marks = [0u32; 8];
@@ -186,7 +186,7 @@ pub fn refine(job: area::JobRecord, place: usize, cells: &mut [u32], store: &[i3
         };
     }
     let indicator = area::indicator_at(cells, place);
-    writing::restate(place, area::OLD, indicator, cells);
+    writing::set_state(place, area::OLD, indicator, cells);
     let first = area::readings_for(settings, reserved);
     append_marked(settings, axes, held, first, levels, marks, cells);
     let mut after = job;

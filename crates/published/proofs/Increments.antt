@@ -22,7 +22,7 @@ use Rattle.area.specs.Log.{Machine}
 use Rattle.encoding.specs.Entries.{entryAt, Has, EnteredOld, SoundMachine}
 use Rattle.machine.proofs.Sets.{Different}
 use Rattle.published.specs.Figure.{Problem, increment}
-use Rattle.published.proofs.Retires.{same-no}
+use Rattle.published.proofs.MakesOld.{same-no}
 use Rattle.published.proofs.Below.{entered-below}
 
 -- ---- the values at a block's points

@@ -1,6 +1,6 @@
 -- Proofs of the facts about the published algorithm.
 pub mod Selects
-pub mod Retires
+pub mod MakesOld
 pub mod Scans
 pub mod Below
 pub mod Increments

@@ -20,12 +20,12 @@ use Rattle.area.specs.Log.{Log, Machine, withEntries}
 use Rattle.encoding.specs.Entries.{entryAt, SoundMachine}
 use Rattle.machine.specs.Log.{wanted, firstWanted}
 use Rattle.machine.specs.Counts.{countOf}
-use Rattle.machine.specs.Promote.{promoted, selected, retired, retire, admittedAxes, refine, promote}
+use Rattle.machine.specs.Promote.{promoted, selected, madeOld, makeOld, admittedAxes, refine, promote}
 use Rattle.machine.specs.Steps.{started, delivered, deliverAt, deliver, promoteStep}
 use Rattle.machine.proofs.Wanted.{first-is, first-none}
 use Rattle.machine.proofs.Sets.{set-here, set-there}
 use Rattle.machine.proofs.Appends.{append-left}
-use Rattle.machine.proofs.Admitted.{retire-length}
+use Rattle.machine.proofs.Admitted.{makeOld-length}
 use Rattle.machine.proofs.Facts.{step-facts}
 use Rattle.published.specs.Figure.{Problem, Figure, loopCondition, joined, turns}
 use Rattle.published.specs.Turns.{supply, SettingsMatch, Supplied, Simulates}
@@ -148,27 +148,27 @@ module _ (m : Machine) (rs : List ℤ) (i : ℕ) (some : firstWanted (m .log .en
 
 module _ (es : List Entry) (p : ℕ) (inside : p < length es) (d : ℕ) where
   abbrev new : List Entry
-  new = map (λ a. wanted (forward (entryAt es p .levels) a)) (admittedAxes d (retire es p) (entryAt es p .levels))
+  new = map (λ a. wanted (forward (entryAt es p .levels) a)) (admittedAxes d (makeOld es p) (entryAt es p .levels))
 
   count-refine : entryAt es p .state ≡ 1 → countOf 2 (refine d es p) ≡ suc (countOf 2 es)
-  unfolding refine retire retired
+  unfolding refine makeOld madeOld
   count-refine s =
-      count-appended (retire es p) (entryAt es p .levels) (admittedAxes d (retire es p) (entryAt es p .levels))
-      ∙ count-more 2 es p (retired (entryAt es p)) inside (λ z. omega arith) refl
+      count-appended (makeOld es p) (entryAt es p .levels) (admittedAxes d (makeOld es p) (entryAt es p .levels))
+      ∙ count-more 2 es p (madeOld (entryAt es p)) inside (λ z. omega arith) refl
 
   -- readings and indicators stay, so what is given after was given before
   partly-refined : (P : Problem) → Partly P (refine d es p) → Partly P es
-  unfolding refine retire retired
+  unfolding refine makeOld madeOld
   partly-refined P g q h = step (ℕ-discrete q p)
     where
-      kept : (r : ℕ) → r < length es → MatchesProblem P (entryAt (retire es p) r)
+      kept : (r : ℕ) → r < length es → MatchesProblem P (entryAt (makeOld es p) r)
       kept r l =
-          subst (MatchesProblem P) (append-left (retire es p) new r (omega (arith, retire-length es p inside)))
-          (g r (omega (arith, retire-length es p inside, length-append (retire es p) new)))
+          subst (MatchesProblem P) (append-left (makeOld es p) new r (omega (arith, makeOld-length es p inside)))
+          (g r (omega (arith, makeOld-length es p inside, length-append (makeOld es p) new)))
 
       step : Dec (q ≡ p) → MatchesProblem P (entryAt es q)
-      step (yes i) = subst (λ r. MatchesProblem P (entryAt es r)) (sym i) (λ s. subst (MatchesProblem P) (set-here es p (retired (entryAt es p)) inside) (kept p inside) (omega arith))
-      step (no n) = subst (MatchesProblem P) (set-there es p (retired (entryAt es p)) inside q n) (kept q h)
+      step (yes i) = subst (λ r. MatchesProblem P (entryAt es r)) (sym i) (λ s. subst (MatchesProblem P) (set-here es p (madeOld (entryAt es p)) inside) (kept p inside) (omega arith))
+      step (no n) = subst (MatchesProblem P) (set-there es p (madeOld (entryAt es p)) inside q n) (kept q h)
 
 module _ (m : Machine) (v : SoundMachine m) (free : length (m .log .entries) ≤ firstWanted (m .log .entries)) (c : OnCourse m) where
   abbrev now : List Entry

@@ -1,5 +1,5 @@
 -- A promotion that is promoted, and the deliveries of all that it admitted, are one turn.
--- The idea: the promotion selects and retires what Fig. 1 selects and moves, and appends as wanted what the scan joins; the deliveries join
+-- The idea: the promotion selects and makes old what Fig. 1 selects and moves, and appends as wanted what the scan joins; the deliveries join
 -- these in order.
 -- Assumes nothing.
 use mathlib.Core.Path.{_≡_, refl, sym, ap, _∙_, subst}
@@ -15,14 +15,14 @@ use Rattle.area.specs.Log.{Log, Machine}
 use Rattle.encoding.specs.Entries.{entryAt, SoundMachine}
 use Rattle.machine.specs.Log.{wanted}
 use Rattle.machine.specs.Counts.{countOf}
-use Rattle.machine.specs.Promote.{promoted, selected, retire, admittedAxes, refine, isMet, promote}
+use Rattle.machine.specs.Promote.{promoted, selected, makeOld, admittedAxes, refine, isMet, promote}
 use Rattle.machine.specs.Steps.{promoteStep}
 use Rattle.machine.proofs.Wanted.{first-none}
 use Rattle.machine.proofs.Facts.{step-facts}
 use Rattle.published.specs.Figure.{Problem, Figure, without, moved, scanned, turn}
 use Rattle.published.specs.Turns.{supplies, turnOn, SettingsMatch, ReadingValued, Simulates}
 use Rattle.published.proofs.Selects.{select-same}
-use Rattle.published.proofs.Retires.{active-retire, pending-retire, retire-there, retire-here, retire-supplied}
+use Rattle.published.proofs.MakesOld.{active-makeOld, pending-makeOld, makeOld-there, makeOld-here, makeOld-supplied}
 use Rattle.published.proofs.Scans.{joinedAll, scan-admits}
 use Rattle.published.proofs.Joins.{Agrees, Waiting, Joining}
 use Rattle.published.proofs.Supplies.{supplies-join}
@@ -68,29 +68,29 @@ module _ (P : Problem) (m : Machine) (s : Figure) (v : SoundMachine m) (at : Sim
 
   -- ---- what the promotion leaves
 
-  agrees : Agrees P (retire es p) (moved P k s)
+  agrees : Agrees P (makeOld es p) (moved P k s)
   unfolding moved
   agrees =
       record {
-        supplied = retire-supplied es p inside P (at .supplied);
-        old-there = retire-there es p inside (s .old) (at .old-there);
-        old-here = retire-here es p inside (s .old) (at .old-here);
-        active = active-retire es p (v .different) inside is-active ∙ ap (λ ks. without ks k) (at .active);
-        pending = omega (arith, pending-retire es p inside is-active, at .pending, at .supplied .indicators p inside);
+        supplied = makeOld-supplied es p inside P (at .supplied);
+        old-there = makeOld-there es p inside (s .old) (at .old-there);
+        old-here = makeOld-here es p inside (s .old) (at .old-here);
+        active = active-makeOld es p (v .different) inside is-active ∙ ap (λ ks. without ks k) (at .active);
+        pending = omega (arith, pending-makeOld es p inside is-active, at .pending, at .supplied .indicators p inside);
       }
 
   -- the admitted indices
   abbrev ks : List (List ℕ)
-  ks = map (forward k) (admittedAxes (P .axes) (retire es p) k)
+  ks = map (forward k) (admittedAxes (P .axes) (makeOld es p) k)
 
-  step-entries : promoteStep m .log .entries ≡ retire es p ++ map wanted ks
+  step-entries : promoteStep m .log .entries ≡ makeOld es p ++ map wanted ks
   unfolding promoteStep refine
   step-entries =
       ap (λ (l : Log). l .entries) (promoted-log (m .log) e)
       ∙ ap (λ d. refine d es p) (sym (at .posed .axes))
-      ∙ ap (λ ws. retire es p ++ ws) (wanted-map k (admittedAxes (P .axes) (retire es p) k))
+      ∙ ap (λ ws. makeOld es p ++ ws) (wanted-map k (admittedAxes (P .axes) (makeOld es p) k))
 
-  waits : Waiting P (promoteStep m) (retire es p) ks (moved P k s)
+  waits : Waiting P (promoteStep m) (makeOld es p) ks (moved P k s)
   unfolding promoteStep moved
   waits =
       record {
@@ -109,15 +109,15 @@ module _ (P : Problem) (m : Machine) (s : Figure) (v : SoundMachine m) (at : Sim
   unfolding turn
   turn-joins =
       ap (λ i. scanned P i (P .axes) 0 (moved P i s)) (select-same P es s (at .supplied .indicators) (at .active))
-      ∙ scan-admits P (moved P k s) (retire es p) (agrees .old-there) (agrees .old-here) k
+      ∙ scan-admits P (moved P k s) (makeOld es p) (agrees .old-there) (agrees .old-here) k
 
   pub turn-joining : Joining P (promoteStep m) (turn P s)
-  turn-joining = record { given = retire es p; awaited = ks; figure = moved P k s; waits = waits; joins = sym turn-joins }
+  turn-joining = record { given = makeOld es p; awaited = ks; figure = moved P k s; waits = waits; joins = sym turn-joins }
 
   pub one-turn : ReadingValued P → SoundMachine (turnOn P m) × Simulates P (turnOn P m) (turn P s)
   unfolding turnOn
   one-turn measured =
       subst (λ n. SoundMachine (supplies P n (promoteStep m)) × Simulates P (supplies P n (promoteStep m)) (turn P s))
-      (sym (ap (countOf 0) step-entries ∙ count-after (retire es p) ks (agrees .supplied .delivered)))
+      (sym (ap (countOf 0) step-entries ∙ count-after (makeOld es p) ks (agrees .supplied .delivered)))
       (subst (λ r. SoundMachine (supplies P (length ks) (promoteStep m)) × Simulates P (supplies P (length ks) (promoteStep m)) r) (sym turn-joins)
-      (supplies-join P measured ks (promoteStep m) (retire es p) (moved P k s) sound waits))
+      (supplies-join P measured ks (promoteStep m) (makeOld es p) (moved P k s) sound waits))

@@ -16,7 +16,7 @@ use Rattle.encoding.specs.Entries.{entryAt, SoundMachine}
 use Rattle.machine.proofs.Sets.{Different}
 use Rattle.published.specs.Figure.{Problem}
 use Rattle.published.specs.Turns.{SettingsMatch, ReadingValued, Supplied}
-use Rattle.published.proofs.Retires.{same-no}
+use Rattle.published.proofs.MakesOld.{same-no}
 use Rattle.published.proofs.Sampling.{sampling}
 
 -- the indicator of the first entry that has the index

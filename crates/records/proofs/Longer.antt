@@ -23,7 +23,7 @@ use Rattle.machine.specs.Promote as rule
 use Rattle.machine.specs.Steps as steps
 use Rattle.machine.specs.Causes.{Lengths, firstCause, short, startCauses}
 use Rattle.calls.specs.Replies.{verdict, lengthsOf}
-use Rattle.calls.specs.Table.{Call, start, point, deliver, promote, result, crossTotal, check, Effect, leaves, becomes, promotionEffect, JobRow, onJob, answer, row, causesOf, effectOf, fitting, acceptedAnswer, refusal}
+use Rattle.calls.specs.Table.{Call, start, point, deliver, promote, result, crossTotal, check, Effect, unchanged, becomes, promotionEffect, JobRow, onJob, answer, row, causesOf, effectOf, passesCheck, acceptedAnswer, refusal}
 use Rattle.calls.specs.Calls.{CallResult, areaAfter, refusalOn, callOn}
 use Rattle.calls.proofs.CauseCases.{acceptedCall, refusedCall, either, call-refuses}
 use Rattle.calls.proofs.ResultValues.{check-answer}
@@ -78,7 +78,7 @@ promote-few l h = go (rule.isMet l) (rule.fits (l .settings .budget) refined) (w
     go false false k = h
 
 abbrev Few : Effect → Type 0
-Few leaves = Unit {0}
+Few unchanged = Unit {0}
 Few (becomes n) = length (n .log .entries) ≤ 512
 
 outcome-few : (m : Machine) → length (m .log .entries) ≤ 512 → (o : rule.Outcome) → Few (promotionEffect o (steps.promoteStep m))
@@ -113,7 +113,7 @@ module _ (a : Area) (more : List IndexRecord) (room : 512 ≤ length (a .run .re
 
   after-longer : (e : Effect) → Few e → areaAfter a⁺ e ≡ longer (areaAfter a e) more
   unfolding areaAfter
-  after-longer leaves h = refl
+  after-longer unchanged h = refl
   after-longer (becomes n) h = written-longer a more room n h
 
   -- refused or not
@@ -171,7 +171,7 @@ module _ (a : Area) (more : List IndexRecord) (room : 512 ≤ length (a .run .re
       unfolding refusal causesOf
       same-cause = rw (machine-same a more room h, sound-few a more room h, is, short-same a more room (machineOf a .log .settings)) refl
 
-      same-answer : acceptedAnswer (fitting z⁺ (isSound a⁺) (machineOf a⁺ .log)) (machineOf a⁺) (row c) ≡ acceptedAnswer (fitting z (isSound a) (machineOf a .log)) (machineOf a) (row c)
+      same-answer : acceptedAnswer (passesCheck z⁺ (isSound a⁺) (machineOf a⁺ .log)) (machineOf a⁺) (row c) ≡ acceptedAnswer (passesCheck z (isSound a) (machineOf a .log)) (machineOf a) (row c)
       unfolding acceptedAnswer
       same-answer = rw (is, machine-same a more room h) refl
 

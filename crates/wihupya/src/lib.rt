@@ -1,6 +1,6 @@
 // The calls, exported for C and Rust: the proved functions, with nothing asked of what the storage holds. A job record is ten words
-// (specs/Words.antt). The length of cells counts words, 27 to a record; that of the store counts readings. A call returns 0 if it was
-// not refused, else the number of the cause. include/wihupya.h says it for C, and bindings/ for Rust.
+// (specs/Words.antt). The length of cells counts words, 27 to a record; that of the store counts readings. A call but check returns 0
+// if it was not refused, else the number of the cause. include/wihupya.h says it for C, and bindings/ for Rust.
 ghost use mathlib.Core.Path.{_≡_};
 ghost use mathlib.Core.List.{[]};
 ghost use Prim.Native.Nat.{_+_, _*_, _^_};

@@ -28,7 +28,7 @@ use Rattle.soundness.proofs.Levels.{at-least}
 use Rattle.soundness.proofs.Exactly.{reads-all}
 use Rattle.encoding.specs.Entries.{entryAt, Entered, EnteredOld, SoundMachine}
 use Rattle.machine.specs.Log.{wanted}
-use Rattle.machine.specs.Promote.{retired, retire, isOld, backwardOld, admits, passing, admittedAxes, refine}
+use Rattle.machine.specs.Promote.{madeOld, makeOld, isOld, backwardOld, admits, passing, admittedAxes, refine}
 use Rattle.writing.specs.Changes.{appendedAll}
 use Rattle.writing.proofs.Places.{later}
 use Rattle.writing.proofs.Entries.{levels-set, reserved-set, ahead}
@@ -92,14 +92,14 @@ module _ (m : Machine) (v : SoundMachine m) (p : ℕ) (inside : p < length (m .l
   k = entryAt es p .levels
 
   abbrev old : List Entry
-  old = set es p (retired (entryAt es p))
+  old = set es p (madeOld (entryAt es p))
 
-  kept : retired (entryAt es p) .levels ≡ k
-  unfolding retired
+  kept : madeOld (entryAt es p) .levels ≡ k
+  unfolding madeOld
   kept = refl
 
   old-length : length old ≡ length es
-  old-length = length-set es p (retired (entryAt es p))
+  old-length = length-set es p (madeOld (entryAt es p))
 
   k-index : Index d k
   k-index = v .index p inside
@@ -115,11 +115,11 @@ module _ (m : Machine) (v : SoundMachine m) (p : ℕ) (inside : p < length (m .l
         behind = λ q a h g u.
             subst (λ y. Entered old (backward y a)) (sym (levels q))
             (let o = v .behind q a (omega (arith, old-length)) g (subst (λ y. 1 < level y a) (levels q) u) in
-            entered-set es p (retired (entryAt es p)) kept (backward (entryAt es q .levels) a) (o .0, o .1));
+            entered-set es p (madeOld (entryAt es p)) kept (backward (entryAt es q .levels) a) (o .0, o .1));
       }
     where
       levels : (q : ℕ) → entryAt old q .levels ≡ entryAt es q .levels
-      levels = levels-set es p (retired (entryAt es p)) kept
+      levels = levels-set es p (madeOld (entryAt es p)) kept
 
   module _ (a : ℕ) (h : a < d) where
     -- its forward neighbours are not entered: it would be old
@@ -147,7 +147,7 @@ module _ (m : Machine) (v : SoundMachine m) (p : ℕ) (inside : p < length (m .l
                 ceilings = admits-within d old k a e;
                 beyond = λ c hd h8. forward-other k a c (λ q. omega arith) ∙ k-index .beyond c hd h8;
               };
-          absent = λ t. not-entered (set-entered es p (retired (entryAt es p)) kept (forward k a) t);
+          absent = λ t. not-entered (set-entered es p (madeOld (entryAt es p)) kept (forward k a) t);
           behind = admits-behind d old k a e;
         }
 
@@ -169,12 +169,12 @@ module _ (m : Machine) (v : SoundMachine m) (p : ℕ) (inside : p < length (m .l
         r (fs ++ (wanted (forward k a) ∷ [])) (λ c l u g. next-more fs (forward k a) d (forward k c) (apart a (omega arith) c (λ q. omega arith)) (m c (omega arith) (omega arith) g)),
       )
 
-  pub refine-run : (rest : List IndexRecord) → length (refine d es p) ≤ 512 → length (admittedAxes d (retire es p) k) ≤ length rest
-      → appendedAll settings (recordsFor settings (retire es p) ++ rest) (length es) (readingsFor settings (reservedBy es)) k (admittedAxes d (retire es p) k)
-      ≡ recordsFor settings (refine d es p) ++ drop (length (admittedAxes d (retire es p) k)) rest
-  unfolding refine retire admittedAxes
+  pub refine-run : (rest : List IndexRecord) → length (refine d es p) ≤ 512 → length (admittedAxes d (makeOld es p) k) ≤ length rest
+      → appendedAll settings (recordsFor settings (makeOld es p) ++ rest) (length es) (readingsFor settings (reservedBy es)) k (admittedAxes d (makeOld es p) k)
+      ≡ recordsFor settings (refine d es p) ++ drop (length (admittedAxes d (makeOld es p) k)) rest
+  unfolding refine makeOld admittedAxes
   refine-run rest few room =
-      ap₂ (λ n f. appendedAll settings (recordsFor settings old ++ rest) n (readingsFor settings f) k axes) (sym old-length) (sym (reserved-set es p (retired (entryAt es p)) kept))
+      ap₂ (λ n f. appendedAll settings (recordsFor settings old ++ rest) n (readingsFor settings f) k axes) (sym old-length) (sym (reserved-set es p (madeOld (entryAt es p)) kept))
       ∙ append-all settings d k axes old old-based (nexts (admits d old k) d 0 old (omega arith) (λ c l u g. next-admitted c (omega arith) g)) rest
       (omega (arith, length-append old (ahead k axes), length-map axes (λ a. wanted (forward k a)))) room
     where

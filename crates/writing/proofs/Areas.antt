@@ -18,9 +18,9 @@ use Rattle.encoding.specs.Entries.{entryAt, SoundMachine}
 use Rattle.encoding.specs.Encodes.{Encodes}
 use Rattle.encoding.proofs.Places.{levels-at, state-at, indicator-at, records-length}
 use Rattle.encoding.proofs.Facts.{encoding-facts}
-use Rattle.writing.specs.Changes.{restated}
+use Rattle.writing.specs.Changes.{withState}
 use Rattle.writing.specs.ValidArea.{ValidArea}
-use Rattle.writing.proofs.Entries.{restated-records}
+use Rattle.writing.proofs.Entries.{withState-records}
 
 module _ (a : Area) (r : ValidArea a) where
   abbrev g : Settings
@@ -74,12 +74,12 @@ module _ (a : Area) (r : ValidArea a) where
     unfolding entriesOf
     indicator-is = indicator-at g (a .store) (heldOf a) p ∙ ap (λ (x : IndexRecord). x .indicator) held-record
 
-    -- an entry replaced by one with its index is one record restated
-    pub entry-replaced : (e : Entry) → e .levels ≡ entryAt es p .levels → recordsFor g (set es p e) ++ rest ≡ set all p (restated (recordAt all p) (e .state) (e .indicator))
+    -- an entry replaced by one with its index is one record with another state
+    pub entry-replaced : (e : Entry) → e .levels ≡ entryAt es p .levels → recordsFor g (set es p e) ++ rest ≡ set all p (withState (recordAt all p) (e .state) (e .indicator))
     entry-replaced e same =
-        ap (λ l. l ++ rest) (restated-records g es p e same)
+        ap (λ l. l ++ rest) (withState-records g es p e same)
         ∙ sym (set-append-left (recordsFor g es) rest p (new (recordAt (recordsFor g es) p)) (omega (arith, records-length g es)))
         ∙ ap₂ (λ l x. set l p (new x)) (sym records-are) (sym entry-record)
       where
         new : IndexRecord → IndexRecord
-        new x = restated x (e .state) (e .indicator)
+        new x = withState x (e .state) (e .indicator)

@@ -18,7 +18,7 @@ use Rattle.encoding.proofs.Places.{levels-at, entries-length}
 use Rattle.encoding.proofs.Facts.{range-facts}
 use Rattle.machine.specs.Log.{firstWanted, wantedIndex}
 use Rattle.machine.specs.Steps.{delivered, deliverAt}
-use Rattle.writing.specs.Changes.{restated}
+use Rattle.writing.specs.Changes.{withState}
 use Rattle.writing.specs.ValidArea.{ValidArea}
 use Rattle.writing.proofs.Entries.{reserved-set}
 use Rattle.writing.proofs.Store.{first-free, deliver-pending, deliver-store}
@@ -48,7 +48,7 @@ module _ (a : Area) (r : ValidArea a) where
     pub delivered-held : length next ≡ a .job .held
     delivered-held = delivered-count ∙ sym (held-is a r)
 
-    pub delivered-records : recordsFor g next ++ drop (length next) all ≡ set all w (restated (recordAt all w) 1 i)
+    pub delivered-records : recordsFor g next ++ drop (length next) all ≡ set all w (withState (recordAt all w) 1 i)
     unfolding deliverAt delivered
     delivered-records = ap (λ n. recordsFor g next ++ drop n all) delivered-count ∙ entry-replaced a r w some (delivered (entryAt es w) rs i) refl
 

@@ -23,7 +23,7 @@ use Rattle.area.specs.Encoding.{linksOf, encoded, encodedFrom, recordsFor, stor
 use Rattle.quadrature.specs.Readings.{recordAt}
 use Rattle.encoding.specs.Entries.{noEntry, entryAt}
 use Rattle.machine.specs.Log.{wanted}
-use Rattle.writing.specs.Changes.{restated, sizesOf}
+use Rattle.writing.specs.Changes.{withState, sizesOf}
 use Rattle.writing.proofs.Fields.{mapped-at}
 
 -- ---- one entry replaced
@@ -36,20 +36,20 @@ pub levels-set : (es : List Entry) (p : ℕ) (e : Entry) → e .levels ≡ entry
 unfolding indicesOf
 levels-set es p e same = mapped-at (λ (x : Entry). x .levels) noEntry (set es p e) es (indices-set es p e same)
 
-restated-from : (g : Settings) (ls : List (List ℕ)) (f : ℕ) (es : List Entry) (p : ℕ) (e : Entry) → e .levels ≡ entryAt es p .levels
-    → encodedFrom g ls f (set es p e) ≡ set (encodedFrom g ls f es) p (restated (recordAt (encodedFrom g ls f es) p) (e .state) (e .indicator))
-unfolding encodedFrom encoded restated
-restated-from g ls f [] p e same = refl
-restated-from g ls f (x ∷ es) zero e same =
+withState-from : (g : Settings) (ls : List (List ℕ)) (f : ℕ) (es : List Entry) (p : ℕ) (e : Entry) → e .levels ≡ entryAt es p .levels
+    → encodedFrom g ls f (set es p e) ≡ set (encodedFrom g ls f es) p (withState (recordAt (encodedFrom g ls f es) p) (e .state) (e .indicator))
+unfolding encodedFrom encoded withState
+withState-from g ls f [] p e same = refl
+withState-from g ls f (x ∷ es) zero e same =
     ap {B = List IndexRecord}
     (λ (k : List ℕ). (record { levels = k; state = e .state; indicator = e .indicator; first = f; links = linksOf ls k }) ∷ encodedFrom g ls (f + readingCount g k) es) same
-restated-from g ls f (x ∷ es) (suc p) e same = ap (λ (rs : List IndexRecord). encoded ls f x ∷ rs) (restated-from g ls (f + readingCount g (x .levels)) es p e same)
+withState-from g ls f (x ∷ es) (suc p) e same = ap (λ (rs : List IndexRecord). encoded ls f x ∷ rs) (withState-from g ls (f + readingCount g (x .levels)) es p e same)
 
-pub restated-records : (g : Settings) (es : List Entry) (p : ℕ) (e : Entry) → e .levels ≡ entryAt es p .levels
-    → recordsFor g (set es p e) ≡ set (recordsFor g es) p (restated (recordAt (recordsFor g es) p) (e .state) (e .indicator))
+pub withState-records : (g : Settings) (es : List Entry) (p : ℕ) (e : Entry) → e .levels ≡ entryAt es p .levels
+    → recordsFor g (set es p e) ≡ set (recordsFor g es) p (withState (recordAt (recordsFor g es) p) (e .state) (e .indicator))
 unfolding recordsFor
-restated-records g es p e same =
-    ap (λ ls. encodedFrom g ls 0 (set es p e)) (indices-set es p e same) ∙ restated-from g (indicesOf es) 0 es p e same
+withState-records g es p e same =
+    ap (λ ls. encodedFrom g ls 0 (set es p e)) (indices-set es p e same) ∙ withState-from g (indicesOf es) 0 es p e same
 
 pub reserved-set : (es : List Entry) (p : ℕ) (e : Entry) → e .levels ≡ entryAt es p .levels → reservedBy (set es p e) ≡ reservedBy es
 unfolding reservedBy

@@ -20,7 +20,7 @@ use Rattle.area.specs.declared.IndexRecord.{IndexRecord}
 use Rattle.area.specs.Records.{levelsOf}
 use Rattle.area.specs.Encoding.{none, placeFrom, placeOf}
 use Rattle.quadrature.specs.Readings.{recordAt}
-use Rattle.writing.specs.Changes.{relinked, newLinks, namedFrom}
+use Rattle.writing.specs.Changes.{withForwardLink, newLinks, namedFrom}
 
 -- ---- gathering
 pub record SoFar (f : ℕ → ℕ) (axis : ℕ) (links : List ℕ) : Type 0 where
@@ -149,7 +149,7 @@ module _ (a : ℕ) (links : List ℕ) (n : ℕ) (rs : List IndexRecord) where
   turn-none m e = rw (eq-eqb (getD links (8 + a) 0) none e)
 
   turn-one : (m : ℕ) → (getD links (8 + a) 0 ≡ none → ⊥)
-      → namedFrom (suc m) a links n rs ≡ namedFrom m (a + 1) links n (set rs (getD links (8 + a) 0) (relinked (recordAt rs (getD links (8 + a) 0)) a n))
+      → namedFrom (suc m) a links n rs ≡ namedFrom m (a + 1) links n (set rs (getD links (8 + a) 0) (withForwardLink (recordAt rs (getD links (8 + a) 0)) a n))
   unfolding namedFrom
   turn-one m e = rw (ne-eqb (getD links (8 + a) 0) none e)
 
@@ -157,7 +157,7 @@ module _ (a : ℕ) (links : List ℕ) (n : ℕ) (rs : List IndexRecord) where
   named-none h e = ap (λ m. namedFrom m a links n rs) (one-more a h) ∙ turn-none (8 - (a + 1)) e
 
   pub named-one : a < 8 → (getD links (8 + a) 0 ≡ none → ⊥)
-      → namedFrom (8 - a) a links n rs ≡ namedFrom (8 - (a + 1)) (a + 1) links n (set rs (getD links (8 + a) 0) (relinked (recordAt rs (getD links (8 + a) 0)) a n))
+      → namedFrom (8 - a) a links n rs ≡ namedFrom (8 - (a + 1)) (a + 1) links n (set rs (getD links (8 + a) 0) (withForwardLink (recordAt rs (getD links (8 + a) 0)) a n))
   named-one h e = ap (λ m. namedFrom m a links n rs) (one-more a h) ∙ turn-one (8 - (a + 1)) e
 
   pub named-end : 8 ≤ a → namedFrom (8 - a) a links n rs ≡ rs

@@ -16,7 +16,7 @@ use Rattle.area.specs.declared.IndexRecord.{IndexRecord}
 use Rattle.area.specs.Records.{blank, levelsOf}
 use Rattle.area.specs.Encoding.{none}
 use Rattle.quadrature.specs.Readings.{recordAt}
-use Rattle.writing.specs.Changes.{relinked, namedFrom}
+use Rattle.writing.specs.Changes.{withForwardLink, namedFrom}
 use Rattle.writing.proofs.Fields.{mapped-at}
 
 module _ (links : List ℕ) (n : ℕ) where
@@ -25,17 +25,17 @@ module _ (links : List ℕ) (n : ℕ) where
   behind a = getD links (8 + a) 0
 
   abbrev named : ℕ → List IndexRecord → List IndexRecord
-  named a rs = cond (eqb (behind a) none) rs (set rs (behind a) (relinked (recordAt rs (behind a)) a n))
+  named a rs = cond (eqb (behind a) none) rs (set rs (behind a) (withForwardLink (recordAt rs (behind a)) a n))
 
   -- ---- what is kept: whatever a link has no part in
 
-  module _ {A : Type 0} (g : IndexRecord → A) (same : (r : IndexRecord) (a : ℕ) → g (relinked r a n) ≡ g r) where
+  module _ {A : Type 0} (g : IndexRecord → A) (same : (r : IndexRecord) (a : ℕ) → g (withForwardLink r a n) ≡ g r) where
     axis-keeps : (a : ℕ) (rs : List IndexRecord) → map g (named a rs) ≡ map g rs
     axis-keeps a rs = step (eqb (behind a) none)
       where
-        step : (t : Bool) → map g (cond t rs (set rs (behind a) (relinked (recordAt rs (behind a)) a n))) ≡ map g rs
+        step : (t : Bool) → map g (cond t rs (set rs (behind a) (withForwardLink (recordAt rs (behind a)) a n))) ≡ map g rs
         step true = refl
-        step false = map-set-same g rs (behind a) (relinked (recordAt rs (behind a)) a n) blank (same (recordAt rs (behind a)) a)
+        step false = map-set-same g rs (behind a) (withForwardLink (recordAt rs (behind a)) a n) blank (same (recordAt rs (behind a)) a)
 
     named-keeps : (m a : ℕ) (rs : List IndexRecord) → map g (namedFrom m a links n rs) ≡ map g rs
     unfolding namedFrom
@@ -47,7 +47,7 @@ module _ (links : List ℕ) (n : ℕ) where
 
   module _ (m a : ℕ) (rs : List IndexRecord) where
     pub named-levels-of : levelsOf (namedFrom m a links n rs) ≡ levelsOf rs
-    unfolding levelsOf relinked
+    unfolding levelsOf withForwardLink
     named-levels-of = named-keeps (λ (r : IndexRecord). r .levels) (λ r b. refl) m a rs
 
     pub named-length : length (namedFrom m a links n rs) ≡ length rs
@@ -56,23 +56,23 @@ module _ (links : List ℕ) (n : ℕ) where
 
     module _ (p : ℕ) where
       pub named-levels : recordAt (namedFrom m a links n rs) p .levels ≡ recordAt rs p .levels
-      unfolding relinked
+      unfolding withForwardLink
       named-levels = named-keeps-at (λ (r : IndexRecord). r .levels) (λ r b. refl) m a rs p
 
       pub named-state : recordAt (namedFrom m a links n rs) p .state ≡ recordAt rs p .state
-      unfolding relinked
+      unfolding withForwardLink
       named-state = named-keeps-at (λ (r : IndexRecord). r .state) (λ r b. refl) m a rs p
 
       pub named-indicator : recordAt (namedFrom m a links n rs) p .indicator ≡ recordAt rs p .indicator
-      unfolding relinked
+      unfolding withForwardLink
       named-indicator = named-keeps-at (λ (r : IndexRecord). r .indicator) (λ r b. refl) m a rs p
 
       pub named-first : recordAt (namedFrom m a links n rs) p .first ≡ recordAt rs p .first
-      unfolding relinked
+      unfolding withForwardLink
       named-first = named-keeps-at (λ (r : IndexRecord). r .first) (λ r b. refl) m a rs p
 
       pub named-links-length : length (recordAt (namedFrom m a links n rs) p .links) ≡ length (recordAt rs p .links)
-      unfolding relinked
+      unfolding withForwardLink
       named-links-length = named-keeps-at (λ (r : IndexRecord). length (r .links)) (λ r b. length-set (r .links) b n) m a rs p
 
   -- ---- the links of one place
@@ -82,7 +82,7 @@ module _ (links : List ℕ) (n : ℕ) where
   axis-other a rs p j w = step (eqb (behind a) none) (ℕ-discrete p (behind a)) w
     where
       new : IndexRecord
-      new = relinked (recordAt rs (behind a)) a n
+      new = withForwardLink (recordAt rs (behind a)) a n
 
       step : (t : Bool) → Dec (p ≡ behind a) → (j ≢ a) ⊎ (behind a ≢ p) → getD (recordAt (cond t rs (set rs (behind a) new)) p .links) j 0 ≡ getD (recordAt rs p .links) j 0
       step true d w = refl
@@ -95,15 +95,15 @@ module _ (links : List ℕ) (n : ℕ) where
           inside (yes h) =
               rw d
               (ap (λ (r : IndexRecord). getD (r .links) j 0) (getD-set-same rs (behind a) new blank h)
-              ∙ unfold relinked in getD-set-other (recordAt rs (behind a) .links) a j n 0 f)
+              ∙ unfold withForwardLink in getD-set-other (recordAt rs (behind a) .links) a j n 0 f)
 
   -- the axis's link of the place
   axis-hit : (a : ℕ) (rs : List IndexRecord) (p : ℕ) → behind a ≡ p → p ≢ none → p < length rs → a < length (recordAt rs p .links)
       → getD (recordAt (named a rs) p .links) a 0 ≡ n
   axis-hit a rs p e f h l =
       rw (e, ne-eqb p none f)
-      (ap (λ (r : IndexRecord). getD (r .links) a 0) (getD-set-same rs p (relinked (recordAt rs p) a n) blank h)
-      ∙ unfold relinked in getD-set-same (recordAt rs p .links) a n 0 l)
+      (ap (λ (r : IndexRecord). getD (r .links) a 0) (getD-set-same rs p (withForwardLink (recordAt rs p) a n) blank h)
+      ∙ unfold withForwardLink in getD-set-same (recordAt rs p .links) a n 0 l)
 
   pub named-other : (m a : ℕ) (rs : List IndexRecord) (p j : ℕ) → (j < a) ⊎ ((a + m ≤ j) ⊎ (getD links (8 + j) 0 ≢ p))
       → getD (recordAt (namedFrom m a links n rs) p .links) j 0 ≡ getD (recordAt rs p .links) j 0
@@ -146,7 +146,7 @@ module _ (links : List ℕ) (n : ℕ) where
       ∙ named-rest m (a + 1) (named a rs) rest (λ b h. ⊎-elim inl (λ l. inr (omega (arith, named-length 1 a rs))) (w b (omega arith)))
     where
       new : IndexRecord → IndexRecord
-      new r = relinked r a n
+      new r = withForwardLink r a n
 
       step : (t : Bool) → eqb (behind a) none ≡ t → (behind a ≡ none) ⊎ (behind a < length rs)
           → cond t (rs ++ rest) (set (rs ++ rest) (behind a) (new (recordAt (rs ++ rest) (behind a)))) ≡ cond t rs (set rs (behind a) (new (recordAt rs (behind a)))) ++ rest

@@ -19,7 +19,7 @@ use Rattle.area.specs.Encoding.{areaOf, entryOf, entriesOf}
 use Rattle.soundness.specs.Test.{allFrom}
 use Rattle.encoding.specs.Entries.{noEntry, entryAt}
 use Rattle.machine.specs.Log.{firstWanted}
-use Rattle.machine.specs.Promote.{largest, firstActive, selected, retired, retire, isOld, backwardOld, admits, passing, admittedAxes}
+use Rattle.machine.specs.Promote.{largest, firstActive, selected, madeOld, makeOld, isOld, backwardOld, admits, passing, admittedAxes}
 use Rattle.machine.specs.Counts.{countOf, ceilingCount}
 use Rattle.writing.specs.Heads.{headOf, headsOf}
 
@@ -83,10 +83,10 @@ map-set [] p e = refl
 map-set (x ∷ es) zero e = refl
 map-set (x ∷ es) (suc p) e = ap (λ (l : List Entry). unread x ∷ l) (map-set es p e)
 
-unread-retire : (p : ℕ) (es : List Entry) → map unread (retire es p) ≡ retire (map unread es) p
-unfolding retire retired noEntry
-unread-retire p es =
-    map-set es p (retired (entryAt es p)) ∙ ap (λ (e : Entry). set (map unread es) p (retired e)) (sym (List·getD-map unread es p noEntry))
+unread-makeOld : (p : ℕ) (es : List Entry) → map unread (makeOld es p) ≡ makeOld (map unread es) p
+unfolding makeOld madeOld noEntry
+unread-makeOld p es =
+    map-set es p (madeOld (entryAt es p)) ∙ ap (λ (e : Entry). set (map unread es) p (madeOld e)) (sym (List·getD-map unread es p noEntry))
 
 -- ---- so alike entries give the same
 
@@ -106,8 +106,8 @@ module _ (es fs : List Entry) (same : Alike es fs) where
   pub alike-ceiling : (d : ℕ) → ceilingCount d es ≡ ceilingCount d fs
   alike-ceiling d = answer (ceilingCount d) (unread-ceiling d)
 
-  pub alike-retire : (p : ℕ) → Alike (retire es p) (retire fs p)
-  alike-retire p = unread-retire p es ∙ ap (λ l. retire l p) same ∙ sym (unread-retire p fs)
+  pub alike-makeOld : (p : ℕ) → Alike (makeOld es p) (makeOld fs p)
+  alike-makeOld p = unread-makeOld p es ∙ ap (λ l. makeOld l p) same ∙ sym (unread-makeOld p fs)
 
   pub alike-old : (k : List ℕ) → isOld es k ≡ isOld fs k
   alike-old k = answer (λ l. isOld l k) (unread-old k)

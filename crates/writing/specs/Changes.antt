@@ -15,11 +15,11 @@ use Rattle.area.specs.Encoding.{none, placeOf}
 use Rattle.quadrature.specs.Readings.{recordAt}
 
 -- A record with another state and indicator; with the place n as its forward link along a.
-unfoldable pub restated : IndexRecord → (state indicator : ℕ) → IndexRecord
-restated r s i = record { levels = r .levels; state = s; indicator = i; first = r .first; links = r .links }
+unfoldable pub withState : IndexRecord → (state indicator : ℕ) → IndexRecord
+withState r s i = record { levels = r .levels; state = s; indicator = i; first = r .first; links = r .links }
 
-unfoldable pub relinked : IndexRecord → (a n : ℕ) → IndexRecord
-relinked r a n = record { levels = r .levels; state = r .state; indicator = r .indicator; first = r .first; links = set (r .links) a n }
+unfoldable pub withForwardLink : IndexRecord → (a n : ℕ) → IndexRecord
+withForwardLink r a n = record { levels = r .levels; state = r .state; indicator = r .indicator; first = r .first; links = set (r .links) a n }
 
 -- The record of an index just admitted, its block from f on.
 unfoldable pub admittedRecord : List ℕ → List ℕ → ℕ → IndexRecord
@@ -37,7 +37,7 @@ newLinks ls x = replicate 8 none ++ tabulate 8 (λ a. cond (ltb 1 (level x a)) (
 unfoldable pub namedFrom : ℕ → ℕ → List ℕ → ℕ → List IndexRecord → List IndexRecord
 namedFrom zero a links n rs = rs
 namedFrom (suc m) a links n rs =
-    namedFrom m (a + 1) links n (cond (eqb (getD links (8 + a) 0) none) rs (set rs (getD links (8 + a) 0) (relinked (recordAt rs (getD links (8 + a) 0)) a n)))
+    namedFrom m (a + 1) links n (cond (eqb (getD links (8 + a) 0) none) rs (set rs (getD links (8 + a) 0) (withForwardLink (recordAt rs (getD links (8 + a) 0)) a n)))
 
 -- x is appended to the n held, its block from f on.
 unfoldable pub appended : List IndexRecord → (n f : ℕ) → List ℕ → List IndexRecord

@@ -14,10 +14,10 @@ use Rattle.area.specs.Records.{stored}
 use Rattle.quadrature.specs.Readings.{recordAt}
 use Rattle.soundness.specs.Held.{levelsAt, stateAt}
 use Rattle.machine.specs.Log.{firstWanted, wantedIndex}
-use Rattle.machine.specs.Promote.{retire, admittedAxes, refine, fits}
+use Rattle.machine.specs.Promote.{makeOld, admittedAxes, refine, fits}
 use Rattle.machine.specs.Steps.{started, deliver}
 use Rattle.writing.specs.ValidArea.{ValidArea}
-use Rattle.writing.specs.Changes.{restated, rootRecord, appendedAll, sizesOf}
+use Rattle.writing.specs.Changes.{withState, rootRecord, appendedAll, sizesOf}
 
 pub record WriteFacts : Type 0 where
   -- start writes the job record and record 0
@@ -38,7 +38,7 @@ pub record WriteFacts : Type 0 where
           pending = a .job .pending + i;
           mean = deliver (machineOf a) rs i .mean;
         };
-        run = stored (a .run) (firstWanted (entriesOf a)) (restated (recordAt (a .run .records) (firstWanted (entriesOf a))) 1 i);
+        run = stored (a .run) (firstWanted (entriesOf a)) (withState (recordAt (a .run .records) (firstWanted (entriesOf a))) 1 i);
         store = sets (a .store) (recordAt (a .run .records) (firstWanted (entriesOf a)) .first) rs;
       }
   -- refining an active place p, where nothing is wanted and it fits, changes its state, appends the admitted, whose readings begin where
@@ -48,15 +48,15 @@ pub record WriteFacts : Type 0 where
       → written a (machineWithEntries (machineOf a) (refine (a .job .settings .axes) (entriesOf a) p)) ≡ record {
         job = record {
           settings = a .job .settings;
-          held = a .job .held + length (admittedAxes (a .job .settings .axes) (retire (entriesOf a) p) (levelsAt (a .run .records) p));
-          reserved = a .job .reserved + sizesOf (levelsAt (a .run .records) p) (admittedAxes (a .job .settings .axes) (retire (entriesOf a) p) (levelsAt (a .run .records) p));
+          held = a .job .held + length (admittedAxes (a .job .settings .axes) (makeOld (entriesOf a) p) (levelsAt (a .run .records) p));
+          reserved = a .job .reserved + sizesOf (levelsAt (a .run .records) p) (admittedAxes (a .job .settings .axes) (makeOld (entriesOf a) p) (levelsAt (a .run .records) p));
           pending = a .job .pending - recordAt (a .run .records) p .indicator;
           mean = a .job .mean;
         };
         run = record {
-          records = appendedAll (a .job .settings) (set (a .run .records) p (restated (recordAt (a .run .records) p) 2 (recordAt (a .run .records) p .indicator)))
+          records = appendedAll (a .job .settings) (set (a .run .records) p (withState (recordAt (a .run .records) p) 2 (recordAt (a .run .records) p .indicator)))
               (a .job .held) (readingsFor (a .job .settings) (a .job .reserved))
-              (levelsAt (a .run .records) p) (admittedAxes (a .job .settings .axes) (retire (entriesOf a) p) (levelsAt (a .run .records) p));
+              (levelsAt (a .run .records) p) (admittedAxes (a .job .settings .axes) (makeOld (entriesOf a) p) (levelsAt (a .run .records) p));
           rest = a .run .rest;
         };
         store = a .store;

@@ -7,12 +7,12 @@ ghost use lib.ListN.{length, getD};
 ghost use Rattle.area.specs.Records.{recordsOf, runOf, stored, heldIn, levelsOf};
 ghost use Rattle.area.specs.Encoding.{none, placeOf};
 ghost use Rattle.quadrature.specs.Readings.{recordAt};
-ghost use Rattle.writing.specs.Changes.{restated, relinked, newLinks, namedFrom, appended};
+ghost use Rattle.writing.specs.Changes.{withState, withForwardLink, newLinks, namedFrom, appended};
 
 // Gives the record at a place another state and indicator.
-pub fn restate(place: usize, state: u32, indicator: u32, cells: &mut [u32])
+pub fn set_state(place: usize, state: u32, indicator: u32, cells: &mut [u32])
     requires { ⌜ place * 27 + 27 ≤ length (now cells) ⌝ }
-    ensures { λ r. ⌜ runOf (now (cells .exit)) ≡ stored (runOf (now (cells .entry))) place (restated (recordAt (recordsOf (now (cells .entry))) place) state indicator) ⌝ }
+    ensures { λ r. ⌜ runOf (now (cells .exit)) ≡ stored (runOf (now (cells .entry))) place (withState (recordAt (recordsOf (now (cells .entry))) place) state indicator) ⌝ }
 {
     let mut index = area::load(cells, place);
     index.state = state;
@@ -23,7 +23,7 @@ pub fn restate(place: usize, state: u32, indicator: u32, cells: &mut [u32])
 // Gives the record at a place another forward link along an axis.
 fn link_forward(place: usize, axis: usize, to: u32, cells: &mut [u32])
     requires { ⌜ (place * 27 + 27 ≤ length (now cells)) × (axis < 8) ⌝ }
-    ensures { λ r. ⌜ runOf (now (cells .exit)) ≡ stored (runOf (now (cells .entry))) place (relinked (recordAt (recordsOf (now (cells .entry))) place) axis to) ⌝ }
+    ensures { λ r. ⌜ runOf (now (cells .exit)) ≡ stored (runOf (now (cells .entry))) place (withForwardLink (recordAt (recordsOf (now (cells .entry))) place) axis to) ⌝ }
 {
     let mut index = area::load(cells, place);
     let mut links = index.links;

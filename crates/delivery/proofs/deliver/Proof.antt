@@ -1,4 +1,4 @@
--- `delivery::deliver` meets its contract: the block is stored, the record restated, and the difference worked from what is then there. Assumes nothing.
+-- `delivery::deliver` meets its contract: the block is stored, the record given its state, and the difference worked from what is then there. Assumes nothing.
 use borrow.Author.Needs.{needs, sfits-of}
 use mathlib.Core.Path.{_≡_, refl, sym, ap, _∙_, subst}
 use mathlib.Core.Bool.{true}
@@ -26,7 +26,7 @@ use Rattle.machine.specs.Log.{firstWanted, wantedIndex}
 use Rattle.machine.specs.Steps.{deliverAt}
 use Rattle.machine.specs.Areas.{deliverOn}
 use Rattle.machine.specs.Causes.{inRange}
-use Rattle.writing.specs.Changes.{restated}
+use Rattle.writing.specs.Changes.{withState}
 use Rattle.writing.specs.ValidArea.{ValidArea}
 use Rattle.delivery.proofs.Delivering.{held-there, block-there, pending-fits, mean-fits, ready, difference-is, area-is, valid-after}
 use Rattle.delivery.proofs.deliver.Statement.{statement}
@@ -45,9 +45,9 @@ module _ (j : JobRecord) (c : List ℕ) (s rs : List ℤ) (i place : ℕ) (valid
   block-room f e = rw (e, is) (block-there j c s rs i valid wanted-first whole range)
 
   module _ (c₁ : List ℕ) (s₁ : List ℤ) (f : ℕ) (first : f ≡ recordAt (recordsOf c) place .first)
-      (run : runOf c₁ ≡ stored (runOf c) place (restated (recordAt (recordsOf c) place) 1 i)) (store : s₁ ≡ sets s f rs) where
-    run-first : runOf c₁ ≡ stored (runOf c) (firstWanted (entriesOf (areaOf j c s))) (restated (recordAt (recordsOf c) (firstWanted (entriesOf (areaOf j c s)))) 1 i)
-    run-first = run ∙ ap (λ p. stored (runOf c) p (restated (recordAt (recordsOf c) p) 1 i)) is
+      (run : runOf c₁ ≡ stored (runOf c) place (withState (recordAt (recordsOf c) place) 1 i)) (store : s₁ ≡ sets s f rs) where
+    run-first : runOf c₁ ≡ stored (runOf c) (firstWanted (entriesOf (areaOf j c s))) (withState (recordAt (recordsOf c) (firstWanted (entriesOf (areaOf j c s)))) 1 i)
+    run-first = run ∙ ap (λ p. stored (runOf c) p (withState (recordAt (recordsOf c) p) 1 i)) is
 
     store-first : s₁ ≡ sets s (recordAt (recordsOf c) (firstWanted (entriesOf (areaOf j c s))) .first) rs
     store-first = store ∙ ap (λ x. sets s x rs) (first ∙ ap (λ p. recordAt (recordsOf c) p .first) is)
@@ -90,19 +90,19 @@ put-readings-requires c κs =
     block-room (s .args .job) (now (s .args .cells)) (now (s .args .store)) (now (s .args .readings)) (s .args .indicator) (s .args .place) (s .pre .0 .0) (s .pre .0 .1) (s .pre .0 .2) (s .pre .1 .0) (s .pre .1 .1)
     (c .before .first-at .result) (c .before .first-at .ensures)
 
-restate-requires : tie.Need-restate-requires
-restate-requires c κs = let s = c .before .before .before .before .before .before .before .before in room (s .args .job) (now (s .args .cells)) (now (s .args .store)) (now (s .args .readings)) (s .args .indicator) (s .args .place) (s .pre .0 .0) (s .pre .0 .1) (s .pre .0 .2) (s .pre .1 .0) (s .pre .1 .1)
+set-state-requires : tie.Need-set-state-requires
+set-state-requires c κs = let s = c .before .before .before .before .before .before .before .before in room (s .args .job) (now (s .args .cells)) (now (s .args .store)) (now (s .args .readings)) (s .args .indicator) (s .args .place) (s .pre .0 .0) (s .pre .0 .1) (s .pre .0 .2) (s .pre .1 .0) (s .pre .1 .1)
 
 levels-at-requires : tie.Need-levels-at-requires
 levels-at-requires c κs =
     let s = c .before .before .before .before .before .before .before .before .before .before .before .before in
-    omega (arith, c .before .before .before .restate .kept .1 .1 .1 .0, room (s .args .job) (now (s .args .cells)) (now (s .args .store)) (now (s .args .readings)) (s .args .indicator) (s .args .place) (s .pre .0 .0) (s .pre .0 .1) (s .pre .0 .2) (s .pre .1 .0) (s .pre .1 .1))
+    omega (arith, c .before .before .before .set-state .kept .1 .1 .1 .0, room (s .args .job) (now (s .args .cells)) (now (s .args .store)) (now (s .args .readings)) (s .args .indicator) (s .args .place) (s .pre .0 .0) (s .pre .0 .1) (s .pre .0 .2) (s .pre .1 .0) (s .pre .1 .1))
 
 scaled-difference-requires : tie.Need-scaled-difference-requires
 scaled-difference-requires c κs =
     let s = c .before .before .before .before .before .before .before .before .before .before .before .before .before .before .before in
     ready-at (s .args .job) (now (s .args .cells)) (now (s .args .store)) (now (s .args .readings)) (s .args .indicator) (s .args .place) (s .pre .0 .0) (s .pre .0 .1) (s .pre .0 .2) (s .pre .1 .0) (s .pre .1 .1)
-    (c .before .before .before .before .before .before .restate .last .1 .1 .1 .0) (c .before .before .before .before .before .before .before .before .before .put-readings .last .1 .1 .0) (c .before .before .before .before .before .before .before .before .before .before .before .first-at .result) (c .before .before .before .before .before .before .before .before .before .before .before .first-at .ensures) (c .before .before .before .before .before .before .restate .ensures) (c .before .before .before .before .before .before .before .before .before .put-readings .ensures)
+    (c .before .before .before .before .before .before .set-state .last .1 .1 .1 .0) (c .before .before .before .before .before .before .before .before .before .put-readings .last .1 .1 .0) (c .before .before .before .before .before .before .before .before .before .before .before .first-at .result) (c .before .before .before .before .before .before .before .before .before .before .before .first-at .ensures) (c .before .before .before .before .before .before .set-state .ensures) (c .before .before .before .before .before .before .before .before .before .put-readings .ensures)
     (c .before .before .levels-at .result) (c .before .before .levels-at .ensures)
 
 add-after : tie.Need-add-after
@@ -116,7 +116,7 @@ add-after-2 c =
     let x = c .before .before .before .scaled-difference .result in
     let m = s .args .job .mean in
     sum-fits m x (m +ℤ x) (sfits-of (c .struct-told .given .1 .1 .1 .1 .0 .1)) (sfits-of (c .before .before .before .scaled-difference .ok)) refl
-    (mean-small (s .args .job) (now (s .args .cells)) (now (s .args .store)) (now (s .args .readings)) (s .args .indicator) (s .args .place) (s .pre .0 .0) (s .pre .0 .1) (s .pre .0 .2) (s .pre .1 .0) (s .pre .1 .1) (c .before .before .before .before .before .before .before .before .before .before .restate .last .1 .1 .1 .0) (c .before .before .before .before .before .before .before .before .before .before .before .before .before .put-readings .last .1 .1 .0) (c .before .before .before .before .before .before .before .before .before .before .before .before .before .before .before .first-at .result) (c .before .before .before .before .before .before .before .before .before .before .before .before .before .before .before .first-at .ensures) (c .before .before .before .before .before .before .before .before .before .before .restate .ensures) (c .before .before .before .before .before .before .before .before .before .before .before .before .before .put-readings .ensures) x (c .before .before .before .scaled-difference .ensures .1))
+    (mean-small (s .args .job) (now (s .args .cells)) (now (s .args .store)) (now (s .args .readings)) (s .args .indicator) (s .args .place) (s .pre .0 .0) (s .pre .0 .1) (s .pre .0 .2) (s .pre .1 .0) (s .pre .1 .1) (c .before .before .before .before .before .before .before .before .before .before .set-state .last .1 .1 .1 .0) (c .before .before .before .before .before .before .before .before .before .before .before .before .before .put-readings .last .1 .1 .0) (c .before .before .before .before .before .before .before .before .before .before .before .before .before .before .before .first-at .result) (c .before .before .before .before .before .before .before .before .before .before .before .before .before .before .before .first-at .ensures) (c .before .before .before .before .before .before .before .before .before .before .set-state .ensures) (c .before .before .before .before .before .before .before .before .before .before .before .before .before .put-readings .ensures) x (c .before .before .before .scaled-difference .ensures .1))
 
 same-length : tie.Need-same-length
 same-length c = search needs
@@ -131,9 +131,9 @@ returns c =
     let m = s .args .job .mean in
     let sum =
     sum-is m x (m +ℤ x) (sfits-of (c .struct-told .given .1 .1 .1 .1 .0 .1)) (sfits-of (c .before .before .before .scaled-difference .ok)) refl
-    (mean-small (s .args .job) (now (s .args .cells)) (now (s .args .store)) (now (s .args .readings)) (s .args .indicator) (s .args .place) (s .pre .0 .0) (s .pre .0 .1) (s .pre .0 .2) (s .pre .1 .0) (s .pre .1 .1) (c .before .before .before .before .before .before .before .before .before .before .restate .last .1 .1 .1 .0) (c .before .before .before .before .before .before .before .before .before .before .before .before .before .put-readings .last .1 .1 .0) (c .before .before .before .before .before .before .before .before .before .before .before .before .before .before .before .first-at .result) (c .before .before .before .before .before .before .before .before .before .before .before .before .before .before .before .first-at .ensures) (c .before .before .before .before .before .before .before .before .before .before .restate .ensures) (c .before .before .before .before .before .before .before .before .before .before .before .before .before .put-readings .ensures) x (c .before .before .before .scaled-difference .ensures .1)) in
-    let difference = difference-at (s .args .job) (now (s .args .cells)) (now (s .args .store)) (now (s .args .readings)) (s .args .indicator) (s .args .place) (s .pre .0 .0) (s .pre .0 .1) (s .pre .0 .2) (s .pre .1 .0) (s .pre .1 .1) (c .before .before .before .before .before .before .before .before .before .before .restate .last .1 .1 .1 .0) (c .before .before .before .before .before .before .before .before .before .before .before .before .before .put-readings .last .1 .1 .0) (c .before .before .before .before .before .before .before .before .before .before .before .before .before .before .before .first-at .result) (c .before .before .before .before .before .before .before .before .before .before .before .before .before .before .before .first-at .ensures) (c .before .before .before .before .before .before .before .before .before .before .restate .ensures) (c .before .before .before .before .before .before .before .before .before .before .before .before .before .put-readings .ensures) (c .before .before .before .before .before .before .levels-at .result) x (c .before .before .before .before .before .before .levels-at .ensures) (c .before .before .before .scaled-difference .ensures .0) in
-    area-and-valid (s .args .job) (now (s .args .cells)) (now (s .args .store)) (now (s .args .readings)) (s .args .indicator) (s .args .place) (s .pre .0 .0) (s .pre .0 .1) (s .pre .0 .2) (s .pre .1 .0) (s .pre .1 .1) (c .before .before .before .before .before .before .before .before .before .before .restate .last .1 .1 .1 .0) (c .before .before .before .before .before .before .before .before .before .before .before .before .before .put-readings .last .1 .1 .0) (c .before .before .before .before .before .before .before .before .before .before .before .before .before .before .before .first-at .result) (c .before .before .before .before .before .before .before .before .before .before .before .before .before .before .before .first-at .ensures) (c .before .before .before .before .before .before .before .before .before .before .restate .ensures) (c .before .before .before .before .before .before .before .before .before .before .before .before .before .put-readings .ensures) (toZ w64 (ofZ w64 (toZ w64 (ofZ w64 m) +ℤ toZ w64 (ofZ w64 x)))) (sum ∙ ap (λ d. m +ℤ d) difference)
+    (mean-small (s .args .job) (now (s .args .cells)) (now (s .args .store)) (now (s .args .readings)) (s .args .indicator) (s .args .place) (s .pre .0 .0) (s .pre .0 .1) (s .pre .0 .2) (s .pre .1 .0) (s .pre .1 .1) (c .before .before .before .before .before .before .before .before .before .before .set-state .last .1 .1 .1 .0) (c .before .before .before .before .before .before .before .before .before .before .before .before .before .put-readings .last .1 .1 .0) (c .before .before .before .before .before .before .before .before .before .before .before .before .before .before .before .first-at .result) (c .before .before .before .before .before .before .before .before .before .before .before .before .before .before .before .first-at .ensures) (c .before .before .before .before .before .before .before .before .before .before .set-state .ensures) (c .before .before .before .before .before .before .before .before .before .before .before .before .before .put-readings .ensures) x (c .before .before .before .scaled-difference .ensures .1)) in
+    let difference = difference-at (s .args .job) (now (s .args .cells)) (now (s .args .store)) (now (s .args .readings)) (s .args .indicator) (s .args .place) (s .pre .0 .0) (s .pre .0 .1) (s .pre .0 .2) (s .pre .1 .0) (s .pre .1 .1) (c .before .before .before .before .before .before .before .before .before .before .set-state .last .1 .1 .1 .0) (c .before .before .before .before .before .before .before .before .before .before .before .before .before .put-readings .last .1 .1 .0) (c .before .before .before .before .before .before .before .before .before .before .before .before .before .before .before .first-at .result) (c .before .before .before .before .before .before .before .before .before .before .before .before .before .before .before .first-at .ensures) (c .before .before .before .before .before .before .before .before .before .before .set-state .ensures) (c .before .before .before .before .before .before .before .before .before .before .before .before .before .put-readings .ensures) (c .before .before .before .before .before .before .levels-at .result) x (c .before .before .before .before .before .before .levels-at .ensures) (c .before .before .before .scaled-difference .ensures .0) in
+    area-and-valid (s .args .job) (now (s .args .cells)) (now (s .args .store)) (now (s .args .readings)) (s .args .indicator) (s .args .place) (s .pre .0 .0) (s .pre .0 .1) (s .pre .0 .2) (s .pre .1 .0) (s .pre .1 .1) (c .before .before .before .before .before .before .before .before .before .before .set-state .last .1 .1 .1 .0) (c .before .before .before .before .before .before .before .before .before .before .before .before .before .put-readings .last .1 .1 .0) (c .before .before .before .before .before .before .before .before .before .before .before .before .before .before .before .first-at .result) (c .before .before .before .before .before .before .before .before .before .before .before .before .before .before .before .first-at .ensures) (c .before .before .before .before .before .before .before .before .before .before .set-state .ensures) (c .before .before .before .before .before .before .before .before .before .before .before .before .before .put-readings .ensures) (toZ w64 (ofZ w64 (toZ w64 (ofZ w64 m) +ℤ toZ w64 (ofZ w64 x)))) (sum ∙ ap (λ d. m +ℤ d) difference)
 
 pub deliver-spec : {M : Type 1} → statement M
 deliver-spec =
@@ -143,7 +143,7 @@ deliver-spec =
     first-at-requires
     cast-first
     put-readings-requires
-    restate-requires
+    set-state-requires
     levels-at-requires
     scaled-difference-requires
     add-after

@@ -19,7 +19,7 @@ use Rattle.area.specs.declared.IndexRecord.{IndexRecord}
 use Rattle.quadrature.proofs.Held.{held-length, held-record}
 use Rattle.soundness.specs.Test.{allFrom}
 use Rattle.soundness.proofs.Exactly.{all-go, all-stop, all-end}
-use Rattle.machine.specs.Promote.{retire, isOld, backwardOld, admits}
+use Rattle.machine.specs.Promote.{makeOld, isOld, backwardOld, admits}
 use Rattle.promotion.specs.Marks.{marksOf, Searchable}
 use Rattle.promotion.proofs.Marks.{SoFar, so-far-start, so-far-skip, so-far-put, so-far-end}
 use Rattle.promotion.proofs.Admits.{no-neighbour, neighbour-old, past-ceiling, by-neighbours}
@@ -27,7 +27,7 @@ use Rattle.promotion.proofs.admitted.Statement.{statement}
 use Rattle.promotion.proofs.admitted.Tie as tie
 
 abbrev refinedEntries : List ℕ → ℕ → ℕ → List Entry
-refinedEntries cells held refined = retire (headsOf (heldIn cells held)) refined
+refinedEntries cells held refined = makeOld (headsOf (heldIn cells held)) refined
 
 -- the levels that were read are the record's among the held
 held-levels : (cells : List ℕ) (held refined : ℕ) (levels : List ℕ) → held * 27 ≤ length cells → refined < held → levels ≡ recordAt (recordsOf cells) refined .levels

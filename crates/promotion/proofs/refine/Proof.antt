@@ -84,8 +84,8 @@ indicator-at-requires c κs =
     let s = c .before .before .before .before .before .before .before .before .before .before .before .before .before .before .before in
     place-inside (refinable (s .args .job) (now (s .args .cells)) (now (s .args .store)) (s .args .place) (s .pre .0) (s .pre .1))
 
-restate-requires : tie.Need-restate-requires
-restate-requires c κs =
+set-state-requires : tie.Need-set-state-requires
+set-state-requires c κs =
     let s = c .before .before .before .before .before .before .before .before .before .before .before .before .before .before .before .before .before in
     place-inside (refinable (s .args .job) (now (s .args .cells)) (now (s .args .store)) (s .args .place) (s .pre .0) (s .pre .1))
 
@@ -102,7 +102,7 @@ append-marked-requires c κs =
     let n = c .before .before .before .before .before .before .before .before .before .before .before .marked-count in
     let z = c .before .before .before .before .before .before .before .before .before .before .marked-sizes in
     let v : Counted (s .args .job) (l .result) (m .result) (n .result) (z .result) = record { count-is = n .ensures .0; sizes-are = z .ensures .0 } in
-    let e = c .before .before .before .before .restate in
+    let e = c .before .before .before .before .set-state in
     (marks-ask t u, append-asks t u v (length (e .last .1 .1 .1 .0)) (c .before .readings-for .result) (e .kept .1 .1 .1 .0) (c .before .readings-for .ensures) (c .before .before .before .before .before .before .before .before .before .if1 .left) (c .before .before .before .before .before .before .before .before .if2 .left))
 
 add-after : tie.Need-add-after
@@ -142,10 +142,10 @@ returns-3 c =
     let few = c .before .before .before .before .before .before .before .before .before .before .before .before .before .if1 .left in
     let within = c .before .before .before .before .before .before .before .before .before .before .before .before .if2 .left in
     let i = c .before .before .before .before .before .before .before .before .before .before .indicator-at in
-    let e = c .before .before .before .before .before .before .before .before .restate in
+    let e = c .before .before .before .before .before .before .before .before .set-state in
     let f = c .before .before .before .append-marked in
     let w : Changed (s .args .job) (now (s .args .cells)) (s .args .place) (l .result) (m .result) (i .result) (c .before .before .before .before .before .readings-for .result) (e .last .1 .1 .1 .0) (f .last .1 .1 .1 .1 .1 .1 .0) =
-    record { first-is = c .before .before .before .before .before .readings-for .ensures; indicator-is = i .ensures; restated-is = e .ensures; appended-is = f .ensures } in
+    record { first-is = c .before .before .before .before .before .readings-for .ensures; indicator-is = i .ensures; withState-is = e .ensures; appended-is = f .ensures } in
     (promoted-is t u v few within w, promoted-valid t u v few within w)
 
 pub refine-spec : {M : Type 1} → statement M
@@ -167,7 +167,7 @@ refine-spec =
     same-length-2
     returns-2
     indicator-at-requires
-    restate-requires
+    set-state-requires
     readings-for-requires
     append-marked-requires
     add-after

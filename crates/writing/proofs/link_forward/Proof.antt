@@ -6,7 +6,7 @@ use denote.Ref.{now}
 use lib.ListN.{set}
 use Rattle.area.specs.declared.IndexRecord.{IndexRecord}
 use Rattle.area.specs.Records.{runOf, stored}
-use Rattle.writing.specs.Changes.{relinked}
+use Rattle.writing.specs.Changes.{withForwardLink}
 use Rattle.writing.proofs.link_forward.Statement.{statement}
 use Rattle.writing.proofs.link_forward.Tie as tie
 
@@ -26,7 +26,7 @@ same-length : tie.Need-same-length
 same-length c = search needs
 
 returns : tie.Need-returns
-unfolding relinked
+unfolding withForwardLink
 returns c =
     let s = c .before .before .before .before .before .before .before .before in
     c .before .before .store .ensures

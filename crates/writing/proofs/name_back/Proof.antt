@@ -12,7 +12,7 @@ use Rattle.area.specs.Records.{Run, recordsOf, runOf, stored}
 use Rattle.area.specs.Encoding.{none}
 use Rattle.area.proofs.Records.{length-recordsOf}
 use Rattle.quadrature.specs.Readings.{recordAt}
-use Rattle.writing.specs.Changes.{relinked, namedFrom}
+use Rattle.writing.specs.Changes.{withForwardLink, namedFrom}
 use Rattle.writing.proofs.Linking.{named-none, named-one, named-end}
 use Rattle.writing.proofs.name_back.Statement.{statement}
 use Rattle.writing.proofs.name_back.Tie as tie
@@ -71,7 +71,7 @@ loop-again c =
     let l = c .before .before .loop in
     let links = s .args .t2 in
     let behind = getD links (8 + l .axis) 0 in
-    let r = relinked (recordAt (recordsOf (l .cells)) behind) (l .axis) (s .args .held) in
+    let r = withForwardLink (recordAt (recordsOf (l .cells)) behind) (l .axis) (s .args .held) in
     ⊎-elim
     (λ w. (
       omega arith,

@@ -1,0 +1,61 @@
+-- The log's step, call by call.
+-- The idea: read the row off.
+-- Assumes nothing.
+use mathlib.Core.Path.{_≡_, refl, ap, sym, _∙_}
+use mathlib.Core.Bool.{Bool, true, false, cond}
+use borrow.Author.Tests.{eqb-true, eqb-false, ne-eqb}
+use lib.Dec.{eqb}
+use Rattle.area.specs.Log.{Log, Machine}
+use Rattle.machine.specs.Promote as rule
+use Rattle.machine.specs.Steps as steps
+use Rattle.calls.specs.Table.{Call, start, point, deliver, promote, result, crossTotal, check, unchanged, row, effectOf, refusal, changed, stateAfter}
+use Rattle.calls.proofs.Outcomes.{same-log}
+use Rattle.calls.proofs.Rows.{promote-effect}
+use Rattle.history.specs.LentCalls.{LentCall, lengthsLent}
+use Rattle.history.specs.Logged.{stateOf, refusalBy, logStep, AcceptedBy, LogFacts}
+
+-- the step of a call that is known
+step-of : (l : Log) (x : LentCall) (c : Call) → x .call ≡ c → logStep l x ≡ stateAfter (lengthsLent (x .part)) true (stateOf l) c .log
+unfolding logStep
+step-of l x c is = ap (λ (d : Call). stateAfter (lengthsLent (x .part)) true (stateOf l) d .log) is
+
+accepted-step : (l : Log) (x : LentCall) (c : Call) → x .call ≡ c → AcceptedBy l x → logStep l x ≡ changed (stateOf l) (effectOf (stateOf l) (row c)) .log
+unfolding stateAfter stateOf
+accepted-step l x c is none = step-of l x c is ∙ rw (ap (refusalBy (lengthsLent (x .part)) l) (sym is) ∙ none) refl
+
+-- whether it is refused or not, a state that does not change stays
+same : (t : Bool) (m : Machine) → cond t m m .log ≡ m .log
+same true m = refl
+same false m = refl
+
+looks-only : (l : Log) (x : LentCall) (c : Call) → x .call ≡ c → effectOf (stateOf l) (row c) ≡ unchanged → logStep l x ≡ l
+unfolding stateAfter changed stateOf
+looks-only l x c is e = step-of l x c is ∙ rw e (same (eqb (refusal (lengthsLent (x .part)) true l c) 0) (stateOf l))
+
+refused-step : (l : Log) (x : LentCall) → (AcceptedBy l x → ⊥) → logStep l x ≡ l
+unfolding logStep stateAfter stateOf
+refused-step l x f = ap (λ (t : Bool). cond t (changed (stateOf l) (effectOf (stateOf l) (row (x .call)))) (stateOf l) .log) (ne-eqb (refusalBy (lengthsLent (x .part)) l (x .call)) 0 f)
+
+promote-accepted : (l : Log) (x : LentCall) → x .call ≡ promote → AcceptedBy l x → logStep l x ≡ rule.promote l .log
+promote-accepted l x is none = accepted-step l x promote is none ∙ ap (λ (m : Machine). m .log) (promote-effect (stateOf l)) ∙ unfold steps.promoteStep stateOf in refl
+
+promote-idle : (l : Log) (x : LentCall) → x .call ≡ promote → (rule.promote l .outcome ≡ rule.promoted → ⊥) → logStep l x ≡ l
+promote-idle l x is n = split (eqb (refusalBy (lengthsLent (x .part)) l (x .call)) 0) refl
+  where
+    split : (t : Bool) → eqb (refusalBy (lengthsLent (x .part)) l (x .call)) 0 ≡ t → logStep l x ≡ l
+    split true e = promote-accepted l x is (eqb-true (refusalBy (lengthsLent (x .part)) l (x .call)) 0 e) ∙ same-log l n
+    split false e = refused-step l x (eqb-false (refusalBy (lengthsLent (x .part)) l (x .call)) 0 e)
+
+pub log-facts : LogFacts
+log-facts =
+    record {
+      accepted-start = λ l x g is none. accepted-step l x (start g) is none ∙ unfold effectOf row changed steps.started in refl;
+      accepted-deliver = λ l x rs i is none. accepted-step l x (deliver rs i) is none ∙ unfold effectOf row changed steps.deliver stateOf in refl;
+      accepted-promote = promote-accepted;
+      idle-promote = promote-idle;
+      after-point = λ l x n buffer is. looks-only l x (point n buffer) is (unfold effectOf row in refl);
+      after-result = λ l x is. looks-only l x result is (unfold effectOf row in refl);
+      after-cross = λ l x is. looks-only l x crossTotal is (unfold effectOf row in refl);
+      after-check = λ l x is. looks-only l x check is (unfold effectOf row in refl);
+      after-refusal = refused-step;
+    }
