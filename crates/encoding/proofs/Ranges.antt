@@ -19,7 +19,7 @@ use Rattle.soundness.specs.Held.{levelsAt, sizeAt}
 use Rattle.soundness.specs.Sound.{Sound}
 use Rattle.soundness.proofs.Sizes.{reserved-sum, count-below}
 
-delivered-few : (es : List Entry) → length (deliveredOf es) ≤ length es
+pub delivered-few : (es : List Entry) → length (deliveredOf es) ≤ length es
 unfolding deliveredOf
 delivered-few [] = omega arith
 delivered-few (e ∷ es) = step (leb 1 (e .state)) (delivered-few es)

@@ -113,7 +113,7 @@ module _ (w : Storage) (m : Machine) (h : Holds w m) where
 
 -- ---- an accepted start
 
-accepted-start : (a : Area) (g : Settings) → callOn a (start g) .answer ≡ answer accepted → firstCause (startCauses (lengthsOf a) g) ≡ 0
+pub accepted-start : (a : Area) (g : Settings) → callOn a (start g) .answer ≡ answer accepted → firstCause (startCauses (lengthsOf a) g) ≡ 0
 unfolding refusal causesOf row
 accepted-start a g e = no-cause a (start g) (λ n f. let same : accepted ≡ refused n = sym (ap (λ (y : Answer). y .reply) e) ∙ f in let y : _≡_ {A = ℕ} 0 1 = cc in omega arith)
 

@@ -19,3 +19,5 @@ pub mod Moments
 pub mod WellFormed
 pub mod RecordCells
 pub mod OnRecords
+pub mod WordRanges
+pub mod OnExports

@@ -45,7 +45,7 @@ not-four z l result = spared (causesOf z true l (row result)) refl
 not-four z l crossTotal = spared (causesOf z true l (row crossTotal)) refl
 not-four z l check = spared (causesOf z true l (row check)) refl
 
-one : (z : Lengths) (l : Log) (c : Call) → answerBy z l c .reply ≡ refused 4 → ⊥
+pub one : (z : Lengths) (l : Log) (c : Call) → answerBy z l c .reply ≡ refused 4 → ⊥
 unfolding answerBy answerOf stateOf
 one z l c = step (eqb (refusal z true l c) 0)
   where

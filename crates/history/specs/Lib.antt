@@ -8,5 +8,6 @@ pub mod Logged
 pub mod Storage
 pub mod Found
 pub mod OnRecords
+pub mod OnExports
 pub mod Source
 pub mod Excluded

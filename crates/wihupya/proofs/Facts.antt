@@ -19,7 +19,7 @@ use Rattle.wihupya.specs.Words.{word, wide, jobOf, lowWord, highWord, wo
 use Rattle.wihupya.specs.Facts.{WordFacts}
 
 -- a number from its words
-both : (x : ℕ) → lowWord x + highWord x * 2 ^ 32 ≡ x
+pub both : (x : ℕ) → lowWord x + highWord x * 2 ^ 32 ≡ x
 unfolding lowWord highWord
 both x = omega arith
 
