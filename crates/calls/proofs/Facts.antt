@@ -6,6 +6,7 @@ use mathlib.Core.Logic.{_⊎_, inl, inr}
 use mathlib.Core.List.{List, [], List·Memᴰ}
 use Prim.Native.Nat.{ℕ, _+_, _<_, _≤_}
 use native.Mathlib.Omega.{arith}
+use native.Mathlib.Decide.{decLt}
 use lib.IntN.{ℤ, pos}
 use lib.ListN.{length, getD, take}
 use Rattle.area.specs.declared.Settings.{Settings}
@@ -21,9 +22,9 @@ use Rattle.machine.specs.Causes.{firstCause, startCauses, pointCauses, deliverC
 use Rattle.machine.specs.Areas.{startOn, deliverOn, promoteOn}
 use Rattle.writing.specs.ValidArea.{ValidArea}
 use Rattle.calls.specs.Replies.{refused, accepted, promotion, lengthsOf}
-use Rattle.calls.specs.Table.{Call, Answer, changed, start, point, deliver, promote, result, crossTotal, check, answer, row, causesOf, effectOf, passesCheck, acceptedAnswer, refusedAnswer, refusal, stateAfter}
+use Rattle.calls.specs.Table.{Call, Answer, changed, unchanged, start, point, deliver, promote, result, crossTotal, check, answer, row, causesOf, effectOf, passesCheck, acceptedAnswer, refusedAnswer, refusal, stateAfter}
 use Rattle.calls.specs.Calls.{CallResult, areaAfter, refusalOn, callOn}
-use Rattle.calls.specs.Facts.{PastUnchanged, numbersOf, NotRefused, CallFacts}
+use Rattle.calls.specs.Facts.{PastUnchanged, numbersOf, InBlock, NotRefused, CallFacts}
 use Rattle.calls.proofs.Buffers.{laid-first, laid-length, laid-later}
 use Rattle.calls.proofs.Numbers.{cause-number, accepted-reply}
 use Rattle.calls.proofs.CauseCases.{refused-reply, call-accepts, call-ways}
@@ -209,6 +210,35 @@ module _ (a : Area) where
       outcomes (inl e) = inl cc
       outcomes (inr e) = inr cc
 
+-- ---- the store, whatever the call
+
+-- a call that only looks leaves the area
+pub looks-only : (a : Area) (c : Call) → effectOf (machineOf a) (row c) ≡ unchanged → callOn a c .area ≡ a
+unfolding areaAfter
+looks-only a c e = call-ways a c (λ (x : CallResult). x .area ≡ a) (λ none. ap (areaAfter a) e) (λ some. refl)
+
+module _ (a : Area) (n : ℕ) (well-formed : WellFormed (heldOf a)) where
+  abbrev Same : Call → Type 0
+  Same c = getD (callOn a c .area .store) n (pos 0) ≡ getD (a .store) n (pos 0)
+
+  looked : (c : Call) → effectOf (machineOf a) (row c) ≡ unchanged → Same c
+  looked c e = ap (λ (b : Area). getD (b .store) n (pos 0)) (looks-only a c e)
+
+  store : (c : Call) → (InBlock a c n → ⊥) → Same c
+  unfolding effectOf row
+  store (start g) f = ap (λ (s : List ℤ). getD s n (pos 0)) (start-store a g)
+  store (point k buffer) f = looked (point k buffer) refl
+  store (deliver rs i) f = deliver-store a rs i well-formed n (outside (decLt n (first a rs i well-formed)) (decLt n (first a rs i well-formed + length rs)))
+    where
+      outside : Dec (n < first a rs i well-formed) → Dec (n < first a rs i well-formed + length rs) → (n < first a rs i well-formed) ⊎ (first a rs i well-formed + length rs ≤ n)
+      outside (yes h) k = inl h
+      outside (no h) (yes k) = absurd (f (omega arith, k))
+      outside (no h) (no k) = inr (omega arith)
+  store promote f = ap (λ (s : List ℤ). getD s n (pos 0)) (promote-store a well-formed)
+  store result f = looked result refl
+  store crossTotal f = looked crossTotal refl
+  store check f = looked check refl
+
 pub call-facts : CallFacts
 call-facts =
     record {
@@ -222,6 +252,7 @@ call-facts =
       start-lengths = start-lengths;
       lengths = lengths;
       past = past;
+      store = λ a c n well-formed. store a n well-formed c;
       start-store = start-store;
       promote-store = promote-store;
       deliver-store = λ a rs i n well-formed. deliver-store a rs i well-formed n;

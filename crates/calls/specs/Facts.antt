@@ -38,6 +38,16 @@ numbersOf result = 3 ∷ 4 ∷ []
 numbersOf crossTotal = 3 ∷ 4 ∷ []
 numbersOf check = []
 
+-- The store element n lies in the block being delivered.
+abbrev pub InBlock : Area → Call → ℕ → Type 0
+InBlock a (start g) n = ⊥
+InBlock a (point k buffer) n = ⊥
+InBlock a (deliver rs i) n = (recordAt (heldOf a) (firstWanted (entriesOf a)) .first ≤ n) × (n < recordAt (heldOf a) (firstWanted (entriesOf a)) .first + length rs)
+InBlock a promote n = ⊥
+InBlock a result n = ⊥
+InBlock a crossTotal n = ⊥
+InBlock a check n = ⊥
+
 -- The call is not refused.
 abbrev pub NotRefused : Area → Call → Type 0
 NotRefused a c = (n : ℕ) → callOn a c .answer .reply ≡ refused n → ⊥
@@ -62,7 +72,9 @@ pub record CallFacts : Type 0 where
   pub lengths : (a : Area) (c : Call) → WellFormed (heldOf a) → lengthsOf (callOn a c .area) ≡ lengthsOf a
   -- no call writes a record past the last then held
   pub past : (a : Area) (c : Call) → PastUnchanged a (callOn a c .area)
-  -- or a store element outside the block being delivered; start and promote write none
+  -- or a store element outside the block being delivered
+  pub store : (a : Area) (c : Call) (n : ℕ) → WellFormed (heldOf a) → (InBlock a c n → ⊥) → getD (callOn a c .area .store) n (pos 0) ≡ getD (a .store) n (pos 0)
+  -- so start and promote write none
   pub start-store : (a : Area) (g : Settings) → callOn a (start g) .area .store ≡ a .store
   pub promote-store : (a : Area) → WellFormed (heldOf a) → callOn a promote .area .store ≡ a .store
   pub deliver-store : (a : Area) (rs : List ℤ) (i n : ℕ) → WellFormed (heldOf a)

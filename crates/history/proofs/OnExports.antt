@@ -26,7 +26,8 @@ use Rattle.machine.specs.Means.{crossOf}
 use Rattle.calls.specs.Replies.{Reply, refused, accepted, promotion, counts, total, verdict}
 use Rattle.calls.specs.Table as table
 use Rattle.calls.specs.Table.{Call, Answer, answer, row, effectOf, acceptedAnswer}
-use Rattle.calls.specs.Calls.{CallResult, areaAfter, refusalOn, callOn}
+use Rattle.calls.specs.Calls.{CallResult, refusalOn, callOn}
+use Rattle.calls.proofs.Facts.{looks-only}
 use Rattle.calls.proofs.CauseCases.{call-ways, refused-reply}
 use Rattle.wihupya.specs.Words.{jobOf, lowWord, highWord, wordsOf}
 use Rattle.wihupya.specs.Exports.{numberOf, countsAfter, totalAfter}
@@ -46,11 +47,6 @@ use Rattle.history.proofs.Demand.{accepted-start, found}
 use Rattle.history.proofs.WordRanges.{InRange, reads-back, started-range, step-range}
 
 -- ---- the words after one call
-
--- a call that only looks leaves the area
-looks-only : (a : Area) (c : Call) → effectOf (machineOf a) (row c) ≡ table.unchanged → callOn a c .area ≡ a
-unfolding areaAfter
-looks-only a c e = call-ways a c (λ (x : CallResult). x .area ≡ a) (λ none. ap (areaAfter a) e) (λ some. refl)
 
 -- the words after the call are those of the job record after it
 module _ (w : ExportStorage) (x : LentExport) where

@@ -17,7 +17,8 @@ use Rattle.calls.specs.Table.{Answer}
 use Rattle.calls.specs.Calls.{CallResult, callOn}
 use Rattle.history.specs.Storage.{Storage, areaLent, Lent, AllLent, returned, callIn, storageStep, storageAfter, answersOf}
 use Rattle.history.specs.OnRecords.{RecordStorage, RecordPart, RecordCall, inCells, callInCells, recordsLent, LentRecords, AllLentRecords, callInRecords, recordsReturned, recordsStep, recordsAfter, recordsAnswers}
-use Rattle.history.proofs.WellFormed.{well-formed-take, well-formed-drop, well-formed-append, Leaves, call-leaves}
+use Rattle.records.proofs.WellFormed.{well-formed-take, well-formed-drop, well-formed-append}
+use Rattle.history.proofs.WellFormed.{Leaves, call-leaves}
 
 -- ---- the cells of records
 

@@ -113,7 +113,7 @@ pub record RecordsDemand (w : RecordStorage) (first : RecordCall) (later : List 
   pub found : RecordsFound (recordsAfter w (first ∷ later)) (logAfter (startLog g) (map callInCells later))
 
 -- The third demand over lent records, whatever they hold. Every record of the struct's type has eight levels and sixteen links (crate
--- `records`, proofs/Typed.antt), so that is asked of the list.
+-- `records`, specs/Unwritten.antt, `RecordTyped`), so that is asked of the list.
 abbrev pub ThirdDemandOnRecords : Type 0
 ThirdDemandOnRecords = (w : RecordStorage) (first : RecordCall) (later : List RecordCall) (g : Settings) → WellFormed (w .records) → AllLentRecords w (first ∷ later)
     → first .call ≡ start g → callOn (recordsLent w (first .part)) (start g) .answer ≡ answer accepted → RecordsDemand w first later g

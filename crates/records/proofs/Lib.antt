@@ -14,3 +14,5 @@ pub mod Flattening
 pub mod Reading
 pub mod Writing
 pub mod Facts
+pub mod WellFormed
+pub mod Unwritten

@@ -1,0 +1,35 @@
+-- What no call writes: a record past the last then held, the cells past the last record, and a store element outside the block being
+-- delivered. Over lent cells and over lent record structs, whatever they hold.
+use mathlib.Core.Path.{_≡_}
+use mathlib.Core.List.{List, [], _∷_}
+use Prim.Native.Nat.{ℕ}
+use lib.IntN.{ℤ, pos}
+use lib.ListN.{length, getD}
+use mir.Val.{Val}
+use denote.Laws.{Is}
+use Rattle.area.specs.declared.IndexRecord.{IndexRecord}
+use Rattle.area.specs.declared.JobRecord.{JobRecord}
+use Rattle.area.specs.Encoding.{areaOf}
+use Rattle.area.proofs.IndexRecord as typed
+use Rattle.encoding.specs.Encodes.{WellFormed}
+use Rattle.calls.specs.Table.{Call}
+use Rattle.calls.specs.Calls.{callOn}
+use Rattle.calls.specs.Facts.{PastUnchanged, InBlock}
+use Rattle.records.specs.Lent.{areaOn}
+
+-- A value of the struct's type, as the language has it in memory, has eight levels and sixteen links. So the records that a caller lends are
+-- well-formed, and `WellFormed` asks nothing of a caller.
+abbrev pub RecordTyped : Type 0
+RecordTyped = (r : IndexRecord) (v : Val) → Is typed.the-row r (v ∷ []) → (length (r .levels) ≡ 8) × (length (r .links) ≡ 16)
+
+pub record Unwritten : Type 0 where
+  -- over lent cells
+  pub cells-past : (j : JobRecord) (cells : List ℕ) (s : List ℤ) (c : Call) → PastUnchanged (areaOf j cells s) (callOn (areaOf j cells s) c .area)
+  pub cells-store : (j : JobRecord) (cells : List ℕ) (s : List ℤ) (c : Call) (n : ℕ) → (InBlock (areaOf j cells s) c n → ⊥)
+      → getD (callOn (areaOf j cells s) c .area .store) n (pos 0) ≡ getD s n (pos 0)
+  -- over lent records
+  pub records-past : (j : JobRecord) (rs : List IndexRecord) (s : List ℤ) (c : Call) → PastUnchanged (areaOn j rs s) (callOn (areaOn j rs s) c .area)
+  pub records-store : (j : JobRecord) (rs : List IndexRecord) (s : List ℤ) (c : Call) (n : ℕ) → WellFormed rs → (InBlock (areaOn j rs s) c n → ⊥)
+      → getD (callOn (areaOn j rs s) c .area .store) n (pos 0) ≡ getD s n (pos 0)
+  -- whose records are well-formed
+  pub typed-records : RecordTyped
