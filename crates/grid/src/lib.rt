@@ -1,10 +1,9 @@
 // Indices by value: ceilings, neighbours, blocks and their points, subsets of the axes as masks.
 ghost use mathlib.Core.Path.{_≡_};
 ghost use Prim.Native.Nat.{_≤_, _<_};
-ghost use lib.ListN.{set};
 ghost use Rattle.grid.specs.Index.{level, excess, Within, within, forward, backward, cappedAxes};
 ghost use Rattle.grid.specs.Block.{blockSize, pointOf};
-ghost use Rattle.grid.specs.Coefficient.{sign, raisedOn, marks};
+ghost use Rattle.grid.specs.Coefficient.{sign, marks};
 
 // The excess of an index within the ceilings.
 pub fn excess_of(levels: [u32; 8]) -> u32
@@ -126,20 +125,4 @@ pub fn subset_sign(mask: u8) -> i64
         axis += 1;
     }
     if odd { -1 } else { 1 }
-}
-
-// The index raised by one on a subset.
-pub fn raised_on(levels: [u32; 8], mask: u8) -> [u32; 8]
-    requires { ⌜ Within levels ⌝ }
-    ensures { λ r. ⌜ r ≡ raisedOn levels (marks 8 mask) ⌝ }
-{
-    let mut raised = levels;
-    let mut axis: usize = 0;
-    while axis < 8 {
-        if (mask >> axis) & 1 == 1 {
-            raised[axis] += 1;
-        }
-        axis += 1;
-    }
-    raised
 }
