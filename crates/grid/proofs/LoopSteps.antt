@@ -212,7 +212,3 @@ unfolding raising
 raising-out r m a h e f =
     rw (axis-left r a (omega arith), marks-out m a h f) (unfold raisedOn in
     sym (rw (add-one a, take-suc r a 0 (omega arith)) (append-snoc (take a r) (level r a) (raisedOn (drop (suc a) r) (marks (8 - (suc a)) (m / 2 ^ (suc a)))))))
-
-pub raising-done : (r : List ℕ) (m a : ℕ) → 8 ≤ a → length r ≡ 8 → raising r m a ≡ r
-unfolding raising raisedOn
-raising-done r m a h e = rw (none-left r a (omega arith)) (append-nil (take a r) ∙ take-all a r (omega arith))

@@ -16,7 +16,7 @@ pub record WordFacts : Type 0 where
   pub words-round-trip : (w : List ℕ) → length w ≡ 10 → ((i : ℕ) → word w i < 2 ^ 32) → wordsOf (jobOf w) ≡ w
   -- a job record, written as words and read again
   pub job-round-trip : (j : JobRecord) → j .settings .threshold < 2 ^ 64 → j .pending < 2 ^ 64 → SFits w64 (j .mean) → jobOf (wordsOf j) ≡ j
-  -- so the job record that one exported call leaves in a sound area is the one that the next finds (cells are 32-bit numbers, and the
-  -- threshold comes as a 64-bit number), and what `history` says of every list of calls carries over to the exported ones
+  -- so the job record that one exported call leaves in a sound area is the one that the next finds: cells are 32-bit numbers, and the
+  -- threshold comes as a 64-bit number (crate `history`, specs/OnExports.antt, says it of every list of exported calls)
   pub sound-round-trip : (a : Area) → Sound a → a .job .settings .threshold < 2 ^ 64 → ((p : ℕ) → p < length (heldOf a) → recordAt (heldOf a) p .indicator < 2 ^ 32)
       → jobOf (wordsOf (a .job)) ≡ a .job
