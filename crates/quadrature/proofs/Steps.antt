@@ -75,13 +75,6 @@ room-below w l u a r =
     less-room (natAbs w * 2 ^ u) (newCount l) (2 ^ 20) (count-pos l a)
     (le-trans (le-of-eq (NatL.mul-assoc (natAbs w) (2 ^ u) (newCount l) ∙ ap (λ x. natAbs w * x) (NatL.mul-comm (2 ^ u) (newCount l)) ∙ sym (NatL.mul-assoc (natAbs w) (newCount l) (2 ^ u)))) r)
 
--- an axis at level 1 takes no room
-pub room-past : (k : List ℕ) (a : ℕ) (w : ℤ) → a < length k → level k a ≡ 1 → natAbs w * 2 ^ units (drop a k) ≤ 2 ^ 20
-    → natAbs w * 2 ^ units (drop (a + 1) k) ≤ 2 ^ 20
-unfolding unit
-room-past k a w h e r =
-    subst (λ u. natAbs w * 2 ^ u ≤ 2 ^ 20) (units-of k a h ∙ ap (λ x. unit x + units (drop (a + 1) k)) e ∙ NatL.zero-add (units (drop (a + 1) k))) r
-
 pub room-alone : (w : ℤ) (u : ℕ) → natAbs w * 2 ^ u ≤ 2 ^ 20 → natAbs w ≤ 2 ^ 20
 room-alone w u r = less-room (natAbs w) (2 ^ u) (2 ^ 20) (pow-pos u) r
 

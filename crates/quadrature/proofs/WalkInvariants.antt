@@ -16,7 +16,6 @@ use lib.Seq.{take-suc, take-set-le, ext-getD, getD-drop}
 use Rattle.rule.specs.Points.{newCount}
 use Rattle.grid.specs.Index.{level, root, forward, NowhereHigher}
 use Rattle.grid.specs.Block.{blockSize}
-use Rattle.grid.specs.Difference.{behind}
 use Rattle.grid.specs.Terms.{IsReading, InRange}
 use Rattle.grid.proofs.Levels.{Levels, levels-from}
 use Rattle.grid.proofs.LoopSteps.{size-pos, levels-drop}
@@ -25,7 +24,6 @@ use Rattle.area.specs.declared.IndexRecord.{IndexRecord}
 use Rattle.quadrature.specs.Readings.{recordAt, placeIn, storedReading}
 use Rattle.quadrature.specs.Ready.{Ready, WalkInvariant}
 use Rattle.quadrature.specs.Parts.{left, leftAt}
-use Rattle.quadrature.proofs.Walks.{behind-left}
 use Rattle.quadrature.proofs.Places.{place-levels, place-inside, below-none, higher-append, higher-take, size-append}
 
 -- the rank past an axis with one point
@@ -147,20 +145,6 @@ module _ {d : ℕ} {rs : List IndexRecord} {s : List ℤ} {k : List ℕ} (ready 
             ones = λ b q c. st .ones b (omega arith) c;
             in-block = subst (λ x. rank * newCount (level levels axis) + n < x) (sym size-next) (digits-lt (st .in-block) h);
           }
-
-      -- where the axis is at level 1 it has one point, and the rank stays
-      module _ (one : level levels axis ≡ 1) where
-        pub invariant-past : WalkInvariant rs k (axis + 1) place rank
-        unfolding newCount
-        invariant-past =
-            subst (λ r. WalkInvariant rs k (axis + 1) place r) (ap (λ l. rank * newCount l + 0) one ∙ rank-only rank)
-            (invariant-further 0 (subst (λ l. 0 < newCount l) (sym one) (omega arith)))
-
-        pub left-past : leftAt rs s (axis + 1) place rank ≡ behind (leftAt rs s axis place rank) 1 0
-        unfolding newCount
-        left-past =
-            sym (behind-left (storedReading rs s) (take axis levels) rank 1 0
-            ∙ ap₂ (left (storedReading rs s)) (ap (λ x. take axis levels ++ (x ∷ [])) (sym one) ∙ sym take-next) (rank-only rank))
 
     -- ---- the readings left are in range
 

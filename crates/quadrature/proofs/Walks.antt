@@ -112,15 +112,6 @@ walk-one ks R =
     +ℤ-idl (pos 1 *ℤ (pos 0 +ℤ differenceWalk ks (behind R 1 0))) ∙ one-*ℤ (pos 0 +ℤ differenceWalk ks (behind R 1 0))
     ∙ +ℤ-idl (differenceWalk ks (behind R 1 0))
 
--- so that the walk of such an axis is that of the next
-pub walk-past : (axes : ℕ) (k : List ℕ) (axis : ℕ) (R : Readings) → axes ≤ length k → axis < axes → level k axis ≡ 1
-    → walkLeft axes k axis 1 R ≡ walkLeft axes k (axis + 1) 1 (behind R 1 0)
-walk-past axes k axis R b h e =
-    walk-all axes k axis R b
-    ∙ ap (λ m. differenceWalk m R) (sym (axis-of k axis (omega arith)) ∙ ap (λ l. l ∷ drop (axis + 1) k) e)
-    ∙ walk-one (drop (axis + 1) k) R
-    ∙ sym (walk-all axes k (axis + 1) (behind R 1 0) b)
-
 -- at level 1 throughout there is one reading
 pub walk-ones : (m : ℕ) (R : Readings) → differenceWalk (replicate m 1) R ≡ R (replicate m 1) 0
 unfolding differenceWalk

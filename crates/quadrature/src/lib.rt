@@ -31,8 +31,7 @@ fn weighted_reading(place: usize, rank: usize, weight: i64, cells: &[u32], store
 }
 
 // Goes through the levels of an axis from `level` on: the record at `place` stands at that level there, and at level 1 on the later
-// axes. Past the last axis it takes the reading. An axis where the index is at level 1 has one point of weight 1, so that the walk
-// goes straight to the next. Both walks take the index by reference, so that no call copies its levels.
+// axes. Past the last axis it takes the reading. Both walks take the index by reference, so that no call copies its levels.
 fn level_walk(
     axes: usize,
     target: &[u32; 8],
@@ -51,9 +50,6 @@ fn level_walk(
 {
     if axis < axes {
         let top = target[axis];
-        if top == 1 {
-            return level_walk(axes, target, axis + 1, 1, place, rank, weight, cells, store);
-        }
         let inner = weight * rule::difference_weight(top, level);
         let here = point_walk(
             axes,

@@ -1,6 +1,5 @@
 -- The cycle of calls {level_walk, point_walk} meets its contracts. The axes, the levels and the points left give the falling number: a
--- point walk lies below the level walk that calls it, and the next axis's level walk below each point. An axis at level 1 has nothing
--- to add up: what is left there is what the next axis has left.
+-- point walk lies below the level walk that calls it, and the next axis's level walk below each point.
 -- What a call adds up is a part of the difference, of size at most 2^40, so each sum fits.
 -- Assumes nothing.
 use borrow.Author.Needs.{needs, sfits-of}
@@ -26,9 +25,9 @@ use Rattle.area.proofs.Records.{length-recordsOf}
 use Rattle.quadrature.specs.Readings.{recordAt, placeIn, storedReading}
 use Rattle.quadrature.specs.Ready.{Ready, WalkInvariant}
 use Rattle.quadrature.specs.Parts.{left, leftAt, pointsLeft, walkLeft}
-use Rattle.quadrature.proofs.Walks.{behind-left, walk-behind, walk-all, walk-past, walk-ones}
-use Rattle.quadrature.proofs.WalkInvariants.{place-in, invariant-higher, level-higher, left-higher, link-is, take-next, invariant-further, invariant-past, left-past, left-range, target-ones, left-one, reading-in, reading-range, rank-in}
-use Rattle.quadrature.proofs.Steps.{axis-of, count-small, room-points, room-weight, room-below, room-past, room-alone, level-adds, level-last, level-size, point-adds, points-last, points-bound}
+use Rattle.quadrature.proofs.Walks.{behind-left, walk-behind, walk-all, walk-ones}
+use Rattle.quadrature.proofs.WalkInvariants.{place-in, invariant-higher, level-higher, left-higher, link-is, take-next, invariant-further, left-range, target-ones, left-one, reading-in, reading-range, rank-in}
+use Rattle.quadrature.proofs.Steps.{axis-of, count-small, room-points, room-weight, room-below, room-alone, level-adds, level-last, level-size, point-adds, points-last, points-bound}
 use borrow.Fn.Kinds.{In}
 use borrow.Fn.PlainCycle.{Measures, is, falls, and}
 use Rattle.quadrature.proofs.level_walk.Reads as level-walk
@@ -76,7 +75,7 @@ point-walk-below t =
 
 -- what the calls of each ask and give
 abbrev level-calls : ℕ → level-walk-lts.Claims
-level-calls t = (level-walk-below t, level-walk.Post, difference-weight-reads.Asked, difference-weight-reads.Learnt, point-walk-below t, point-walk.Post, link-at-reads.Asked, link-at-reads.Learnt, weighted-reading-reads.Asked, weighted-reading-reads.Learnt)
+level-calls t = (difference-weight-reads.Asked, difference-weight-reads.Learnt, point-walk-below t, point-walk.Post, link-at-reads.Asked, link-at-reads.Learnt, level-walk-below t, level-walk.Post, weighted-reading-reads.Asked, weighted-reading-reads.Learnt)
 
 abbrev point-calls : ℕ → point-walk-lts.Claims
 point-calls t = (new-count-reads.Asked, new-count-reads.Learnt, level-walk-below t, level-walk.Post, point-walk-below t, point-walk.Post)
@@ -137,23 +136,6 @@ module _ (t : ℕ) (s : level-walk-lts.Start (level-calls t) (level-walk-at t) l
     high-eight : s .args .level ≤ 8
     high-eight = let h : level k (s .args .axis) ≤ 8 = ready .ceilings .high (s .args .axis) inside in let q : s .args .level ≤ level k (s .args .axis) = high in omega arith
 
-    -- where the index is at level 1 there
-    module _ (o : level k (s .args .axis) ≡ 1) where
-      level-one : s .args .level ≡ 1
-      level-one = omega (arith, low, high, o)
-
-      at-one : level levels (s .args .axis) ≡ 1
-      at-one = sym level-is ∙ level-one
-
-      past-invariant : WalkInvariant rs k (s .args .axis + 1) (s .args .place) (s .args .rank)
-      past-invariant = invariant-past ready invariant below-eight at-one
-
-      -- what is left is what the next axis has left
-      past-left : walkLeft (s .args .axes) k (s .args .axis + 1) 1 (leftAt rs store (s .args .axis + 1) (s .args .place) (s .args .rank)) ≡ walkLeft (s .args .axes) k (s .args .axis) (s .args .level) Q
-      past-left =
-          ap (λ q. walkLeft (s .args .axes) k (s .args .axis + 1) 1 q) (left-past ready invariant below-eight at-one)
-          ∙ sym (ap (λ l. walkLeft (s .args .axes) k (s .args .axis) l Q) level-one ∙ walk-past (s .args .axes) k (s .args .axis) Q (omega (arith, ready .axes, eight)) a o)
-
     abbrev v : ℤ
     v = s .args .weight *ℤ differenceWeight (level k (s .args .axis)) (s .args .level)
 
@@ -192,82 +174,57 @@ level-walk-mul-top t c = omega (arith, below-eight t (c .before .before) (c .if1
 level-walk-element-copy-out-top : (t : ℕ) → level-walk-lts.Need-element-copy-out-top (level-calls t) (level-walk-at t) level-walk.Post
 level-walk-element-copy-out-top t c = below-eight t (c .before .before) (c .if1 .taken)
 
-level-walk-add-level-walk : (t : ℕ) → level-walk-lts.Need-add-level-walk (level-calls t) (level-walk-at t) level-walk.Post
-level-walk-add-level-walk t c = omega (arith, below-eight t (c .before .before .before .before) (c .before .before .if1 .taken))
-
-level-walk-level-walk-requires : (t : ℕ) → level-walk-lts.Need-level-walk-requires (level-calls t) (level-walk-at t) level-walk.Post
-level-walk-level-walk-requires t c κs =
-    let s = c .before .before .before .before in
-    let a = c .before .before .if1 .taken in
-    let o = c .if2 .taken in
-    let less : level-left (s .args .axes) (s .args .axis + 1) 1 < t = omega (arith, s .pre .0, high-eight t s a, a) in (
-      less,
-      (
-        (ready t s, past-invariant t s a o),
-        (
-          (omega (arith, a), λ q. sym (invariant t s .ones (s .args .axis + 1) (omega arith) (omega (arith, ready t s .axes)))),
-          rw (w-back t s) (room-past (k t s) (s .args .axis) (s .args .weight) (inside t s a) o (room t s)),
-        ),
-      ),
-    )
-
-level-walk-returns : (t : ℕ) → level-walk-lts.Need-returns (level-calls t) (level-walk-at t) level-walk.Post
-level-walk-returns t c =
-    let s = c .before .before .before .before .before in
-    back (c .level-walk .result) (sfits-of (c .level-walk .ok)) ∙ c .level-walk .ensures
-    ∙ ap₂ _*ℤ_ (w-back t s) (past-left t s (c .before .before .before .if1 .taken) (c .before .if2 .taken))
-
 level-walk-difference-weight-requires : (t : ℕ) → level-walk-lts.Need-difference-weight-requires (level-calls t) (level-walk-at t) level-walk.Post
 level-walk-difference-weight-requires t c κs = tt
 
 -- after the call of `difference_weight`: v is the product of the weights
 v-is : (t : ℕ) (c : level-walk-lts.After-difference-weight (level-calls t) (level-walk-at t) level-walk.Post)
-    → toZ w64 (ofZ w64 (toZ w64 (ofZ w64 (c .before .before .before .before .before .args .weight)) *ℤ toZ w64 (ofZ w64 (c .difference-weight .result)))) ≡ v t (c .before .before .before .before .before) (c .before .before .before .if1 .taken)
+    → toZ w64 (ofZ w64 (toZ w64 (ofZ w64 (c .before .before .before .before .args .weight)) *ℤ toZ w64 (ofZ w64 (c .difference-weight .result)))) ≡ v t (c .before .before .before .before) (c .before .before .if1 .taken)
 v-is t c =
-    let s = c .before .before .before .before .before in
-    product-is (s .args .weight) (c .difference-weight .result) (differenceWeight (level (k t s) (s .args .axis)) (s .args .level)) (s .fits .weight) (sfits-of (c .difference-weight .ok)) (c .difference-weight .ensures) (v-small t s (c .before .before .before .if1 .taken))
+    let s = c .before .before .before .before in
+    product-is (s .args .weight) (c .difference-weight .result) (differenceWeight (level (k t s) (s .args .axis)) (s .args .level)) (s .fits .weight) (sfits-of (c .difference-weight .ok)) (c .difference-weight .ensures) (v-small t s (c .before .before .if1 .taken))
 
 level-walk-mul-inner : (t : ℕ) → level-walk-lts.Need-mul-inner (level-calls t) (level-walk-at t) level-walk.Post
 level-walk-mul-inner t c =
-    let s = c .before .before .before .before .before in
-    product-fits (s .args .weight) (c .difference-weight .result) (differenceWeight (level (k t s) (s .args .axis)) (s .args .level)) (s .fits .weight) (sfits-of (c .difference-weight .ok)) (c .difference-weight .ensures) (v-small t s (c .before .before .before .if1 .taken))
+    let s = c .before .before .before .before in
+    product-fits (s .args .weight) (c .difference-weight .result) (differenceWeight (level (k t s) (s .args .axis)) (s .args .level)) (s .fits .weight) (sfits-of (c .difference-weight .ok)) (c .difference-weight .ensures) (v-small t s (c .before .before .if1 .taken))
 
 level-walk-point-walk-requires : (t : ℕ) → level-walk-lts.Need-point-walk-requires (level-calls t) (level-walk-at t) level-walk.Post
 level-walk-point-walk-requires t c κs =
-    let s = c .before .before .before .before .before in
-    let a = c .before .before .before .if1 .taken in
+    let s = c .before .before .before .before in
+    let a = c .before .before .if1 .taken in
     let l = s .args .level in
     let less : point-left (s .args .axes) (s .args .axis) l 0 < t = omega (arith, count-small l (high-eight t s a), s .pre .0) in
     (less, (s .pre .1 .0, ((a, level-is t s a, count-pos l (low t s a)), rw (v-is t c) (room-v t s a))))
 
 level-walk-link-at-requires : (t : ℕ) → level-walk-lts.Need-link-at-requires (level-calls t) (level-walk-at t) level-walk.Post
 level-walk-link-at-requires t c κs =
-    let s = c .before .before .before .before .before .before .before in (
+    let s = c .before .before .before .before .before .before in (
       omega (arith, place-in (ready t s) (invariant t s), length-recordsOf (s .args .cells .now)),
-      omega (arith, below-eight t s (c .before .before .before .before .before .if1 .taken)),
+      omega (arith, below-eight t s (c .before .before .before .before .if1 .taken)),
     )
 
 level-walk-cast-next : (t : ℕ) → level-walk-lts.Need-cast-next (level-calls t) (level-walk-at t) level-walk.Post
 level-walk-cast-next t c = search needs
 
-level-walk-add-level-walk-2 : (t : ℕ) → level-walk-lts.Need-add-level-walk-2 (level-calls t) (level-walk-at t) level-walk.Post
-level-walk-add-level-walk-2 t c =
-    let s = c .before .before .before .before .before .before .before .before in
-    omega (arith, high-eight t s (c .before .before .before .before .before .before .if1 .taken))
+level-walk-add-level-walk : (t : ℕ) → level-walk-lts.Need-add-level-walk (level-calls t) (level-walk-at t) level-walk.Post
+level-walk-add-level-walk t c =
+    let s = c .before .before .before .before .before .before .before in
+    omega (arith, high-eight t s (c .before .before .before .before .before .if1 .taken))
 
 -- the link that was read names the next place
 next-is : (t : ℕ) (c : level-walk-lts.After-link-at (level-calls t) (level-walk-at t) level-walk.Post)
-    → c .link-at .result ≡ next t (c .before .before .before .before .before .before .before .before) (c .before .before .before .before .before .before .if1 .taken) (c .before .if3 .taken)
+    → c .link-at .result ≡ next t (c .before .before .before .before .before .before .before) (c .before .before .before .before .before .if1 .taken) (c .before .if2 .taken)
 next-is t c =
-    let s = c .before .before .before .before .before .before .before .before in
-    let a = c .before .before .before .before .before .before .if1 .taken in
-    c .link-at .ensures ∙ link-is (ready t s) (invariant t s) (below-eight t s a) (below t s a (c .before .if3 .taken))
+    let s = c .before .before .before .before .before .before .before in
+    let a = c .before .before .before .before .before .if1 .taken in
+    c .link-at .ensures ∙ link-is (ready t s) (invariant t s) (below-eight t s a) (below t s a (c .before .if2 .taken))
 
-level-walk-level-walk-requires-2 : (t : ℕ) → level-walk-lts.Need-level-walk-requires-2 (level-calls t) (level-walk-at t) level-walk.Post
-level-walk-level-walk-requires-2 t c κs =
-    let s = c .before .before .before .before .before .before .before .before in
-    let a = c .before .before .before .before .before .before .if1 .taken in
-    let b = c .before .if3 .taken in
+level-walk-level-walk-requires : (t : ℕ) → level-walk-lts.Need-level-walk-requires (level-calls t) (level-walk-at t) level-walk.Post
+level-walk-level-walk-requires t c κs =
+    let s = c .before .before .before .before .before .before .before in
+    let a = c .before .before .before .before .before .if1 .taken in
+    let b = c .before .if2 .taken in
     let less : level-left (s .args .axes) (s .args .axis) (s .args .level + 1) < t = omega (arith, high-eight t s a, s .pre .0) in (
       less,
       (
@@ -280,21 +237,21 @@ level-walk-level-walk-requires-2 t c κs =
     )
 
 -- after both calls: what they gave comes to what this call is to return
-level-sum : (t : ℕ) (c : level-walk-lts.After-level-walk2 (level-calls t) (level-walk-at t) level-walk.Post)
-    → c .before .before .before .point-walk .result +ℤ c .level-walk2 .result ≡ c .before .before .before .before .before .before .before .before .before .args .weight *ℤ walkLeft (c .before .before .before .before .before .before .before .before .before .args .axes) (k t (c .before .before .before .before .before .before .before .before .before)) (c .before .before .before .before .before .before .before .before .before .args .axis) (c .before .before .before .before .before .before .before .before .before .args .level) (Q t (c .before .before .before .before .before .before .before .before .before))
+level-sum : (t : ℕ) (c : level-walk-lts.After-level-walk (level-calls t) (level-walk-at t) level-walk.Post)
+    → c .before .before .before .point-walk .result +ℤ c .level-walk .result ≡ c .before .before .before .before .before .before .before .before .args .weight *ℤ walkLeft (c .before .before .before .before .before .before .before .before .args .axes) (k t (c .before .before .before .before .before .before .before .before)) (c .before .before .before .before .before .before .before .before .args .axis) (c .before .before .before .before .before .before .before .before .args .level) (Q t (c .before .before .before .before .before .before .before .before))
 level-sum t c =
-    let s = c .before .before .before .before .before .before .before .before .before in
-    let a = c .before .before .before .before .before .before .before .if1 .taken in
-    let b = c .before .before .if3 .taken in
-    level-adds (s .args .axes) (k t s) (s .args .axis) (s .args .level) (s .args .weight) (Q t s) (v8 t s) (inside t s a) a (low t s a) (high t s a) (c .before .before .before .point-walk .result) (c .level-walk2 .result)
+    let s = c .before .before .before .before .before .before .before .before in
+    let a = c .before .before .before .before .before .before .if1 .taken in
+    let b = c .before .before .if2 .taken in
+    level-adds (s .args .axes) (k t s) (s .args .axis) (s .args .level) (s .args .weight) (Q t s) (v8 t s) (inside t s a) a (low t s a) (high t s a) (c .before .before .before .point-walk .result) (c .level-walk .result)
     (c .before .before .before .point-walk .ensures ∙ ap (λ w. w *ℤ pointsLeft (newCount (s .args .level) - 0) 0 (s .args .level) (drop (s .args .axis + 1) (k t s)) (Q t s)) (v-is t (c .before .before .before .before)))
-    (c .level-walk2 .ensures ∙ ap₂ (λ w q. w *ℤ walkLeft (s .args .axes) (k t s) (s .args .axis) (s .args .level + 1) q) (w-back t s)
+    (c .level-walk .ensures ∙ ap₂ (λ w q. w *ℤ walkLeft (s .args .axes) (k t s) (s .args .axis) (s .args .level + 1) q) (w-back t s)
     (ap (λ p. leftAt (rs t s) (store t s) (s .args .axis) p (s .args .rank)) (next-is t (c .before)) ∙ next-left t s a b))
 
 level-walk-add-result : (t : ℕ) → level-walk-lts.Need-add-result (level-calls t) (level-walk-at t) level-walk.Post
 level-walk-add-result t c =
-    sum-fits (c .before .before .before .point-walk .result) (c .level-walk2 .result) _ (sfits-of (c .before .before .before .point-walk .ok)) (sfits-of (c .level-walk2 .ok)) (level-sum t c)
-    (sum-small t (c .before .before .before .before .before .before .before .before .before) (c .before .before .before .before .before .before .before .if1 .taken))
+    sum-fits (c .before .before .before .point-walk .result) (c .level-walk .result) _ (sfits-of (c .before .before .before .point-walk .ok)) (sfits-of (c .level-walk .ok)) (level-sum t c)
+    (sum-small t (c .before .before .before .before .before .before .before .before) (c .before .before .before .before .before .before .if1 .taken))
 
 level-walk-weighted-reading-requires : (t : ℕ) → level-walk-lts.Need-weighted-reading-requires (level-calls t) (level-walk-at t) level-walk.Post
 level-walk-weighted-reading-requires t c κs =
@@ -304,21 +261,21 @@ level-walk-weighted-reading-requires t c κs =
       (rw (w-back t s) (room-alone (s .args .weight) (units (drop (s .args .axis) (k t s))) (room t s)), reading-range (ready t s) (invariant t s) e),
     )
 
+level-walk-returns : (t : ℕ) → level-walk-lts.Need-returns (level-calls t) (level-walk-at t) level-walk.Post
+level-walk-returns t c =
+    sum-is (c .before .before .before .point-walk .result) (c .level-walk .result) _ (sfits-of (c .before .before .before .point-walk .ok)) (sfits-of (c .level-walk .ok)) (level-sum t c)
+    (sum-small t (c .before .before .before .before .before .before .before .before) (c .before .before .before .before .before .before .if1 .taken))
+
 level-walk-returns-2 : (t : ℕ) → level-walk-lts.Need-returns-2 (level-calls t) (level-walk-at t) level-walk.Post
 level-walk-returns-2 t c =
-    sum-is (c .before .before .before .point-walk .result) (c .level-walk2 .result) _ (sfits-of (c .before .before .before .point-walk .ok)) (sfits-of (c .level-walk2 .ok)) (level-sum t c)
-    (sum-small t (c .before .before .before .before .before .before .before .before .before) (c .before .before .before .before .before .before .before .if1 .taken))
+    let s = c .before .before .before .before .before .before in
+    let a = c .before .before .before .before .if1 .taken in
+    back (c .before .point-walk .result) (sfits-of (c .before .point-walk .ok))
+    ∙ level-last (s .args .axes) (k t s) (s .args .axis) (s .args .level) (s .args .weight) (Q t s) (v8 t s) (inside t s a) a (low t s a) (high t s a) (c .before .point-walk .result) (c .if2 .left)
+    (c .before .point-walk .ensures ∙ ap (λ w. w *ℤ pointsLeft (newCount (s .args .level) - 0) 0 (s .args .level) (drop (s .args .axis + 1) (k t s)) (Q t s)) (v-is t (c .before .before)))
 
 level-walk-returns-3 : (t : ℕ) → level-walk-lts.Need-returns-3 (level-calls t) (level-walk-at t) level-walk.Post
 level-walk-returns-3 t c =
-    let s = c .before .before .before .before .before .before .before in
-    let a = c .before .before .before .before .before .if1 .taken in
-    back (c .before .point-walk .result) (sfits-of (c .before .point-walk .ok))
-    ∙ level-last (s .args .axes) (k t s) (s .args .axis) (s .args .level) (s .args .weight) (Q t s) (v8 t s) (inside t s a) a (low t s a) (high t s a) (c .before .point-walk .result) (c .if3 .left)
-    (c .before .point-walk .ensures ∙ ap (λ w. w *ℤ pointsLeft (newCount (s .args .level) - 0) 0 (s .args .level) (drop (s .args .axis + 1) (k t s)) (Q t s)) (v-is t (c .before .before)))
-
-level-walk-returns-4 : (t : ℕ) → level-walk-lts.Need-returns-4 (level-calls t) (level-walk-at t) level-walk.Post
-level-walk-returns-4 t c =
     let s = c .before .before .before in
     let e : s .args .axis ≡ s .args .axes = omega (arith, s .pre .1 .1 .0 .0) in
     back (c .weighted-reading .result) (sfits-of (c .weighted-reading .ok)) ∙ c .weighted-reading .ensures
@@ -478,5 +435,5 @@ point-walk-returns-2 t c =
 pub +level-walk+point-walk-spec : {M : Type 1} → statement M
 +level-walk+point-walk-spec =
     close μ-level-walk μ-point-walk
-    (λ t. level-walk-lts.spec (level-calls t) (level-walk-at t) level-walk.Post (level-walk-mul-top t) (level-walk-element-copy-out-top t) (level-walk-add-level-walk t) (level-walk-level-walk-requires t) (level-walk-returns t) (level-walk-difference-weight-requires t) (level-walk-mul-inner t) (level-walk-point-walk-requires t) (level-walk-link-at-requires t) (level-walk-cast-next t) (level-walk-add-level-walk-2 t) (level-walk-level-walk-requires-2 t) (level-walk-add-result t) (level-walk-weighted-reading-requires t) (level-walk-returns-2 t) (level-walk-returns-3 t) (level-walk-returns-4 t))
+    (λ t. level-walk-lts.spec (level-calls t) (level-walk-at t) level-walk.Post (level-walk-mul-top t) (level-walk-element-copy-out-top t) (level-walk-difference-weight-requires t) (level-walk-mul-inner t) (level-walk-point-walk-requires t) (level-walk-link-at-requires t) (level-walk-cast-next t) (level-walk-add-level-walk t) (level-walk-level-walk-requires t) (level-walk-add-result t) (level-walk-weighted-reading-requires t) (level-walk-returns t) (level-walk-returns-2 t) (level-walk-returns-3 t))
     (λ t. point-walk-lts.spec (point-calls t) (point-walk-at t) point-walk.Post (point-walk-new-count-requires t) (point-walk-mul-below t) (point-walk-add-below t) (point-walk-add-level-walk t) (point-walk-level-walk-requires t) (point-walk-add-next t) (point-walk-point-walk-requires t) (point-walk-add-result t) (point-walk-returns t) (point-walk-returns-2 t))
