@@ -5,11 +5,11 @@ use mathlib.Core.Path.{_≡_, ap, sym, _∙_}
 use mathlib.Core.List.{List, [], _++_}
 use Prim.Native.Nat.{ℕ, _*_, _/_, _≤_}
 use native.Mathlib.Omega.{arith}
-use lib.ListN.{length, take, drop, length-append}
+use lib.ListN.{length, take, drop, length-append, length-drop}
 use lib.Seq.{length-take-le, take-at, drop-length}
 use Rattle.area.specs.declared.IndexRecord.{IndexRecord}
 use Rattle.area.specs.Records.{Run, recordsOf, runOf}
-use Rattle.area.proofs.Records.{records-take}
+use Rattle.area.proofs.Records.{length-recordsOf, records-take}
 use Rattle.records.specs.Lent.{front}
 
 abbrev alone : List IndexRecord → Run
@@ -43,3 +43,11 @@ module _ (n : ℕ) (ws : List ℕ) (small : n ≤ 512) (count : length ws ≡ 13
       let k : n * 27 ≤ length (c ++ drop (n * 27) ws) = omega (arith, l, length-append c (drop (n * 27) ws)) in
       ap alone (sym (records-take n (c ++ drop (n * 27) ws) k) ∙ ap recordsOf (take-at c (drop (n * 27) ws) (n * 27) l))
       ∙ ap (λ (r : List ℕ). record { records = recordsOf c; rest = r }) (sym (whole c l))
+
+  -- as many as there were
+  pub cut-whole : (c : List ℕ) → length c ≡ length (take (n * 27) ws) → length (c ++ drop (n * 27) ws) ≡ 13824
+  cut-whole c e = omega (arith, e, cut-length, room-for, length-append c (drop (n * 27) ws), length-drop (n * 27) ws, count)
+
+  pub front-length : length (front n ws) ≡ n
+  unfolding front
+  front-length = length-take-le n (recordsOf ws) (omega (arith, small, count, length-recordsOf ws))

@@ -1,7 +1,7 @@
 -- A call on lent records is the call on their front, with the other records behind what it leaves.
 -- The idea: fewer than 512 records are their own front; of more the first 512 are, and a call on these is a call on all.
 -- Assumes nothing.
-use mathlib.Core.Path.{_≡_, ap, sym, _∙_}
+use mathlib.Core.Path.{_≡_, ap, sym, _∙_, subst}
 use mathlib.Core.Logic.{inl, inr}
 use mathlib.Core.List.{List, [], append-nil}
 use Prim.Native.Nat.{ℕ, _<_, _≤_}
@@ -17,16 +17,17 @@ use Rattle.area.specs.Encoding.{Area}
 use Rattle.calls.specs.declared.CallOutput.{CallOutput}
 use Rattle.calls.specs.Table.{Call}
 use Rattle.calls.specs.Calls.{CallResult, callOn}
-use Rattle.records.specs.Lent.{areaOn, callResultOn, min, over, front}
+use Rattle.records.specs.Lent.{areaOn, callResultOn, min, over}
 use Rattle.records.proofs.Orders.{less-or}
+use Rattle.records.proofs.Overs.{min-left, over-front-of}
 use Rattle.records.proofs.Longer.{call-longer}
 use Rattle.records.specs.Facts.{longer, callResultLonger}
 
-min-few : (m n : ℕ) → m < n → min m n ≡ m
+pub min-few : (m n : ℕ) → m < n → min m n ≡ m
 unfolding min
 min-few m n h = rw (lt-ltb m n h)
 
-min-many : (m n : ℕ) → n ≤ m → min m n ≡ n
+pub min-many : (m n : ℕ) → n ≤ m → min m n ≡ n
 unfolding min
 min-many m n h = rw (le-ltb m n h)
 
@@ -73,12 +74,14 @@ module _ (j : JobRecord) (rs : List IndexRecord) (s : List ℤ) where
             ∙ ap (λ (a : Area). callOn a c) (whole 512))
       ]
 
-  -- the front's records go back over the lent ones
-  pub front-leaves : (c : Call) (r : CallOutput) (w : List ℕ) (t : List ℤ) (l : List IndexRecord) (k : ℕ) → k ≡ n
-      → callResultOn r (front k w) t ≡ callOn (part k) c → l ≡ over k (recordsOf w) rs → callResultOn r l t ≡ callOn all c
-  unfolding over front
-  front-leaves c r w t l k e called put =
-      ap (λ (x : List IndexRecord). callResultOn r x t) put
+  within : (k : ℕ) → k ≡ n → k ≤ length rs
+  within k e = subst (λ (m : ℕ). m ≤ length rs) (sym e) (min-left (length rs) 512)
+
+  -- the first m of the front's records are stored over the lent ones
+  pub front-leaves : (c : Call) (r : CallOutput) (w : List ℕ) (t : List ℤ) (l : List IndexRecord) (k m : ℕ) → k ≡ n → m ≤ k
+      → callResultOn r (over m (recordsOf w) (take k rs)) t ≡ callOn (part k) c → l ≡ over m (recordsOf w) rs → callResultOn r l t ≡ callOn all c
+  front-leaves c r w t l k m e few called put =
+      ap (λ (x : List IndexRecord). callResultOn r x t) (put ∙ sym (over-front-of m k (recordsOf w) rs few (within k e)))
       ∙ ap (λ (x : CallResult). callResultLonger x (drop k rs)) called
-      ∙ ap (λ (m : ℕ). callResultLonger (callOn (part m) c) (drop m rs)) e
+      ∙ ap (λ (m′ : ℕ). callResultLonger (callOn (part m′) c) (drop m′ rs)) e
       ∙ front-calls c

@@ -5,6 +5,8 @@ pub mod Cuts
 pub mod Fronts
 pub mod Longer
 pub mod Lent
+pub mod Stored
+pub mod Started
 pub mod Again
 pub mod Shared
 pub mod Local

@@ -2,14 +2,14 @@
 -- The idea: one element more is the next one set at its place.
 -- Assumes nothing.
 use mathlib.Core.Path.{_≡_, refl, ap, sym, _∙_}
-use mathlib.Core.List.{List}
-use Prim.Native.Nat.{ℕ, _+_, _-_, _*_, _≤_, _<_}
+use mathlib.Core.List.{List, [], _∷_, _++_, append-assoc}
+use Prim.Native.Nat.{ℕ, zero, suc, _+_, _-_, _*_, _≤_, _<_}
 use mathlib.Core.Logic.{inl, inr}
 use native.Mathlib.Nat.{le-of-lt, le-refl}
 use native.Mathlib.Numerals.{add-one}
 use native.Mathlib.Omega.{arith}
-use lib.ListN.{length, getD, take, drop, set, length-append, length-drop}
-use lib.Seq.{drop-cons, set-at, take-suc, append-snoc, length-take-le, take-at}
+use lib.ListN.{length, getD, take, drop, set, length-append, length-drop, take-append-drop}
+use lib.Seq.{drop-cons, set-at, take-suc, append-snoc, length-take-le, take-at, drop-append-le}
 use borrow.Author.Tests.{lt-ltb, le-ltb}
 use Rattle.area.specs.declared.IndexRecord.{IndexRecord}
 use Rattle.area.specs.Records.{Run, blank, recordsOf, runOf, stored}
@@ -76,3 +76,24 @@ over-front n xs ys h = take-at (take n xs) (drop n ys) n (length-take-le n xs h)
 pub flat-front : (rs : List IndexRecord) (n : ℕ) (c c′ : List ℕ) → n ≤ length rs → runOf c′ ≡ overRun n rs (runOf c) → front n c′ ≡ take n rs
 unfolding front
 flat-front rs n c c′ h e = ap (λ (u : Run). take n (u .records)) e ∙ over-front n rs (recordsOf c) h
+
+-- ---- the records of the front and those behind it
+
+take-within : {A : Type 0} (k n : ℕ) (xs : List A) → k ≤ n → take k (take n xs) ≡ take k xs
+take-within zero n xs h = refl
+take-within (suc k) zero xs h = absurd (omega (arith, h))
+take-within (suc k) (suc n) [] h = refl
+take-within (suc k) (suc n) (x ∷ xs) h = ap (λ l. x ∷ l) (take-within k n xs (omega (arith, h)))
+
+-- what is stored comes from the front
+pub over-of-front : {A : Type 0} (k n : ℕ) (xs ys : List A) → k ≤ n → over k (take n xs) ys ≡ over k xs ys
+unfolding over
+over-of-front k n xs ys h = ap (λ l. l ++ drop k ys) (take-within k n xs h)
+
+-- and is stored over the front
+pub over-front-of : {A : Type 0} (k n : ℕ) (xs ys : List A) → k ≤ n → n ≤ length ys → over k xs (take n ys) ++ drop n ys ≡ over k xs ys
+unfolding over
+over-front-of k n xs ys h w =
+    append-assoc (take k xs) (drop k (take n ys)) (drop n ys)
+    ∙ ap (λ l. take k xs ++ l)
+    (sym (drop-append-le k (take n ys) (drop n ys) (omega (arith, h, length-take-le n ys w))) ∙ ap (drop k) (take-append-drop n ys))

@@ -2,18 +2,23 @@
 -- on cells (crate `calls`, specs/Calls.antt; check: crate `soundness`, specs/Clauses.antt), at this area.
 use mathlib.Core.Bool.{cond}
 use mathlib.Core.List.{List, [], _++_}
+use mathlib.Core.Path.{_≡_}
 use Prim.Native.Nat.{ℕ}
 use lib.Dec.{ltb}
 use lib.IntN.{ℤ}
-use lib.ListN.{take, drop}
+use lib.ListN.{length, take, drop}
 use Rattle.area.specs.declared.IndexRecord.{IndexRecord}
 use Rattle.area.specs.declared.JobRecord.{JobRecord}
+use Rattle.area.specs.declared.Settings.{Settings}
 use Rattle.area.specs.Records.{Run, recordsOf}
 use Rattle.area.specs.Encoding.{Area}
+use Rattle.calls.specs.declared.Answer as code
+use Rattle.calls.specs.declared.Answer.the-variants as answers
 use Rattle.calls.specs.declared.CallOutput.{CallOutput}
 use Rattle.calls.specs.Replies.{replyOf}
-use Rattle.calls.specs.Table.{answer}
-use Rattle.calls.specs.Calls.{CallResult}
+use Rattle.calls.specs.Table.{answer, start}
+use Rattle.calls.specs.Calls.{CallResult, callOn}
+use Rattle.records.specs.declared.FlatOutput.{FlatOutput}
 
 abbrev pub areaOn : JobRecord → List IndexRecord → List ℤ → Area
 areaOn j rs s = record { job = j; run = record { records = rs; rest = [] }; store = s }
@@ -37,3 +42,16 @@ overRun n rs u = record { records = over n rs (u .records); rest = u .rest }
 -- The first n records that cells hold.
 unfoldable pub front : ℕ → List ℕ → List IndexRecord
 front n c = take n (recordsOf c)
+
+-- How many records a call stores back, of n that it may: all where it changed the area, none where it was refused, met or spent.
+unfoldable pub storedBy : code.Answer → ℕ → ℕ
+storedBy (answers.Refused m) n = 0
+storedBy answers.Accepted n = n
+storedBy answers.Met n = 0
+storedBy answers.Spent n = 0
+storedBy answers.Promoted n = n
+
+-- What start gives without a look at the records, stored over any records of that number, is start on them.
+abbrev pub StartedOver : JobRecord → Settings → ℕ → FlatOutput → List ℤ → Type 0
+StartedOver j g n d s =
+    (rs : List IndexRecord) → length rs ≡ n → callResultOn (d .answer) (over (d .stored) (recordsOf (d .words)) rs) s ≡ callOn (areaOn j rs s) (start g)

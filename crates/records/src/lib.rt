@@ -1,5 +1,6 @@
-// The calls over a lent run of index record structs. Each serializes the records into cells, makes the call on the cells, and writes the
-// records back. A job holds at most 512 records, so no more are serialized; a call never looks at the others or changes them.
+// The calls over a lent run of index record structs. Each but start serializes the records into cells and makes the call on the cells; start
+// reads none. One that changed the area stores the records then held, start record 0 alone; a refused call stores none. A job holds at most
+// 512 records, so no more are serialized; a call never looks at the others or changes them.
 ghost use mathlib.Core.Path.{_≡_};
 ghost use Prim.Native.Nat.{_*_, _<_, _≤_};
 ghost use lib.ListN.{length, getD, set, take};
@@ -8,7 +9,7 @@ ghost use Rattle.soundness.specs.Clauses.{checked};
 ghost use Rattle.calls.specs.Replies.{replyOf, replyOfResult, replyOfTotal};
 ghost use Rattle.calls.specs.Table.{start, point, deliver, promote, result, crossTotal, answer};
 ghost use Rattle.calls.specs.Calls.{callOn};
-ghost use Rattle.records.specs.Lent.{areaOn, callResultOn, min, over, overRun, front};
+ghost use Rattle.records.specs.Lent.{areaOn, callResultOn, min, over, overRun, front, storedBy, StartedOver};
 
 // As many records as a job can hold.
 const MOST: usize = 512;
@@ -19,9 +20,10 @@ pub struct Flat {
     pub words: [u32; 13824],
 }
 
-// What a call on cells leaves: its answer, and the cells.
+// What a call on cells leaves: its answer, how many records are to be stored back, and the cells.
 pub struct FlatOutput {
     pub answer: calls::CallOutput,
+    pub stored: usize,
     pub words: [u32; 13824],
 }
 
@@ -77,6 +79,27 @@ fn capped(count: usize) -> usize
     if count < MOST { count } else { MOST }
 }
 
+fn lesser(a: usize, b: usize) -> usize
+    ensures { λ r. ⌜ r ≡ min a b ⌝ }
+{
+    if a < b { a } else { b }
+}
+
+// How many of so many records a call has to store back: those held where it changed the area, else none.
+fn to_store(output: calls::CallOutput, count: usize) -> usize
+    ensures { λ r. ⌜ r ≡ storedBy (output .answer) (min (output .job .held) count) ⌝ }
+{
+    let answer = output.answer;
+    let held = lesser(output.job.held as usize, count);
+    match answer {
+        calls::Answer::Refused(_) => 0,
+        calls::Answer::Accepted => held,
+        calls::Answer::Met => 0,
+        calls::Answer::Spent => 0,
+        calls::Answer::Promoted => held,
+    }
+}
+
 fn no_words() -> [u32; 13824] {
     [0u32; 13824]
 }
@@ -101,18 +124,24 @@ fn put_back(records: &mut [area::IndexRecord], n: usize, words: [u32; 13824])
 
 // ---- the calls on records as cells
 
+// Start on so many records, of which it reads none.
 fn flat_start(
     job: area::JobRecord,
     settings: area::Settings,
-    flat: Flat,
+    count: usize,
     store: &[i32],
 ) -> FlatOutput
-    requires { ⌜ flat .count ≤ 512 ⌝ }
-    ensures { λ r. ⌜ callResultOn (r .answer) (front (flat .count) (r .words)) (now (store .entry)) ≡ callOn (areaOn job (front (flat .count) (flat .words)) (now (store .entry))) (start settings) ⌝ }
+    ensures { λ r. ⌜ (r .stored ≤ min count 512) × StartedOver job settings count r (now (store .entry)) ⌝ }
 {
-    let mut words = flat.words;
-    let answer = calls::start(job, settings, &mut words[..flat.count * 27], store);
-    FlatOutput { answer, words }
+    let n = capped(count);
+    let mut words = no_words();
+    let answer = calls::start(job, settings, &mut words[..n * 27], store);
+    let stored = to_store(answer, n);
+    FlatOutput {
+        answer,
+        stored,
+        words,
+    }
 }
 
 fn flat_point(
@@ -137,7 +166,7 @@ fn flat_deliver(
     store: &mut [i32],
 ) -> FlatOutput
     requires { ⌜ flat .count ≤ 512 ⌝ }
-    ensures { λ r. ⌜ callResultOn (r .answer) (front (flat .count) (r .words)) (now (store .exit)) ≡ callOn (areaOn job (front (flat .count) (flat .words)) (now (store .entry))) (deliver (now (readings .entry)) indicator) ⌝ }
+    ensures { λ r. ⌜ (r .stored ≤ flat .count) × (callResultOn (r .answer) (over (r .stored) (recordsOf (r .words)) (front (flat .count) (flat .words))) (now (store .exit)) ≡ callOn (areaOn job (front (flat .count) (flat .words)) (now (store .entry))) (deliver (now (readings .entry)) indicator)) ⌝ }
 {
     let mut words = flat.words;
     let answer = calls::deliver(
@@ -147,16 +176,26 @@ fn flat_deliver(
         &mut words[..flat.count * 27],
         store,
     );
-    FlatOutput { answer, words }
+    let stored = to_store(answer, flat.count);
+    FlatOutput {
+        answer,
+        stored,
+        words,
+    }
 }
 
 fn flat_promote(job: area::JobRecord, flat: Flat, store: &[i32]) -> FlatOutput
     requires { ⌜ flat .count ≤ 512 ⌝ }
-    ensures { λ r. ⌜ callResultOn (r .answer) (front (flat .count) (r .words)) (now (store .entry)) ≡ callOn (areaOn job (front (flat .count) (flat .words)) (now (store .entry))) promote ⌝ }
+    ensures { λ r. ⌜ (r .stored ≤ flat .count) × (callResultOn (r .answer) (over (r .stored) (recordsOf (r .words)) (front (flat .count) (flat .words))) (now (store .entry)) ≡ callOn (areaOn job (front (flat .count) (flat .words)) (now (store .entry))) promote) ⌝ }
 {
     let mut words = flat.words;
     let answer = calls::promote(job, &mut words[..flat.count * 27], store);
-    FlatOutput { answer, words }
+    let stored = to_store(answer, flat.count);
+    FlatOutput {
+        answer,
+        stored,
+        words,
+    }
 }
 
 fn flat_result(job: area::JobRecord, flat: Flat, store: &[i32]) -> calls::ResultAnswer
@@ -194,9 +233,9 @@ pub fn start(
 ) -> calls::CallOutput
     ensures { λ r. ⌜ callResultOn r (now (records .exit)) (now (store .entry)) ≡ callOn (areaOn job (now (records .entry)) (now (store .entry))) (start settings) ⌝ }
 {
-    let flat = flatten(records);
-    let done = flat_start(job, settings, flat, store);
-    put_back(records, flat.count, done.words);
+    let lent = count(records);
+    let done = flat_start(job, settings, lent, store);
+    put_back(records, done.stored, done.words);
     done.answer
 }
 
@@ -226,7 +265,7 @@ pub fn deliver(
 {
     let flat = flatten(records);
     let done = flat_deliver(job, readings, indicator, flat, store);
-    put_back(records, flat.count, done.words);
+    put_back(records, done.stored, done.words);
     done.answer
 }
 
@@ -240,7 +279,7 @@ pub fn promote(
 {
     let flat = flatten(records);
     let done = flat_promote(job, flat, store);
-    put_back(records, flat.count, done.words);
+    put_back(records, done.stored, done.words);
     done.answer
 }
 

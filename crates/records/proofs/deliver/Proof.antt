@@ -5,6 +5,7 @@
 use mathlib.Core.Path.{_≡_, refl, ap, sym, _∙_, subst}
 use Prim.Native.Nat.{ℕ, _≤_, _<_, _^_}
 use mathlib.Core.List.{List, [], _∷_}
+use native.Mathlib.Nat.{le-trans}
 use lib.Dec.{T as Holds}
 use lib.IntN.{ℤ}
 use lib.ListN.{length}
@@ -58,7 +59,7 @@ use Rattle.records.specs.Lent.{areaOn, callResultOn, over, front}
 use Rattle.records.proofs.Shared.{LentShared, lends-shared, shared-back}
 use Rattle.records.proofs.Lent.{front-leaves}
 use Rattle.records.proofs.Words.{held-back, F, machF}
-use Rattle.records.proofs.Flattening.{R, JR, machJ, Flattens, small, Flatten, flatten-of}
+use Rattle.records.proofs.Flattening.{R, JR, machJ, Flattens, within, small, Flatten, flatten-of}
 use Rattle.records.proofs.Writing.{D, Q, machQ, Back, Lent, to-flatten, goes-flatten, to-back, goes-back}
 use Rattle.records.proofs.Flat as U
 use Rattle.records.proofs.Flat.Laws as U′
@@ -131,7 +132,7 @@ module _ {M : Type 1} (𝓤 : URA M) (H : Heap 𝓤) (A : Atoms 𝓤) (W : Given
 
   -- what the contract of the call on cells says
   abbrev SaysFlat : FlatOutput → Flat → List ℤ → Type 0
-  SaysFlat d f k = callResultOn (d .answer) (front (f .count) (d .words)) k ≡ callOn (areaOn j (front (f .count) (f .words)) (y .now)) (table.deliver (w .now) i)
+  SaysFlat d f k = (d .stored ≤ f .count) × (callResultOn (d .answer) (over (d .stored) (recordsOf (d .words)) (front (f .count) (f .words))) k ≡ callOn (areaOn j (front (f .count) (f .words)) (y .now)) (table.deliver (w .now) i))
 
   exits : (r : CallOutput) (l : List IndexRecord) (k : List ℤ) → Says r l k → Is Q r (machQ r ∷ []) → length l ≡ length ys → length k ≡ length (y .now)
       → ent 𝓤 (⋆ 𝓤 H A ((‵ (flft κ₁ q₁) ⊛ ‵ ftrue) ∷ (‵ (flft κ₀ q₀) ⊛ ‵ (flft κ₂ q₂) ⊛ ‵ ftrue) ∷ ‵ (finally R γ l) ∷ ‵ (finally i32 (y .name) k) ∷ ‵ Ownw ∷ [])) (Post (machQ r))
@@ -156,10 +157,15 @@ module _ {M : Type 1} (𝓤 : URA M) (H : Heap 𝓤) (A : Atoms 𝓤) (W : Given
       qed W ((‵ (flft κ₀ q₀) ⊛ ‵ (flft κ₂ q₂)) ∷ (‵ Ownw ⊛ ‵ Owny) ∷ []) ∵ says ! small $ split ! $ nothing ! $ move ! (2 ∷ 0 ∷ []) $ join ! $ move ! (1 ∷ 0 ∷ []) $ join ! $ frame ! $ split ! $
       nothing ! $ move ! (2 ∷ 0 ∷ []) $ fjoin ! $ owned ! F (Is F) (LL.makes U.the-type U′.the-plain 𝓤 H A) f _ f-is $ fjoin ! $ owned ! u32 (Is u32) (uint-makes 𝓤 H A W w32) i _ (refl, i-fits) $ fjoin ! $ move ! (1 ∷ 0 ∷ []) $ fjoin ! $ owned ! JR (Is JR) (LL.makes J.the-type J′.the-plain 𝓤 H A) j _ j-is $ fjoin ! $ done !
 
-  -- the call on the front, with its records put back, is the call on all
-  answered : (f : Flat) (d : FlatOutput) (l : List IndexRecord) (k : List ℤ) → Flattens f ys → SaysFlat d f k → l ≡ over (f .count) (recordsOf (d .words)) ys → Says (d .answer) l k
+  -- what is stored has room in the records lent and in the cells
+  room-back : (f : Flat) (d : FlatOutput) → Flattens f ys → d .stored ≤ f .count → (d .stored ≤ length ys) × (d .stored ≤ 512)
+  room-back f d e few = (le-trans few (within f ys e), le-trans few (small f ys e))
+
+  -- the call on the front, with what it changed stored back, is the call on all
+  answered : (f : Flat) (d : FlatOutput) (l : List IndexRecord) (k : List ℤ) → Flattens f ys → SaysFlat d f k → l ≡ over (d .stored) (recordsOf (d .words)) ys → Says (d .answer) l k
   answered f d l k e called put =
-      front-leaves j ys (y .now) (table.deliver (w .now) i) (d .answer) (d .words) k l (f .count) (e .0) (called ∙ ap (λ (z : List IndexRecord). callOn (areaOn j z (y .now)) (table.deliver (w .now) i)) (e .1)) put
+      front-leaves j ys (y .now) (table.deliver (w .now) i) (d .answer) (d .words) k l (f .count) (d .stored) (e .0) (called .0)
+      (subst (λ (z : List IndexRecord). callResultOn (d .answer) (over (d .stored) (recordsOf (d .words)) z) k ≡ callOn (areaOn j z (y .now)) (table.deliver (w .now) i)) (e .1) (called .1)) put
 
   module _ (C : Calls 𝓤 H) (Λ : Loops 𝓤 H) (fm : FmC 𝓤 H (W .laws) C) (known-flatten : Triple 𝓤 (C #records·flatten) (Flatten 𝓤 H A mem run)) (known-flat : Triple 𝓤 (C #records·flat-deliver) (OnCells 𝓤 H A mem run)) (known-back : Triple 𝓤 (C #records·put-back) (Back 𝓤 H A mem run)) where
     walk : ent 𝓤 (onEntry 𝓤 H A call.signature (κ₀, (κ₁, (κ₂, tt))) (q₀, (q₁, (q₂, tt))) a at) (WpFn 𝓤 H C Λ code.function (machJ j ∷ sw ∷ vint w32 i ∷ sx ∷ sy ∷ []) Post)
@@ -197,15 +203,15 @@ module _ {M : Type 1} (𝓤 : URA M) (H : Heap 𝓤) (A : Atoms 𝓤) (W : Given
         move ! (2 ∷ []) $ split ! $ move ! (1 ∷ []) $
         facts ! D (Is D) (shows 𝓤 H A D) d (v ∷ []) (λ is′. land ! (from ! (stop !)) (init ! 20 refl (LL.lawful K.the-type K′.the-laws 𝓤 H A W .typed d _ is′ .0)) $
         rewrite ! 20 (λ (w : Val). ‵ (fat fullShare K′.mir l₇ 0 w)) (ap only (LL.tells K.the-type K′.the-laws d _ is′)) refl $
-        -- `put_back`, with the count and the words: [the tokens of the call; the last store; …; the records; the records' token; …; _14; …; _0; …; the readings]
+        -- `put_back`, with how many to store and the words: [the tokens of the call; the last store; …; the records; the records' token; …; _14; …; _0; …; the readings]
         let parts = LL.owed K.the-type K′.the-laws d _ is′ in
         assigns ! (addr ! (from ! (fld ! refl (hop ! (look-in ! 26 (sub ! 0 refl (whole !))) (stop !))))) (from ! (stop !)) (init ! 8 refl (tt, tt)) $
         assigns ! (agg ! (and-then ! (load ! (from ! (stop !)) (look ! 8 refl)) (and-then ! (load ! (from ! (fld ! refl (stop !))) (look-in ! 26 (sub ! 1 refl (whole !)))) (no-more !)))) (from ! (stop !)) (init ! 6 refl (tt, (tt, (record { fits = room .0 }, tt)))) $
-        move ! (4 ∷ 3 ∷ []) $ use2 W (raw (Back 𝓤 H A mem run .pre (to-back 𝓤 H A W mem run (named 1) κ₁ q₁ b o γ ys f d))) (goes-back 𝓤 H A W mem run (named 1) κ₁ q₁ b o γ ys f d (LL.owed U.the-type U′.the-laws f _ is .0 .1) (held-back (d .words) (parts .1 .0)) e) $
-        calls-at ! fm (Back 𝓤 H A mem run) known-back (to-back 𝓤 H A W mem run (named 1) κ₁ q₁ b o γ ys f d) (and-then ! (load ! (from ! (stop !)) (look ! 5 refl)) (and-then ! (load ! (from ! (fld ! refl (stop !))) (look-in ! 21 (sub ! 0 refl (whole !)))) (and-then ! (load ! (from ! (fld ! refl (stop !))) (look-in ! 19 (sub ! 1 refl (whole !)))) (no-more !)))) (λ w.
-        use1 W (later (some (λ (z : Unit {0}). ((‵ (flft κ₁ q₁) ⊛ ‵ ftrue) ⊛ ‵ (unit .own z (w ∷ []))) ⊛ raw (ensured 𝓤 H A back.ended (back.clauses 𝓤 H A mem run) (κ₁, tt) (x γ, (f .count, (d .words, tt))) tt z)))) (id⊢ 𝓤 _) $ await ! tt $ pick ! (λ z.
-        split ! $ move ! (1 ∷ []) $ use1 W (some (λ (ls : List IndexRecord × (Unit {0} × (Unit {0} × Unit {0}))). ‵ (lasts back.ended (κ₁, tt) (x γ, (f .count, (d .words, tt))) ls) ⊛ raw (fact 𝓤 (ls .0 ≡ over (f .count) (recordsOf (d .words)) ys)))) (id⊢ 𝓤 _) $ pick ! (λ ls.
-        split ! $ move ! (1 ∷ []) $ heard ! (ls .0 ≡ over (f .count) (recordsOf (d .words)) ys) (λ e″. fsplit ! $ fsplit ! $ move ! (1 ∷ []) $ feqL ! (λ same. move ! (2 ∷ []) $ split ! $ move ! (1 ∷ []) $ feqL ! (λ is″.
+        move ! (4 ∷ 3 ∷ []) $ use2 W (raw (Back 𝓤 H A mem run .pre (to-back 𝓤 H A W mem run (named 1) κ₁ q₁ b o γ ys d))) (goes-back 𝓤 H A W mem run (named 1) κ₁ q₁ b o γ ys d (parts .1 .0 .1) (held-back (d .words) (parts .1 .1 .0)) (room-back f d e (e′ .0))) $
+        calls-at ! fm (Back 𝓤 H A mem run) known-back (to-back 𝓤 H A W mem run (named 1) κ₁ q₁ b o γ ys d) (and-then ! (load ! (from ! (stop !)) (look ! 5 refl)) (and-then ! (load ! (from ! (fld ! refl (stop !))) (look-in ! 19 (sub ! 1 refl (whole !)))) (and-then ! (load ! (from ! (fld ! refl (stop !))) (look-in ! 19 (sub ! 2 refl (whole !)))) (no-more !)))) (λ w.
+        use1 W (later (some (λ (z : Unit {0}). ((‵ (flft κ₁ q₁) ⊛ ‵ ftrue) ⊛ ‵ (unit .own z (w ∷ []))) ⊛ raw (ensured 𝓤 H A back.ended (back.clauses 𝓤 H A mem run) (κ₁, tt) (x γ, (d .stored, (d .words, tt))) tt z)))) (id⊢ 𝓤 _) $ await ! tt $ pick ! (λ z.
+        split ! $ move ! (1 ∷ []) $ use1 W (some (λ (ls : List IndexRecord × (Unit {0} × (Unit {0} × Unit {0}))). ‵ (lasts back.ended (κ₁, tt) (x γ, (d .stored, (d .words, tt))) ls) ⊛ raw (fact 𝓤 (ls .0 ≡ over (d .stored) (recordsOf (d .words)) ys)))) (id⊢ 𝓤 _) $ pick ! (λ ls.
+        split ! $ move ! (1 ∷ []) $ heard ! (ls .0 ≡ over (d .stored) (recordsOf (d .words)) ys) (λ e″. fsplit ! $ fsplit ! $ move ! (1 ∷ []) $ feqL ! (λ same. move ! (2 ∷ []) $ split ! $ move ! (1 ∷ []) $ feqL ! (λ is″.
         land ! (from ! (stop !)) (init ! 11 refl (subst (λ (c : Val). Holds (hasTy tyUnit c) × WT c) (sym (ap only is″)) (tt, tt))) $
         -- the answer: [the records' token; the last records; …; the tokens of the call; the last store; …; …; _14; …; _0; …; the readings]
         assigns ! (of-opd ! (load ! (from ! (fld ! refl (stop !))) (look-in ! 21 (sub ! 0 refl (whole !))))) (from ! (stop !)) (init ! 35 refl (LL.lawful N.the-type N′.the-laws 𝓤 H A W .typed (d .answer) _ (parts .0) .0)) $
