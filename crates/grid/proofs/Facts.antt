@@ -10,6 +10,7 @@ use Rattle.grid.proofs.Rules as Rules
 use Rattle.grid.proofs.Differences as Differences
 use Rattle.grid.proofs.Sampled as Sampled
 use Rattle.grid.proofs.LevelOne as LevelOne
+use Rattle.grid.proofs.Axes as Axes
 use Rattle.grid.proofs.Combine as Combine
 use Rattle.grid.proofs.Masks as Masks
 
@@ -81,6 +82,19 @@ level-one-facts =
       coefficient-same = LevelOne.coefficient-same;
       mean-same = LevelOne.mean-same;
       cross-same = LevelOne.cross-same;
+      job-levels = Axes.job-levels;
+      job-index = Axes.job-index;
+      pad-once = Axes.pad-once;
+      root-same = Axes.root-same;
+      in-same = LevelOne.in-same;
+      level-same = Axes.level-same;
+      forward-same = Axes.forward-same;
+      backward-same = Axes.backward-same;
+      capped-same = Axes.capped-same;
+      higher-same = Axes.higher-same;
+      higher-back = Axes.higher-back;
+      lower-same = Axes.lower-same;
+      product-same = Axes.product-same;
     }
 
 pub combination : Combination

@@ -185,6 +185,10 @@ and-true : (b : Bool) → (b && true) ≡ b
 and-true true = refl
 and-true false = refl
 
+pub in-same : (J : List (List ℕ)) (k : List ℕ) (m : ℕ) → isIn (map (pad m) J) (pad m k) ≡ isIn J k
+unfolding pad
+in-same J k m = in-padded J k (replicate m 1) m (length-replicate m 1) ∙ ap (λ t. isIn J k && t) (same-ones m) ∙ and-true (isIn J k)
+
 pub coefficient-same : (J : List (List ℕ)) (k : List ℕ) (m : ℕ) → coefficient (map (pad m) J) (pad m k) ≡ coefficient J k
 unfolding pad characteristic Ended
 coefficient-same J k m =

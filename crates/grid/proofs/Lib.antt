@@ -11,6 +11,7 @@ pub mod Differences
 pub mod Blocks
 pub mod Sampled
 pub mod LevelOne
+pub mod Axes
 pub mod Masks
 pub mod Boundary
 pub mod Facts

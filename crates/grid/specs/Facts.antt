@@ -5,16 +5,16 @@ use mathlib.Core.Bool.{true, cond}
 use mathlib.Core.List.{List, [], _++_, map, List·Memᴰ}
 use Prim.Native.Nat.{ℕ, suc, _+_, _*_, _-_, _^_, _<_, _≤_}
 use lib.IntN.{ℤ, pos, natAbs, _+ℤ_, _*ℤ_}
-use lib.ListN.{length, getD, replicate}
+use lib.ListN.{length, getD, take, replicate}
 use Rattle.sums.specs.Sums.{sumTo, sumOf}
 use Rattle.rule.specs.Rules.{wholeRule, differenceRule}
-use Rattle.grid.specs.Index.{level, excess, Within, levelsWithin, within, Index, root, forward, backward, NowhereHigher, lower}
+use Rattle.grid.specs.Index.{level, excess, Within, levelsWithin, within, Index, root, forward, backward, cappedAxes, NowhereHigher, lower}
 use Rattle.grid.specs.Block.{block, blockSize, pointOf, rankIn, newOnEach}
 use Rattle.grid.specs.Difference.{Readings, units, differenceProduct, differenceSum, scaledDifference, differenceWalk, scaledMean}
 use Rattle.grid.specs.Coefficient.{isIn, subsets, sign, raisedOn, coefficient, marks}
 use Rattle.grid.specs.Tensor.{tensorSum, tensorRule}
 use Rattle.grid.specs.Cross.{crossTotal}
-use Rattle.grid.specs.Terms.{NoDup, Before, InRange, Agree, blockSum, wholeProduct, loweredOn, tensorProduct, sampled, pad, padded, DownSet}
+use Rattle.grid.specs.Terms.{NoDup, Before, InRange, Agree, blockSum, wholeProduct, loweredOn, tensorProduct, sampled, pad, padded, centred, DownSet}
 
 -- ---- indices
 
@@ -113,6 +113,26 @@ pub record LevelOneFacts : Type 0 where
   pub coefficient-same : (J : List (List ℕ)) (k : List ℕ) (m : ℕ) → coefficient (map (pad m) J) (pad m k) ≡ coefficient J k
   pub mean-same : (J : List (List ℕ)) (m : ℕ) (R : Readings) → scaledMean (map (pad m) J) R ≡ scaledMean J (padded m R)
   pub cross-same : (J : List (List ℕ)) (m : ℕ) (R : Readings) → crossTotal (map (pad m) J) R ≡ crossTotal J (padded m R)
+  -- an index of a job with d axes, of eight levels, is its first d levels with level 1 appended up to eight, and these are within the ceilings
+  pub job-levels : (d : ℕ) (k : List ℕ) → d ≤ 8 → Index d k → (k ≡ pad (8 - d) (take d k)) × (length (take d k) ≡ d) × Within (take d k)
+  -- and d levels within the ceilings with level 1 appended up to eight are such an index
+  pub job-index : (k : List ℕ) (m : ℕ) → length k + m ≡ 8 → Within k → Index (length k) (pad m k)
+  pub pad-once : (k l : List ℕ) (m : ℕ) → pad m k ≡ pad m l → k ≡ l
+  -- the root, and an index in a list
+  pub root-same : (d : ℕ) → d ≤ 8 → root ≡ pad (8 - d) (replicate d 1)
+  pub in-same : (J : List (List ℕ)) (k : List ℕ) (m : ℕ) → isIn (map (pad m) J) (pad m k) ≡ isIn J k
+  -- neighbours along the axes of k
+  pub level-same : (k : List ℕ) (m a : ℕ) → a < length k → level (pad m k) a ≡ level k a
+  pub forward-same : (k : List ℕ) (m a : ℕ) → a < length k → forward (pad m k) a ≡ pad m (forward k a)
+  pub backward-same : (k : List ℕ) (m a : ℕ) → a < length k → backward (pad m k) a ≡ pad m (backward k a)
+  -- along how many of the first d axes the forward neighbour passes a ceiling
+  pub capped-same : (d : ℕ) (k : List ℕ) (m : ℕ) → d ≤ length k → cappedAxes d (pad m k) ≡ cappedAxes d k
+  -- nowhere higher, both ways; and the indices nowhere higher are the same, each with level 1 appended
+  pub higher-same : (l k : List ℕ) (m : ℕ) → NowhereHigher l k → NowhereHigher (pad m l) (pad m k)
+  pub higher-back : (l k : List ℕ) (m : ℕ) → NowhereHigher (pad m l) (pad m k) → NowhereHigher l k
+  pub lower-same : (k : List ℕ) (m : ℕ) → lower (pad m k) ≡ map (pad m) (lower k)
+  -- the tensor product of difference rules, where the appended axes stand at the centre
+  pub product-same : (k : List ℕ) (m : ℕ) (f : List ℕ → ℤ) → tensorProduct differenceRule (pad m k) f ≡ tensorProduct differenceRule k (centred m f)
 
 -- ---- the combination identity
 

@@ -69,6 +69,10 @@ pad m k = k ++ replicate m 1
 unfoldable pub padded : ℕ → Readings → Readings
 padded m R = λ l n. R (pad m l) n
 
+-- A function on positions, with m more axes behind that stand at the centre.
+unfoldable pub centred : ℕ → (List ℕ → ℤ) → List ℕ → ℤ
+centred m f = λ ps. f (ps ++ replicate m 64)
+
 -- A finite set of indices within the ceilings, none twice, downward closed.
 pub record DownSet (J : List (List ℕ)) : Type 0 where
   pub eight : (k : List ℕ) → List·Memᴰ k J → length k ≡ 8
