@@ -1,6 +1,7 @@
 -- What specs/Facts.antt states of the grid holds.
 -- Assumes nothing.
 use Rattle.grid.specs.Facts.{IndexFacts, BlockFacts, DifferenceFacts, LevelOneFacts, Combination}
+use Rattle.grid.specs.Trapezoidal.{TrapezoidalFacts}
 use Rattle.grid.proofs.Levels as Levels
 use Rattle.grid.proofs.Neighbours as Neighbours
 use Rattle.grid.proofs.Lower as Lower
@@ -11,6 +12,7 @@ use Rattle.grid.proofs.Differences as Differences
 use Rattle.grid.proofs.Sampled as Sampled
 use Rattle.grid.proofs.LevelOne as LevelOne
 use Rattle.grid.proofs.Axes as Axes
+use Rattle.grid.proofs.Trapezoidal as Trapezoidal
 use Rattle.grid.proofs.Combine as Combine
 use Rattle.grid.proofs.Masks as Masks
 
@@ -103,4 +105,13 @@ combination =
       identity = λ J R d. Combine.identity J d R;
       coefficients-one = Combine.coefficients-one;
       masks = Masks.masks;
+    }
+
+pub trapezoidal-facts : TrapezoidalFacts
+trapezoidal-facts =
+    record {
+      axis = Trapezoidal.axis;
+      difference = Trapezoidal.difference;
+      eight-axes = Trapezoidal.eight-axes;
+      job-axes = Trapezoidal.job-axes;
     }

@@ -12,6 +12,7 @@ pub mod Blocks
 pub mod Sampled
 pub mod LevelOne
 pub mod Axes
+pub mod Trapezoidal
 pub mod Masks
 pub mod Boundary
 pub mod Facts

@@ -7,4 +7,5 @@ pub mod Tensor
 pub mod Cross
 pub mod Terms
 pub mod Facts
+pub mod Trapezoidal
 pub mod Boundary

@@ -2,4 +2,5 @@
 pub mod Figure
 pub mod Turns
 pub mod Sums
+pub mod Increments
 pub mod Facts
