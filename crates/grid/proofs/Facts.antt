@@ -2,6 +2,7 @@
 -- Assumes nothing.
 use Rattle.grid.specs.Facts.{IndexFacts, BlockFacts, DifferenceFacts, LevelOneFacts, Combination}
 use Rattle.grid.specs.Trapezoidal.{TrapezoidalFacts}
+use Rattle.grid.specs.Smolyak.{SmolyakFacts}
 use Rattle.grid.proofs.Levels as Levels
 use Rattle.grid.proofs.Neighbours as Neighbours
 use Rattle.grid.proofs.Lower as Lower
@@ -13,6 +14,7 @@ use Rattle.grid.proofs.Sampled as Sampled
 use Rattle.grid.proofs.LevelOne as LevelOne
 use Rattle.grid.proofs.Axes as Axes
 use Rattle.grid.proofs.Trapezoidal as Trapezoidal
+use Rattle.grid.proofs.Smolyak as Smolyak
 use Rattle.grid.proofs.Combine as Combine
 use Rattle.grid.proofs.Masks as Masks
 
@@ -114,4 +116,12 @@ trapezoidal-facts =
       difference = Trapezoidal.difference;
       eight-axes = Trapezoidal.eight-axes;
       job-axes = Trapezoidal.job-axes;
+    }
+
+pub smolyak-facts : SmolyakFacts
+smolyak-facts =
+    record {
+      coefficient-is = λ d q J k low more s m. Smolyak.coefficient-is d q J low s k m;
+      coefficient-zero = λ d q J k low more s m few. Smolyak.coefficient-zero d q J low s k m more few;
+      within-ceilings = λ d q J k few s m. Smolyak.within-ceilings d q J s k m few;
     }

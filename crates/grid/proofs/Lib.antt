@@ -14,6 +14,7 @@ pub mod LevelOne
 pub mod Axes
 pub mod Trapezoidal
 pub mod Masks
+pub mod Smolyak
 pub mod Boundary
 pub mod Facts
 pub mod Ceilings

@@ -8,4 +8,5 @@ pub mod Cross
 pub mod Terms
 pub mod Facts
 pub mod Trapezoidal
+pub mod Smolyak
 pub mod Boundary

@@ -1,0 +1,169 @@
+-- Over the simplex of document 004 the combination coefficient is (−1)^(q−|k|) · C(d−1, q−|k|).
+-- The idea: whether a raised index is in the simplex depends on the sum of its levels alone, so the coefficient is the d-th difference of the
+-- step at q, one difference for each axis: the first is 1 at q alone, and each further one is a row of Pascal's triangle with signs.
+-- Assumes nothing.
+use mathlib.Core.Path.{_≡_, refl, sym, ap, ap₂, _∙_}
+use mathlib.Core.Bool.{cond}
+use mathlib.Core.List.{List, [], _∷_, List·Memᴰ}
+use Prim.Native.Nat.{ℕ, zero, suc, _+_, _-_, _<_, _≤_}
+use native.Mathlib.Nat.{add-suc, suc-add}
+use native.Mathlib.Decide.{decLe}
+use native.Mathlib.Omega.{arith}
+use borrow.Author.Tests.{le-leb, lt-leb}
+use lib.Dec.{leb}
+use lib.ListN.{length}
+use lib.IntN.{ℤ, pos, negℤ, _+ℤ_, _-ℤ_, _*ℤ_, *ℤ-zero}
+use Rattle.sums.proofs.Ring.{ring}
+use Rattle.grid.specs.Index.{level, excess, Within}
+use Rattle.grid.specs.Coefficient.{coefficient}
+use Rattle.grid.specs.Smolyak.{levelSum, binomial, minusOneTo, Simplex}
+use Rattle.grid.proofs.Parts.{delta}
+use Rattle.grid.proofs.Members.{characteristic, characteristic-in, characteristic-out, coefficient-delta}
+
+-- ---- levels from 1 up
+
+abbrev Low : List ℕ → Type 0
+Low [] = Unit {0}
+Low (x ∷ xs) = (1 ≤ x) × Low xs
+
+low-from : (k : List ℕ) → ((a : ℕ) → a < length k → 1 ≤ level k a) → Low k
+low-from [] h = tt
+low-from (x ∷ xs) h = (h 0 (omega arith), low-from xs (λ a q. h (suc a) (omega arith)))
+
+low-at : (k : List ℕ) → Low k → (a : ℕ) → a < length k → 1 ≤ level k a
+low-at [] w a h = absurd (omega arith)
+low-at (x ∷ xs) w zero h = w .0
+low-at (x ∷ xs) w (suc a) h = low-at xs (w .1) a (omega arith)
+
+sum-excess : (k : List ℕ) → Low k → levelSum k ≡ excess k + length k
+unfolding levelSum excess
+sum-excess [] w = refl
+sum-excess (x ∷ xs) w = omega (arith, sum-excess xs (w .1), w .0)
+
+level-excess : (k : List ℕ) (a : ℕ) → a < length k → level k a ≤ excess k + 1
+unfolding excess
+level-excess [] a h = absurd (omega arith)
+level-excess (x ∷ xs) zero h = omega arith
+level-excess (x ∷ xs) (suc a) h = omega (arith, level-excess xs a (omega arith))
+
+-- the adjoint difference asks at lists of as many levels, each from 1 up
+delta-low : (k : List ℕ) (χ ψ : List ℕ → ℤ) → Low k → ((l : List ℕ) → length l ≡ length k → Low l → χ l ≡ ψ l) → delta k χ ≡ delta k ψ
+unfolding delta
+delta-low [] χ ψ w h = h [] refl tt
+delta-low (k ∷ ks) χ ψ w h =
+    ap₂ _-ℤ_ (delta-low ks (λ l. χ (k ∷ l)) (λ l. ψ (k ∷ l)) (w .1) (λ l e v. h (k ∷ l) (ap suc e) (w .0, v)))
+    (delta-low ks (λ l. χ (suc k ∷ l)) (λ l. ψ (suc k ∷ l)) (w .1) (λ l e v. h (suc k ∷ l) (ap suc e) (omega arith, v)))
+
+-- ---- differences of a function of the sum
+
+-- n times: the value less the value one higher
+steps : ℕ → (ℕ → ℤ) → ℕ → ℤ
+steps zero g s = g s
+steps (suc n) g s = steps n g s -ℤ steps n g (suc s)
+
+steps-shift : (n : ℕ) (g : ℕ → ℤ) (k s : ℕ) → steps n (λ t. g (k + t)) s ≡ steps n g (k + s)
+unfolding steps
+steps-shift zero g k s = refl
+steps-shift (suc n) g k s = ap₂ _-ℤ_ (steps-shift n g k s) (steps-shift n g k (suc s) ∙ ap (steps n g) (add-suc k s))
+
+delta-steps : (k : List ℕ) (g : ℕ → ℤ) → delta k (λ l. g (levelSum l)) ≡ steps (length k) g (levelSum k)
+unfolding delta levelSum steps
+delta-steps [] g = refl
+delta-steps (k ∷ ks) g =
+    ap₂ _-ℤ_ (delta-steps ks (λ s. g (k + s)) ∙ steps-shift (length ks) g k (levelSum ks))
+    (delta-steps ks (λ s. g (suc k + s)) ∙ steps-shift (length ks) g (suc k) (levelSum ks) ∙ ap (steps (length ks) g) (suc-add k (levelSum ks)))
+
+-- ---- differences of the step at q
+
+upTo : ℕ → ℕ → ℤ
+upTo q s = cond (leb s q) (pos 1) (pos 0)
+
+up-below : (q s : ℕ) → s ≤ q → upTo q s ≡ pos 1
+unfolding upTo
+up-below q s h = rw (le-leb s q h)
+
+up-above : (q s : ℕ) → q < s → upTo q s ≡ pos 0
+unfolding upTo
+up-above q s h = rw (lt-leb s q h)
+
+steps-above : (n q s : ℕ) → q < s → steps n (upTo q) s ≡ pos 0
+unfolding steps
+steps-above zero q s h = up-above q s h
+steps-above (suc n) q s h = ap₂ _-ℤ_ (steps-above n q s h) (steps-above n q (suc s) (omega arith))
+
+binomial-none : (n : ℕ) → binomial n 0 ≡ 1
+unfolding binomial
+binomial-none zero = refl
+binomial-none (suc n) = refl
+
+binomial-beyond : (n j : ℕ) → n < j → binomial n j ≡ 0
+unfolding binomial
+binomial-beyond zero zero h = absurd (omega arith)
+binomial-beyond zero (suc j) h = refl
+binomial-beyond (suc n) zero h = absurd (omega arith)
+binomial-beyond (suc n) (suc j) h = ap₂ _+_ (binomial-beyond n j (omega arith)) (binomial-beyond n (suc j) (omega arith))
+
+pascal : (m a b : ℤ) → negℤ m *ℤ b -ℤ m *ℤ a ≡ negℤ m *ℤ (a +ℤ b)
+pascal m a b = simp ring
+
+one-on : (s j : ℕ) → s + suc j ≡ suc s + j
+one-on s j = omega arith
+
+steps-in : (n j s : ℕ) → steps (suc n) (upTo (s + j)) s ≡ minusOneTo j *ℤ pos (binomial n j)
+unfolding steps minusOneTo binomial
+steps-in zero zero s = ap₂ _-ℤ_ (up-below (s + 0) s (omega arith)) (up-above (s + 0) (suc s) (omega arith))
+steps-in zero (suc j) s =
+    ap₂ _-ℤ_ (up-below (s + suc j) s (omega arith)) (up-below (s + suc j) (suc s) (omega arith)) ∙ sym (*ℤ-zero (negℤ (minusOneTo j)))
+steps-in (suc n) zero s =
+    ap₂ _-ℤ_ (steps-in n zero s ∙ ap (λ x. pos 1 *ℤ pos x) (binomial-none n)) (steps-above (suc n) (s + 0) (suc s) (omega arith))
+steps-in (suc n) (suc j) s =
+    ap₂ _-ℤ_ (steps-in n (suc j) s) (ap (λ q. steps (suc n) (upTo q) (suc s)) (one-on s j) ∙ steps-in n j (suc s))
+    ∙ pascal (minusOneTo j) (pos (binomial n j)) (pos (binomial n (suc j)))
+
+-- ---- the simplex
+
+module _ (d q : ℕ) (J : List (List ℕ)) (some : 1 ≤ d) (whole : Simplex d q J) where
+  characteristic-is : (l : List ℕ) → length l ≡ d → Low l → characteristic J l ≡ upTo q (levelSum l)
+  characteristic-is l e w = step (decLe (levelSum l) q)
+    where
+      step : Dec (levelSum l ≤ q) → characteristic J l ≡ upTo q (levelSum l)
+      step (yes h) =
+          characteristic-in J l (whole .all l e (λ a b. low-at l w a (omega arith)) h) ∙ sym (up-below q (levelSum l) h)
+      step (no h) = characteristic-out J l (λ m. h (whole .small l m)) ∙ sym (up-above q (levelSum l) (omega arith))
+
+  levels-low : (k : List ℕ) → List·Memᴰ k J → Low k
+  levels-low k m = low-from k (λ a h. whole .low k a m (omega (arith, whole .axes k m)))
+
+  pub coefficient-is : (k : List ℕ) → List·Memᴰ k J → coefficient J k ≡ minusOneTo (q - levelSum k) *ℤ pos (binomial (d - 1) (q - levelSum k))
+  coefficient-is k m =
+      coefficient-delta J k
+      ∙ delta-low k (characteristic J) (λ l. upTo q (levelSum l)) (levels-low k m) (λ l e w. characteristic-is l (e ∙ whole .axes k m) w)
+      ∙ delta-steps k (upTo q)
+      ∙ ap₂ (λ n s. steps n (upTo s) (levelSum k)) (whole .axes k m ∙ one-less d some) (rest (levelSum k) q (whole .small k m))
+      ∙ steps-in (d - 1) (q - levelSum k) (levelSum k)
+    where
+      one-less : (d : ℕ) → 1 ≤ d → d ≡ suc (d - 1)
+      one-less d h = omega arith
+
+      rest : (s q : ℕ) → s ≤ q → q ≡ s + (q - s)
+      rest s q h = omega arith
+
+  pub coefficient-zero : (k : List ℕ) → List·Memᴰ k J → d ≤ q → levelSum k < q - d + 1 → coefficient J k ≡ pos 0
+  coefficient-zero k m b h =
+      coefficient-is k m
+      ∙ ap (λ x. minusOneTo (q - levelSum k) *ℤ pos x) (binomial-beyond (d - 1) (q - levelSum k) (omega arith))
+      ∙ *ℤ-zero (minusOneTo (q - levelSum k))
+
+module _ (d q : ℕ) (J : List (List ℕ)) (whole : Simplex d q J) where
+  pub within-ceilings : (k : List ℕ) → List·Memᴰ k J → q ≤ d + 7 → Within k
+  within-ceilings k m h =
+      record {
+        low = λ a b. whole .low k a m (omega (arith, whole .axes k m));
+        high = λ a b. omega (arith, level-excess k a b, few);
+        small = omega (arith, few);
+      }
+    where
+      few : excess k ≤ 7
+      few =
+          omega
+          (arith, sum-excess k (low-from k (λ a b. whole .low k a m (omega (arith, whole .axes k m)))), whole .axes k m, whole .small k m)

@@ -1,0 +1,46 @@
+-- The combination coefficients beside document 004, section 2, "Smolyak's construction": over its simplex they are the source's, so that
+-- they widen it to any delivered set.
+use mathlib.Core.Path.{_≡_}
+use mathlib.Core.List.{List, [], _∷_, List·Memᴰ}
+use Prim.Native.Nat.{ℕ, zero, suc, _+_, _-_, _<_, _≤_}
+use lib.IntN.{ℤ, pos, negℤ, _*ℤ_}
+use lib.ListN.{length}
+use Rattle.grid.specs.Index.{level, Within}
+use Rattle.grid.specs.Coefficient.{coefficient}
+use Rattle.grid.specs.Terms.{NoDup}
+
+-- |k|, the sum of the levels.
+unfoldable pub levelSum : List ℕ → ℕ
+levelSum [] = 0
+levelSum (l ∷ ls) = l + levelSum ls
+
+-- C(n, j), the binomial coefficient, by Pascal's triangle.
+unfoldable pub binomial : ℕ → ℕ → ℕ
+binomial zero zero = 1
+binomial zero (suc j) = 0
+binomial (suc n) zero = 1
+binomial (suc n) (suc j) = binomial n j + binomial n (suc j)
+
+-- (−1)^n
+unfoldable pub minusOneTo : ℕ → ℤ
+minusOneTo zero = pos 1
+minusOneTo (suc n) = negℤ (minusOneTo n)
+
+-- J holds, once each, exactly the lists of d levels from 1 up whose sum is at most q. No ceiling is asked.
+pub record Simplex (d q : ℕ) (J : List (List ℕ)) : Type 0 where
+  pub once : NoDup J
+  pub axes : (k : List ℕ) → List·Memᴰ k J → length k ≡ d
+  pub low : (k : List ℕ) (a : ℕ) → List·Memᴰ k J → a < d → 1 ≤ level k a
+  pub small : (k : List ℕ) → List·Memᴰ k J → levelSum k ≤ q
+  pub all : (k : List ℕ) → length k ≡ d → ((a : ℕ) → a < d → 1 ≤ level k a) → levelSum k ≤ q → List·Memᴰ k J
+
+-- With d axes and q from d up, as the source has it.
+pub record SmolyakFacts : Type 0 where
+  -- the coefficient of k is (−1)^(q−|k|) · C(d−1, q−|k|)
+  pub coefficient-is : (d q : ℕ) (J : List (List ℕ)) (k : List ℕ) → 1 ≤ d → d ≤ q → Simplex d q J → List·Memᴰ k J
+      → coefficient J k ≡ minusOneTo (q - levelSum k) *ℤ pos (binomial (d - 1) (q - levelSum k))
+  -- so it is 0 where |k| < q − d + 1
+  pub coefficient-zero : (d q : ℕ) (J : List (List ℕ)) (k : List ℕ) → 1 ≤ d → d ≤ q → Simplex d q J → List·Memᴰ k J
+      → levelSum k < q - d + 1 → coefficient J k ≡ pos 0
+  -- up to an excess of 7, which is q − d, all of J is within the ceilings; from 8 on the list with a level of 9 is not
+  pub within-ceilings : (d q : ℕ) (J : List (List ℕ)) (k : List ℕ) → q ≤ d + 7 → Simplex d q J → List·Memᴰ k J → Within k
