@@ -121,6 +121,7 @@ trapezoidal-facts =
 pub smolyak-facts : SmolyakFacts
 smolyak-facts =
     record {
+      simplex = Smolyak.simplex;
       coefficient-is = λ d q J k low more s m. Smolyak.coefficient-is d q J low s k m;
       coefficient-zero = λ d q J k low more s m few. Smolyak.coefficient-zero d q J low s k m more few;
       within-ceilings = λ d q J k few s m. Smolyak.within-ceilings d q J s k m few;

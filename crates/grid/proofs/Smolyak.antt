@@ -3,20 +3,23 @@
 -- step at q, one difference for each axis: the first is 1 at q alone, and each further one is a row of Pascal's triangle with signs.
 -- Assumes nothing.
 use mathlib.Core.Path.{_≡_, refl, sym, ap, ap₂, _∙_}
-use mathlib.Core.Bool.{cond}
-use mathlib.Core.List.{List, [], _∷_, List·Memᴰ}
+use mathlib.Core.Logic.{_⊎_, inl, inr, ⊎-elim}
+use mathlib.Core.Bool.{Bool, true, false, cond}
+use mathlib.Core.List.{List, [], _∷_, List·Memᴰ, List·Memᴰ·head, List·Memᴰ·tail, List·Memᴰ·not-nil, List·Memᴰ·cases-cons}
 use Prim.Native.Nat.{ℕ, zero, suc, _+_, _-_, _<_, _≤_}
 use native.Mathlib.Nat.{add-suc, suc-add}
 use native.Mathlib.Decide.{decLe}
 use native.Mathlib.Omega.{arith}
-use borrow.Author.Tests.{le-leb, lt-leb}
+use borrow.Author.Tests.{leb-true, leb-false, le-leb, lt-leb}
 use lib.Dec.{leb}
-use lib.ListN.{length}
+use lib.ListN.{length, replicate, length-replicate, getD-replicate}
 use lib.IntN.{ℤ, pos, negℤ, _+ℤ_, _-ℤ_, _*ℤ_, *ℤ-zero}
 use Rattle.sums.proofs.Ring.{ring}
-use Rattle.grid.specs.Index.{level, excess, Within}
+use Rattle.grid.specs.Index.{level, excess, Within, NowhereHigher, lower}
 use Rattle.grid.specs.Coefficient.{coefficient}
-use Rattle.grid.specs.Smolyak.{levelSum, binomial, minusOneTo, Simplex}
+use Rattle.grid.specs.Terms.{NoDup}
+use Rattle.grid.specs.Smolyak.{levelSum, binomial, minusOneTo, Simplex, upToSum, simplexOf}
+use Rattle.grid.proofs.Lower.{lower-sure, lower-back, lower-once}
 use Rattle.grid.proofs.Parts.{delta}
 use Rattle.grid.proofs.Members.{characteristic, characteristic-in, characteristic-out, coefficient-delta}
 
@@ -167,3 +170,73 @@ module _ (d q : ℕ) (J : List (List ℕ)) (whole : Simplex d q J) where
       few =
           omega
           (arith, sum-excess k (low-from k (λ a b. whole .low k a m (omega (arith, whole .axes k m)))), whole .axes k m, whole .small k m)
+
+-- ---- there is a simplex for every d and q
+
+kept-in : (q : ℕ) (ks : List (List ℕ)) (k : List ℕ) → List·Memᴰ k (upToSum q ks) → List·Memᴰ k ks × (levelSum k ≤ q)
+unfolding upToSum
+kept-in q [] k m = absurd (List·Memᴰ·not-nil m)
+kept-in q (x ∷ ks) k m = step (leb (levelSum x) q) refl m (kept-in q ks k)
+  where
+    later : List·Memᴰ k ks × (levelSum k ≤ q) → List·Memᴰ k (x ∷ ks) × (levelSum k ≤ q)
+    later (r, h) = (List·Memᴰ·tail r, h)
+
+    step : (t : Bool) → leb (levelSum x) q ≡ t → List·Memᴰ k (cond t (x ∷ upToSum q ks) (upToSum q ks))
+        → (List·Memᴰ k (upToSum q ks) → List·Memᴰ k ks × (levelSum k ≤ q)) → List·Memᴰ k (x ∷ ks) × (levelSum k ≤ q)
+    step true e m ih =
+        ⊎-elim (λ p. (List·Memᴰ·head p, omega (arith, leb-true (levelSum x) q e, ap levelSum p))) (λ r. later (ih r)) (List·Memᴰ·cases-cons m)
+    step false e m ih = later (ih m)
+
+in-kept : (q : ℕ) (ks : List (List ℕ)) (k : List ℕ) → levelSum k ≤ q → List·Memᴰ k ks → List·Memᴰ k (upToSum q ks)
+unfolding upToSum
+in-kept q [] k h m = absurd (List·Memᴰ·not-nil m)
+in-kept q (x ∷ ks) k h m = step (leb (levelSum x) q) refl (in-kept q ks k h) (List·Memᴰ·cases-cons m)
+  where
+    step : (t : Bool) → leb (levelSum x) q ≡ t → (List·Memᴰ k ks → List·Memᴰ k (upToSum q ks)) → (k ≡ x) ⊎ List·Memᴰ k ks
+        → List·Memᴰ k (cond t (x ∷ upToSum q ks) (upToSum q ks))
+    step true e ih (inl p) = List·Memᴰ·head p
+    step true e ih (inr r) = List·Memᴰ·tail (ih r)
+    step false e ih (inl p) = absurd (omega (arith, leb-false (levelSum x) q e, ap levelSum p))
+    step false e ih (inr r) = ih r
+
+kept-once : (q : ℕ) (ks : List (List ℕ)) → NoDup ks → NoDup (upToSum q ks)
+unfolding upToSum
+kept-once q [] u = tt
+kept-once q (x ∷ ks) u = step (leb (levelSum x) q) (kept-once q ks (u .1))
+  where
+    step : (t : Bool) → NoDup (upToSum q ks) → NoDup (cond t (x ∷ upToSum q ks) (upToSum q ks))
+    step true w = (λ m. u .0 (kept-in q ks x m .0), w)
+    step false w = w
+
+level-sum : (k : List ℕ) (a : ℕ) → a < length k → level k a ≤ levelSum k
+unfolding levelSum
+level-sum [] a h = absurd (omega arith)
+level-sum (x ∷ xs) zero h = omega arith
+level-sum (x ∷ xs) (suc a) h = omega (arith, level-sum xs a (omega arith))
+
+module _ (d q : ℕ) where
+  below : (k : List ℕ) → List·Memᴰ k (simplexOf d q) → NowhereHigher k (replicate d q)
+  unfolding simplexOf
+  below k m = lower-sure (replicate d q) k (kept-in q (lower (replicate d q)) k m .0)
+
+  highest : (k : List ℕ) → length k ≡ d → ((a : ℕ) → a < d → 1 ≤ level k a) → levelSum k ≤ q → NowhereHigher k (replicate d q)
+  highest k e w h =
+      record {
+        axes = e ∙ sym (length-replicate d q);
+        low = λ a b. w a (omega (arith, length-replicate d q));
+        high = λ a b. at a (omega (arith, length-replicate d q));
+      }
+    where
+      at : (a : ℕ) → a < d → level k a ≤ level (replicate d q) a
+      at a b = omega (arith, level-sum k a (omega arith), getD-replicate d a q 0 b)
+
+  pub simplex : Simplex d q (simplexOf d q)
+  unfolding simplexOf
+  simplex =
+      record {
+        once = kept-once q (lower (replicate d q)) (lower-once (replicate d q));
+        axes = λ k m. below k m .axes ∙ length-replicate d q;
+        low = λ k a m h. below k m .low a (omega (arith, length-replicate d q));
+        small = λ k m. kept-in q (lower (replicate d q)) k m .1;
+        all = λ k e w h. in-kept q (lower (replicate d q)) k h (lower-back (replicate d q) k (highest k e w h));
+      }

@@ -1,11 +1,13 @@
 -- The combination coefficients beside document 004, section 2, "Smolyak's construction": over its simplex they are the source's, so that
 -- they widen it to any delivered set.
 use mathlib.Core.Path.{_≡_}
+use mathlib.Core.Bool.{cond}
 use mathlib.Core.List.{List, [], _∷_, List·Memᴰ}
 use Prim.Native.Nat.{ℕ, zero, suc, _+_, _-_, _<_, _≤_}
+use lib.Dec.{leb}
 use lib.IntN.{ℤ, pos, negℤ, _*ℤ_}
-use lib.ListN.{length}
-use Rattle.grid.specs.Index.{level, Within}
+use lib.ListN.{length, replicate}
+use Rattle.grid.specs.Index.{level, Within, lower}
 use Rattle.grid.specs.Coefficient.{coefficient}
 use Rattle.grid.specs.Terms.{NoDup}
 
@@ -34,8 +36,20 @@ pub record Simplex (d q : ℕ) (J : List (List ℕ)) : Type 0 where
   pub small : (k : List ℕ) → List·Memᴰ k J → levelSum k ≤ q
   pub all : (k : List ℕ) → length k ≡ d → ((a : ℕ) → a < d → 1 ≤ level k a) → levelSum k ≤ q → List·Memᴰ k J
 
--- With d axes and q from d up, as the source has it.
+-- One such J: of all lists of d levels from 1 to q, which are nowhere higher than the list with level q throughout, those whose sum is at
+-- most q.
+unfoldable pub upToSum : ℕ → List (List ℕ) → List (List ℕ)
+upToSum q [] = []
+upToSum q (k ∷ ks) = cond (leb (levelSum k) q) (k ∷ upToSum q ks) (upToSum q ks)
+
+unfoldable pub simplexOf : ℕ → ℕ → List (List ℕ)
+simplexOf d q = upToSum q (lower (replicate d q))
+
+-- With d axes and q from d up, as the source has it. The subsets are of the d axes; with level 1 appended the coefficients are the same
+-- (`LevelOneFacts.coefficient-same`).
 pub record SmolyakFacts : Type 0 where
+  -- there is such a J
+  pub simplex : (d q : ℕ) → Simplex d q (simplexOf d q)
   -- the coefficient of k is (−1)^(q−|k|) · C(d−1, q−|k|)
   pub coefficient-is : (d q : ℕ) (J : List (List ℕ)) (k : List ℕ) → 1 ≤ d → d ≤ q → Simplex d q J → List·Memᴰ k J
       → coefficient J k ≡ minusOneTo (q - levelSum k) *ℤ pos (binomial (d - 1) (q - levelSum k))
