@@ -7,5 +7,6 @@ pub mod Answers
 pub mod Formed
 pub mod Back
 pub mod Decided
+pub mod Numbers
 pub mod Facts
 pub mod Complement

@@ -1,5 +1,5 @@
 -- What is said of a file of the right form besides its form: its fields and its readings lie within it, and there are so many at most. Then
--- how much of a file decides its form. `c` is the list of the file's bytes.
+-- the number of every other, and how much of a file decides its form. `c` is the list of the file's bytes.
 use mathlib.Core.Path.{_≡_}
 use mathlib.Core.List.{List}
 use Prim.Native.Nat.{ℕ, _+_, _*_, _<_, _≤_}
@@ -25,6 +25,8 @@ pub record FormedFile (c : List ℕ) : Type 0 where
   pub size-at-most : length c ≤ 38936
 
 pub record FormFacts : Type 0 where
+  -- a file that is broken, in whatever part, is refused by 10
+  pub malformed : (c : List ℕ) (f : Fault) → formOf c ≡ broken f → f .number ≡ 10
   pub formed-file : (c : List ℕ) → formOf c ≡ formed → FormedFile c
   -- and only such a file has the right form: so the order of the tests decides nothing but the byte named
   pub formed-back : (c : List ℕ) → FormedFile c → formOf c ≡ formed

@@ -5,7 +5,7 @@ ghost use lib.ListN.{length};
 ghost use Rattle.jobfile.specs.Bytes.{four, eight, signedFour};
 ghost use Rattle.jobfile.specs.Form.{Form as FileForm, formed, headerForm, entryCount, tableForm, readingsForm, formOf, formIn, tableIn};
 
-// Formed, or the part in which a rule of form is broken, with the byte named.
+// Formed, or the part in which a rule of form is broken, with the byte named. `formIn` (specs/Form.antt) gives the number of each case.
 pub enum Form {
     Formed,
     Header(usize),

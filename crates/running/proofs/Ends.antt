@@ -70,7 +70,7 @@ start-numbers g f = step (axesFit g) (budgetFit g) refl refl
         start-fits ownLengths g fit (tests.enough ownLengths g (omega arith) (reading-facts .most g fit))))
 
 -- with a block wanted only the count and the range of the readings can refuse a delivery
-delivery-numbers : (m : Machine) (rs : List ℤ) → SoundMachine m → anyWanted (m .log .entries) ≡ true → eqb (firstCause (deliverCauses ownLengths true (m .log) rs)) 0 ≡ false
+pub delivery-numbers : (m : Machine) (rs : List ℤ) → SoundMachine m → anyWanted (m .log .entries) ≡ true → eqb (firstCause (deliverCauses ownLengths true (m .log) rs)) 0 ≡ false
     → ByDelivery (firstCause (deliverCauses ownLengths true (m .log) rs))
 delivery-numbers m rs v some f = count (ℕ-discrete (length rs) (readingCount (m .log .settings) (wantedIndex (m .log .entries))))
   where

@@ -24,12 +24,12 @@ use Rattle.writing.proofs.Facts.{write-facts}
 use Rattle.writing.proofs.After.{written-valid}
 use Rattle.calls.proofs.Accepted.{startable}
 use Rattle.calls.proofs.Written.{written-state}
-use Rattle.jobfile.specs.Form.{Fault, formed, broken, number, byteOf, formOf, entryCount}
+use Rattle.jobfile.specs.Form.{Fault, formed, broken, formOf, entryCount}
 use Rattle.reporting.specs.Text.{refusalText}
 use Rattle.running.specs.declared.RunStatus.the-variants as statuses
 use Rattle.running.specs.Execution.{ownLengths, refusedAt, execution, stepLimit, startByte, startCause, resultIn, resultOf, fileSettings}
 use Rattle.running.specs.Report.{textIn, textOf}
-use Rattle.running.specs.Code.{Printed, runOn}
+use Rattle.running.specs.Code.{Printed, writtenFor, answerIn, runOn}
 
 -- ---- what start leaves
 
@@ -62,10 +62,10 @@ module _ (g : Settings) (none : firstCause (startCauses ownLengths g) ≡ 0) (j 
 
 module _ (c : List ℕ) (n : ℕ) (before after : List ℕ) (end : ℕ) where
   -- of the wrong form
-  pub form-refused : (f : Fault) → formOf c ≡ broken f → Printed (refusalText (number f) (byteOf f)) before after end → Printed (textOf c) before after end
+  pub form-refused : (f : Fault) → formOf c ≡ broken f → Printed (refusalText (f .number) (f .byte)) before after end → Printed (textOf c) before after end
   form-refused f e p = subst (λ x. Printed x before after end) (sym text-is) p
     where
-      text-is : textOf c ≡ refusalText (number f) (byteOf f)
+      text-is : textOf c ≡ refusalText (f .number) (f .byte)
       text-is = unfold textOf resultOf resultIn textIn in ap (λ x. textIn (entryCount c) (resultIn x c)) e
 
   module _ (right : formOf c ≡ formed) where
@@ -93,13 +93,13 @@ module _ (c : List ℕ) (n : ℕ) (before after : List ℕ) (end : ℕ) where
 
 -- ---- what run leaves
 
-pub too-short : (c buffer : List ℕ) → length buffer < 512 → record { answer = statuses.TooShort; buffer = buffer } ≡ runOn c buffer
-unfolding runOn
+pub too-short : (c buffer : List ℕ) → length buffer < 512 → record { answer = answerIn c statuses.TooShort; buffer = buffer } ≡ runOn c buffer
+unfolding runOn answerIn
 too-short c buffer h = rw (lt-ltb (length buffer) 512 h) refl
 
-pub printed : (c before after : List ℕ) (end : ℕ) → 512 ≤ length before → Printed (textOf c) before after end → record { answer = statuses.Written end; buffer = after } ≡ runOn c before
-unfolding runOn
-printed c before after end h p = (λ i. record { answer = statuses.Written (p .count i); buffer = p .bytes i }) ∙ rw (le-ltb (length before) 512 h) refl
+pub printed : (c before after : List ℕ) (end : ℕ) → 512 ≤ length before → Printed (textOf c) before after end → record { answer = answerIn c (statuses.Written end); buffer = after } ≡ runOn c before
+unfolding runOn answerIn
+printed c before after end h p = (λ i. record { answer = writtenFor (entryCount c) (resultOf c) (p .count i); buffer = p .bytes i }) ∙ rw (le-ltb (length before) 512 h) refl
 
 -- the cause is 2 where it is not 1
 pub later-byte : (k : ℕ) → (k ≡ 1 → ⊥) → startByte k ≡ 4

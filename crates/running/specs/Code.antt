@@ -2,7 +2,7 @@
 use mathlib.Core.Path.{_≡_}
 use mathlib.Core.Bool.{cond}
 use mathlib.Core.List.{List, _++_}
-use Prim.Native.Nat.{ℕ, _+_, _<_}
+use Prim.Native.Nat.{ℕ, _+_, _-_, _<_}
 use lib.Dec.{ltb}
 use lib.IntN.{ℤ}
 use lib.ListN.{length, drop}
@@ -14,14 +14,16 @@ use Rattle.promotion.specs.declared.Outcome as outcome
 use Rattle.promotion.specs.declared.Outcome.the-variants as outcomes
 use Rattle.reporting.specs.declared.Ending.the-variants as endings
 use Rattle.reporting.specs.Code.{endingIn}
+use Rattle.reporting.specs.Text.{ReportValues}
+use Rattle.jobfile.specs.Form.{entryCount}
 use Rattle.running.specs.declared.EntryDelivery as delivery
 use Rattle.running.specs.declared.EntryDelivery.the-variants as deliveries
 use Rattle.running.specs.declared.Step as step
 use Rattle.running.specs.declared.Step.the-variants as steps
 use Rattle.running.specs.declared.RunStatus as status
 use Rattle.running.specs.declared.RunStatus.the-variants as statuses
-use Rattle.running.specs.Execution.{Result, refusedAt, ended, execution}
-use Rattle.running.specs.Report.{textOf}
+use Rattle.running.specs.Execution.{Result, refusedAt, ended, unfinished, execution, resultOf}
+use Rattle.running.specs.Report.{reportValuesOf, textOf}
 
 -- The result of a run that goes on with a delivery, n steps at most after it: c are the file's bytes, i the entry, `cells` and `store` what
 -- the delivery left.
@@ -63,12 +65,36 @@ pub record Printed (text before after : List ℕ) (end : ℕ) : Type 0 where
   pub bytes : after ≡ text ++ drop (length text) before
   pub count : end ≡ length text
 
--- What `run` leaves: its answer and the buffer. A buffer of fewer than 512 bytes is untouched.
+-- ---- what `run` answers
+
+pub data RunAnswer : Type 0 where
+  -- the buffer is too short for a text; this is no cause of the table and has no number
+  tooShort : RunAnswer
+  -- the report with these figures was written, so many bytes
+  report : ReportValues → (count : ℕ) → RunAnswer
+  -- only `refused N at B` was written, with the number of the cause and the byte that it names, so many bytes
+  refusal : (number byte count : ℕ) → RunAnswer
+  -- nothing was written; that this never comes is a fact
+  nothing : (count : ℕ) → RunAnswer
+
+-- What was written for a result; n is the number of the file's entries.
+unfoldable pub writtenFor : (n : ℕ) → Result → (count : ℕ) → RunAnswer
+writtenFor n (refusedAt number byte) count = refusal number byte count
+writtenFor n (ended e m i) count = report (reportValuesOf e m (n - i)) count
+writtenFor n unfinished count = nothing count
+
+-- The code's answer on the file c, case by case. Reports and refusals have one case: which of the two was written, with which figures or which
+-- number and byte, the file decides.
+unfoldable pub answerIn : (c : List ℕ) → status.RunStatus → RunAnswer
+answerIn c statuses.TooShort = tooShort
+answerIn c (statuses.Written count) = writtenFor (entryCount c) (resultOf c) count
+
+-- What `run` leaves: its answer and the buffer. A buffer of fewer than 512 bytes is left as it was.
 pub record RunResult : Type 0 where
-  pub answer : status.RunStatus
+  pub answer : RunAnswer
   pub buffer : List ℕ
 
 unfoldable pub runOn : List ℕ → List ℕ → RunResult
 runOn c buffer =
-    cond (ltb (length buffer) 512) (record { answer = statuses.TooShort; buffer = buffer })
-    (record { answer = statuses.Written (length (textOf c)); buffer = textOf c ++ drop (length (textOf c)) buffer })
+    cond (ltb (length buffer) 512) (record { answer = tooShort; buffer = buffer })
+    (record { answer = writtenFor (entryCount c) (resultOf c) (length (textOf c)); buffer = textOf c ++ drop (length (textOf c)) buffer })

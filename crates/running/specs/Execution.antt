@@ -13,7 +13,7 @@ use Rattle.machine.specs.Promote as rule
 use Rattle.machine.specs.Steps.{started, deliver, promoteStep}
 use Rattle.machine.specs.Causes.{Lengths, firstCause, startCauses, deliverCauses}
 use Rattle.jobfile.specs.Bytes.{four}
-use Rattle.jobfile.specs.Form.{Form, formed, broken, number, byteOf, formOf, entryCount, entryByte}
+use Rattle.jobfile.specs.Form.{Form, formed, broken, formOf, entryCount, entryByte}
 use Rattle.jobfile.specs.File.{entryOf, fileOf}
 use Rattle.reporting.specs.Text.{Ending, met, spent, short}
 
@@ -78,7 +78,7 @@ startCause c = firstCause (startCauses ownLengths (fileSettings c))
 
 -- The whole form is tested before start.
 unfoldable pub resultIn : Form → List ℕ → Result
-resultIn (broken f) c = refusedAt (number f) (byteOf f)
+resultIn (broken f) c = refusedAt (f .number) (f .byte)
 resultIn formed c =
     cond (eqb (startCause c) 0) (execution c stepLimit (started (fileSettings c)) 0) (refusedAt (startCause c) (startByte (startCause c)))
 

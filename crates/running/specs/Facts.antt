@@ -2,17 +2,18 @@
 -- suffice for its text.
 use mathlib.Core.Path.{_≡_}
 use mathlib.Core.Logic.{_⊎_}
-use mathlib.Core.List.{List}
-use Prim.Native.Nat.{ℕ, _≤_}
-use lib.ListN.{length, take}
+use mathlib.Core.List.{List, _++_}
+use Prim.Native.Nat.{ℕ, _-_, _<_, _≤_}
+use lib.ListN.{length, take, drop}
 use Rattle.area.specs.Log.{Machine}
 use Rattle.encoding.specs.Entries.{SoundMachine}
 use Rattle.machine.specs.Means.{meanOf, crossOf}
-use Rattle.jobfile.specs.Form.{Fault, formed, broken, byteOf, formOf, entryCount}
+use Rattle.jobfile.specs.Form.{Fault, formed, broken, formOf, entryCount}
+use Rattle.reporting.specs.Text.{Ending, ReportValues, reportText, refusalText}
 use Rattle.running.specs.declared.RunStatus.the-variants as statuses
 use Rattle.running.specs.Execution.{Result, refusedAt, ended, unfinished, resultOf}
-use Rattle.running.specs.Report.{textOf}
-use Rattle.running.specs.Code.{runOn}
+use Rattle.running.specs.Report.{reportValuesOf, textOf}
+use Rattle.running.specs.Code.{tooShort, report, refusal, answerIn, runOn}
 
 -- The numbers by which start and a delivery can refuse a file.
 abbrev pub ByStart : ℕ → Type 0
@@ -36,7 +37,7 @@ AllowedResult n unfinished = ⊥
 
 pub record ExecutionFacts : Type 0 where
   -- 10 comes of a broken form, before all, with the byte that the form names
-  pub malformed : (c : List ℕ) (f : Fault) → formOf c ≡ broken f → resultOf c ≡ refusedAt 10 (byteOf f)
+  pub malformed : (c : List ℕ) (f : Fault) → formOf c ≡ broken f → resultOf c ≡ refusedAt 10 (f .byte)
   -- and of nothing else: a file of the right form is refused by 1, 2, 7 or 8, or it ends
   pub well-formed : (c : List ℕ) → formOf c ≡ formed → AllowedResult (entryCount c) (resultOf c)
   -- the first 38,937 bytes decide what is printed: a program need not read more
@@ -44,4 +45,11 @@ pub record ExecutionFacts : Type 0 where
   pub ends : (c : List ℕ) → resultOf c ≡ unfinished → ⊥
   pub room : (c : List ℕ) → length (textOf c) ≤ 512
   -- so what an answer counts are bytes of the buffer
-  pub within : (c buffer : List ℕ) (n : ℕ) → runOn c buffer .answer ≡ statuses.Written n → n ≤ length buffer
+  pub within : (c buffer : List ℕ) (n : ℕ) → answerIn c (statuses.Written n) ≡ runOn c buffer .answer → n ≤ length buffer
+  -- too short has no number and leaves the buffer
+  pub short-buffer : (c buffer : List ℕ) → length buffer < 512 → runOn c buffer ≡ record { answer = tooShort; buffer = buffer }
+  -- a refusal is written with its number and byte, and a report with its figures, each at the front of the buffer, whose later bytes stay
+  pub refusal-written : (c buffer : List ℕ) (number byte : ℕ) → 512 ≤ length buffer → resultOf c ≡ refusedAt number byte
+      → runOn c buffer ≡ record { answer = refusal number byte (length (refusalText number byte)); buffer = refusalText number byte ++ drop (length (refusalText number byte)) buffer }
+  pub report-written : (c buffer : List ℕ) (e : Ending) (m : Machine) (used : ℕ) (f : ReportValues) → 512 ≤ length buffer → resultOf c ≡ ended e m used → f ≡ reportValuesOf e m (entryCount c - used)
+      → runOn c buffer ≡ record { answer = report f (length (reportText f)); buffer = reportText f ++ drop (length (reportText f)) buffer }

@@ -15,9 +15,10 @@ ghost use Rattle.machine.specs.Causes.{firstCause, startCauses};
 ghost use Rattle.reporting.specs.Text.{reportText};
 ghost use Rattle.reporting.specs.Code.{endingIn};
 ghost use Rattle.running.specs.Report.{reportValuesOf, textIn, textOf};
-ghost use Rattle.running.specs.Code.{afterDelivery, ValidDelivery, stepOfDelivery, stepPromoted, afterStep, StepPostcondition, Printed, runOn};
+ghost use Rattle.running.specs.Code.{afterDelivery, ValidDelivery, stepOfDelivery, stepPromoted, afterStep, StepPostcondition, Printed, answerIn, runOn};
 
-// What a run answers: the buffer is too short for a report, or the text is in it, so many bytes long.
+// What a run answers: the buffer is too short for a report, or the text is in it, so many bytes long. `answerIn` (specs/Code.antt) says what
+// each case stands for.
 pub enum RunStatus {
     TooShort,
     Written(usize),
@@ -280,7 +281,7 @@ fn run_formed(bytes: &[u8], report: &mut [u8]) -> usize
 
 // Runs a job file, and writes its report, or the line of its refusal, at the beginning of the buffer. 512 bytes suffice.
 pub fn run(bytes: &[u8], report: &mut [u8]) -> RunStatus
-    ensures { λ r. ⌜ record { answer = r; buffer = now (report .exit) } ≡ runOn (now (bytes .entry)) (now (report .entry)) ⌝ }
+    ensures { λ r. ⌜ record { answer = answerIn (now (bytes .entry)) r; buffer = now (report .exit) } ≡ runOn (now (bytes .entry)) (now (report .entry)) ⌝ }
 {
     if report.len() < 512 {
         return RunStatus::TooShort;

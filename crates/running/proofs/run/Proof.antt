@@ -1,7 +1,7 @@
 -- `running::run` meets its contract: the buffer is too short, the form is wrong, or the file is run. Assumes nothing.
 use mathlib.Core.Path.{ap, sym, _∙_}
 use denote.Ref.{now}
-use Rattle.jobfile.specs.Form.{header, entry, readings, number, byteOf, formIn}
+use Rattle.jobfile.specs.Form.{header, entry, readings, formIn}
 use Rattle.running.proofs.Whole.{form-refused, too-short, printed}
 use borrow.Author.Needs.{needs}
 use Rattle.running.proofs.run.Statement.{statement}
@@ -48,7 +48,7 @@ same-length-2 : tie.Need-same-length-2
 same-length-2 c = search needs
 
 returns-3 : tie.Need-returns-3
-unfolding formIn number byteOf
+unfolding formIn
 returns-3 c =
     let s = c .before .before .before .before .before .before .before .before .before .before .before in
     printed (now (s .args .bytes)) (now (s .args .report)) _ _ (c .before .before .before .before .before .before .before .before .if1 .left)
@@ -59,7 +59,7 @@ same-length-3 : tie.Need-same-length-3
 same-length-3 c = search needs
 
 returns-4 : tie.Need-returns-4
-unfolding formIn number byteOf
+unfolding formIn
 returns-4 c =
     let s = c .before .before .before .before .before .before .before .before .before .before .before in
     printed (now (s .args .bytes)) (now (s .args .report)) _ _ (c .before .before .before .before .before .before .before .before .if1 .left)
@@ -70,7 +70,7 @@ same-length-4 : tie.Need-same-length-4
 same-length-4 c = search needs
 
 returns-5 : tie.Need-returns-5
-unfolding formIn number byteOf
+unfolding formIn
 returns-5 c =
     let s = c .before .before .before .before .before .before .before .before .before .before .before in
     printed (now (s .args .bytes)) (now (s .args .report)) _ _ (c .before .before .before .before .before .before .before .before .if1 .left)
