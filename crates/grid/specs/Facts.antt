@@ -117,6 +117,7 @@ pub record LevelOneFacts : Type 0 where
   pub job-levels : (d : ℕ) (k : List ℕ) → d ≤ 8 → Index d k → (k ≡ pad (8 - d) (take d k)) × (length (take d k) ≡ d) × Within (take d k)
   -- and d levels within the ceilings with level 1 appended up to eight are such an index
   pub job-index : (k : List ℕ) (m : ℕ) → length k + m ≡ 8 → Within k → Index (length k) (pad m k)
+  -- different levels stay different
   pub pad-once : (k l : List ℕ) (m : ℕ) → pad m k ≡ pad m l → k ≡ l
   -- the root, and an index in a list
   pub root-same : (d : ℕ) → d ≤ 8 → root ≡ pad (8 - d) (replicate d 1)

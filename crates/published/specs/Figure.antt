@@ -28,7 +28,7 @@ pub record Problem : Type 0 where
 
 -- Δ_k f, the integral increment (Δ_{k1} ⊗ … ⊗ Δ_{k8}) f, times 2^20: along each axis the rule of its level minus the rule of the level
 -- below, the later axes inside. Axes beyond d stand at level 1, whose rule is the value at the centre. From level 2 up the rule is the
--- trapezoidal rule divided by 2, its interval's length (crate `rule`, `RuleFacts.source`). The tensor product is in units of 2^−(units k).
+-- trapezoidal rule divided by 2, its interval's length (`IncrementFacts.source`, specs/Increments.antt). The tensor product is in units of 2^−(units k).
 unfoldable pub increment : Problem → List ℕ → ℤ
 increment P k = pos (2 ^ (20 - units k)) *ℤ tensorProduct differenceRule k (P .integrand)
 
