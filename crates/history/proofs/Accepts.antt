@@ -73,14 +73,14 @@ whole-block f k = length-map (block k) f ∙ block-facts .size k
 
 -- ---- where storage is long enough
 
-module _ (P : Problem) (z : Lengths) (l : Log) (enough : short z (l .settings) ≡ false) where
+module _ (z : Lengths) (l : Log) (enough : short z (l .settings) ≡ false) where
   none : firstCause (resultCauses z true l) ≡ 0
   none = common-none z true l enough refl
 
   -- the first wanted block's delivery
-  pub supply-clear : ReadingValued P → firstWanted (l .entries) < length (l .entries) → refusalBy z l (supplyCall P l) ≡ 0
+  pub supply-clear : (P : Problem) → ReadingValued P → firstWanted (l .entries) < length (l .entries) → refusalBy z l (supplyCall P l) ≡ 0
   unfolding supplyCall refusal causesOf row deliverCauses
-  supply-clear measured wanted =
+  supply-clear P measured wanted =
       deliver-fits z true l (map (P .integrand) (block (wantedIndex (l .entries)))) none (wanted-yes l wanted)
       (whole-block (P .integrand) (wantedIndex (l .entries)) ∙ sym (reading-facts .single (l .settings) (wantedIndex (l .entries)))) (in-range (P .integrand) measured (block (wantedIndex (l .entries))))
 
@@ -89,8 +89,8 @@ module _ (P : Problem) (z : Lengths) (l : Log) (enough : short z (l .settings) �
   unfolding answerBy answerOf stateOf
   answer-clear c e = rw e refl
 
-  pub supply-answer : ReadingValued P → firstWanted (l .entries) < length (l .entries) → answerBy z l (supplyCall P l) ≡ answer accepted
-  supply-answer measured wanted = answer-clear (supplyCall P l) (supply-clear measured wanted) ∙ unfold supplyCall acceptedAnswer row in refl
+  pub supply-answer : (P : Problem) → ReadingValued P → firstWanted (l .entries) < length (l .entries) → answerBy z l (supplyCall P l) ≡ answer accepted
+  supply-answer P measured wanted = answer-clear (supplyCall P l) (supply-clear P measured wanted) ∙ unfold supplyCall acceptedAnswer row in refl
 
   -- a promotion
   pub promote-clear : length (l .entries) ≤ firstWanted (l .entries) → refusalBy z l promote ≡ 0
@@ -114,8 +114,8 @@ module _ (P : Problem) (x : LentCall) (m : Machine) (enough : short (lengthsLent
 
   -- the first wanted block's delivery
   pub supply-step : ReadingValued P → firstWanted (l .entries) < length (l .entries) → x .call ≡ supplyCall P l → machineStep m x ≡ supply P m
-  supply-step measured wanted is = step-clear (supplyCall P l) (supply-clear P z l enough measured wanted) is ∙ unfold supplyCall effectOf row changed supply in refl
+  supply-step measured wanted is = step-clear (supplyCall P l) (supply-clear z l enough P measured wanted) is ∙ unfold supplyCall effectOf row changed supply in refl
 
   -- a promotion
   pub promote-step : length (l .entries) ≤ firstWanted (l .entries) → x .call ≡ promote → machineStep m x ≡ steps.promoteStep m
-  promote-step free is = step-clear promote (promote-clear P z l enough free) is ∙ promote-effect m
+  promote-step free is = step-clear promote (promote-clear z l enough free) is ∙ promote-effect m

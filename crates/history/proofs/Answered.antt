@@ -57,7 +57,7 @@ module _ (x : Part) (P : Problem) (g : Settings) (long : 512 * 27 ≤ x .cells) 
   supplies-taken zero m v e c = tt
   supplies-taken (suc n) m v e c =
       let h = some-wanted (m .log .entries) n c in (
-        inl (supply-answer P (lengthsLent x) (m .log) (enough x P g long room measured m e) measured h),
+        inl (supply-answer (lengthsLent x) (m .log) (enough x P g long room measured m e) P measured h),
         subst (λ (o : Log). AllTaken (answersBy o (lendAll x (supplyCalls P n (suppliedLog P (m .log)))))) (sym (stepped h))
             (subst (λ (o : Log). AllTaken (answersBy (supply P m .log) (lendAll x (supplyCalls P n o)))) supplied-is
             (supplies-taken n (supply P m) (supply-sound P measured m v h) (supply-settings P m ∙ e) (supply-count P measured m v h n c))),
@@ -76,7 +76,7 @@ module _ (x : Part) (P : Problem) (g : Settings) (long : 512 * 27 ≤ x .cells) 
       → AllTaken (answersBy (m .log) (lendAll x (turnCalls P (m .log))))
   unfolding lendAll turnCalls answersBy steps.promoteStep
   turn-taken m v e free is = (
-    inr (promote-answer P (lengthsLent x) (m .log) (enough x P g long room measured m e) free ∙ ap (λ o. answer (promotion o)) is),
+    inr (promote-answer (lengthsLent x) (m .log) (enough x P g long room measured m e) free ∙ ap (λ o. answer (promotion o)) is),
     subst (λ (o : Log). AllTaken (answersBy o (lendAll x (supplyCalls P (countOf 0 (rule.promote (m .log) .log .entries)) (rule.promote (m .log) .log))))) (sym stepped)
         (supplies-taken (countOf 0 (rule.promote (m .log) .log .entries)) (steps.promoteStep m) (step-facts .promote m v free) (promoted-settings (m .log) ∙ e) refl),
   )

@@ -1,11 +1,10 @@
 -- What the statements shut out: by the laws of the causes, and by computation.
 -- Assumes nothing.
-use mathlib.Core.Path.{_≡_, refl, ap, sym}
-use mathlib.Core.Logic.{inl, inr}
-use mathlib.Core.Bool.{Bool, true, false, cond, _&&_}
-use Prim.Native.Nat.{ℕ, _≤_}
+use mathlib.Core.Path.{_≡_, refl, ap, sym, _∙_}
+use mathlib.Core.Bool.{Bool, true, false, cond}
+use Prim.Native.Nat.{ℕ, _<_, _≤_}
 use native.Mathlib.Omega.{arith}
-use borrow.Author.Tests.{le-leb, lt-leb, leb-true, leb-false}
+use borrow.Author.Tests.{le-leb, leb-true}
 use lib.Dec.{leb}
 use lib.ListN.{length}
 use Rattle.sums.specs.Sums.{sumTo, sumOf}
@@ -25,6 +24,10 @@ use Rattle.area.specs.Settings.{axesFit, budgetFit, readingsFor, readingCount, 
 use Rattle.area.specs.Log.{Log, withEntries}
 use Rattle.machine.specs.Log.{wanted, firstWanted, anyWanted, wantedIndex}
 use Rattle.machine.specs.Promote as rule
+use Rattle.machine.specs.Admitted.{Exceeds, IndexPlace}
+use Rattle.machine.proofs.Facts.{step-facts}
+use Rattle.machine.proofs.Limits.{above-not-met, promote-above, not-met-above}
+use Rattle.machine.proofs.Spent.{admitted-facts}
 use Rattle.machine.specs.Steps as steps
 use Rattle.machine.specs.Steps.{deliverAt, delivered}
 use Rattle.machine.specs.Causes.{firstCause, short, inRange, deliverCauses, startCauses}
@@ -44,39 +47,30 @@ use Rattle.calls.proofs.Tests as tests
 use Rattle.calls.proofs.Causes.{common-none, start-fits, deliver-fits}
 use Rattle.calls.proofs.Rows.{start-accepts, deliver-accepts}
 use Rattle.history.specs.Logged.{stateOf, logStep, answerBy, answersBy}
-use Rattle.history.specs.Excluded.{refined, ExceedsLimits, Excluded, fileCalls, answersAfter, CallCases}
+use Rattle.history.specs.Excluded.{refined, SelectsIndex, ListsNext, Excluded, fileCalls, answersAfter, CallCases}
 
-promoted-above : (l : Log) → (rule.isMet l ≡ true → ⊥) → rule.fits (l .settings .budget) (refined l) ≡ true
-    → rule.promote l .outcome ≡ rule.promoted
-unfolding rule.promote rule.promoteAt
-promoted-above l n f = split (rule.isMet l) (rule.fits (l .settings .budget) (rule.refine (l .settings .axes) (l .entries) (rule.selected (l .entries)))) n f
+-- a promotion that is spent is above the threshold
+pub spent-above : (l : Log) → rule.promote l .outcome ≡ rule.spent → l .settings .threshold < pendingOf (l .entries)
+spent-above l e = not-met-above l (λ m. not-met (sym m ∙ e))
   where
-    more : rule.Promotion
-    more = record { outcome = rule.promoted; log = withEntries l (rule.refine (l .settings .axes) (l .entries) (rule.selected (l .entries))) }
+    not-met : rule.met ≡ rule.spent → ⊥
+    not-met m = let y : _≡_ {A = ℕ} 0 1 = cc in omega arith
 
-    split : (t u : Bool) → (t ≡ true → ⊥) → u ≡ true
-        → cond t (record { outcome = rule.met; log = l }) (cond u more (record { outcome = rule.spent; log = l })) .outcome ≡ rule.promoted
-    split true u g e = absurd (g refl)
-    split false true g e = refl
-    split false false g e = let y : _≡_ {A = ℕ} 0 1 = cc in absurd (omega arith)
+-- the selected place
+module _ (l : Log) (ks : List (List ℕ)) (levels : SelectsIndex l) (these : ListsNext l ks) where
+  place : (rule.isMet l ≡ true → ⊥) → IndexPlace l (rule.selected (l .entries))
+  place n = record { inside = step-facts .selects l n .0; levels = levels }
 
--- what fits neither passes 512 nor the budget
-fits-not : (l : Log) → ExceedsLimits l → rule.fits (l .settings .budget) (refined l) ≡ false
-unfolding rule.fits
-fits-not l (inl h) = rw (lt-leb (length (refined l)) 512 h) refl
-fits-not l (inr h) = both (leb (length (refined l)) 512) (lt-leb (reservedBy (refined l)) (l .settings .budget) h)
-  where
-    both : (t : Bool) → leb (reservedBy (refined l)) (l .settings .budget) ≡ false → (t && leb (reservedBy (refined l)) (l .settings .budget)) ≡ false
-    both true e = e
-    both false e = refl
+  pub spent-if : l .settings .threshold < pendingOf (l .entries) → Exceeds l ks → rule.promote l .outcome ≡ rule.spent
+  spent-if h x = promote-above l (above-not-met l h) ∙ admitted-facts .spent l (rule.selected (l .entries)) ks (place (above-not-met l h)) these x
 
-passes : (l : Log) → rule.fits (l .settings .budget) (refined l) ≡ false → ExceedsLimits l
-unfolding rule.fits
-passes l = step (leb (length (refined l)) 512) refl
-  where
-    step : (t : Bool) → leb (length (refined l)) 512 ≡ t → (t && leb (reservedBy (refined l)) (l .settings .budget)) ≡ false → ExceedsLimits l
-    step true e f = inr (leb-false (reservedBy (refined l)) (l .settings .budget) f)
-    step false e f = inl (leb-false (length (refined l)) 512 e)
+  pub promoted-if : l .settings .threshold < pendingOf (l .entries) → (Exceeds l ks → ⊥) → rule.promote l .outcome ≡ rule.promoted
+  promoted-if h n = promote-above l (above-not-met l h) ∙ admitted-facts .promoted l (rule.selected (l .entries)) ks (place (above-not-met l h)) these n
+
+  pub only-if : rule.promote l .outcome ≡ rule.spent → (l .settings .threshold < pendingOf (l .entries)) × Exceeds l ks
+  only-if e =
+      let h : l .settings .threshold < pendingOf (l .entries) = spent-above l e in
+      (h, admitted-facts .spent-only l (rule.selected (l .entries)) ks (place (above-not-met l h)) these (sym (promote-above l (above-not-met l h)) ∙ e))
 
 module _ (l : Log) where
   abbrev more : rule.Promotion
@@ -84,24 +78,6 @@ module _ (l : Log) where
 
   abbrev given : Bool → Bool → rule.Promotion
   given t u = cond t (record { outcome = rule.met; log = l }) (cond u more (record { outcome = rule.spent; log = l }))
-
-  spent-if : (rule.isMet l ≡ true → ⊥) → ExceedsLimits l → rule.promote l .outcome ≡ rule.spent
-  unfolding rule.promote rule.promoteAt
-  spent-if n h = step (rule.isMet l) (rule.fits (l .settings .budget) (refined l)) n (fits-not l h)
-    where
-      step : (t u : Bool) → (t ≡ true → ⊥) → u ≡ false → given t u .outcome ≡ rule.spent
-      step true u g e = absurd (g refl)
-      step false true g e = let y : _≡_ {A = ℕ} 0 1 = cc in absurd (omega arith)
-      step false false g e = refl
-
-  only-if : rule.promote l .outcome ≡ rule.spent → (rule.isMet l ≡ true → ⊥) × ExceedsLimits l
-  unfolding rule.promote rule.promoteAt
-  only-if e = step (rule.isMet l) (rule.fits (l .settings .budget) (refined l)) refl e
-    where
-      step : (t u : Bool) → rule.fits (l .settings .budget) (refined l) ≡ u → given t u .outcome ≡ rule.spent → (t ≡ true → ⊥) × ExceedsLimits l
-      step true u f g = let y : _≡_ {A = ℕ} 0 1 = cc in absurd (omega arith)
-      step false true f g = let y : _≡_ {A = ℕ} 0 1 = cc in absurd (omega arith)
-      step false false f g = (λ h. let y : _≡_ {A = ℕ} 0 1 = cc in omega arith, passes l f)
 
   met-if : pendingOf (l .entries) ≤ l .settings .threshold → rule.promote l .outcome ≡ rule.met
   unfolding rule.promote rule.isMet
@@ -144,7 +120,7 @@ excluded =
       ceiling-counted = unfold countsOf stateOf ceilingCount cappedAxes within levelsWithin excess forward pair in refl;
       met = met-if;
       met-only = met-only-if;
-      promoted = promoted-above;
+      promoted = promoted-if;
       spent = spent-if;
       spent-only = only-if;
       one-old = unfold rule.admits rule.backwardOld rule.isOld within levelsWithin excess forward backward allFrom sameLevels pair in refl;

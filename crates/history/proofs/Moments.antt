@@ -1,7 +1,7 @@
--- The second demand at any moment: after every list of calls Fig. 1 has the log's state, as soon as nothing is wanted.
+-- The second demand at any moment: after every list of calls Fig. 1 has the log's state, but for what is wanted.
 -- The idea: every accepted call keeps the machine in a state of Fig. 1, within a turn or between two, and a refused one leaves it.
 -- Assumes nothing.
-use mathlib.Core.Path.{_≡_, refl, sym, subst}
+use mathlib.Core.Path.{_≡_, refl, sym, ap, _∙_, subst}
 use mathlib.Core.Bool.{Bool, true, false, cond}
 use mathlib.Core.List.{List, [], _∷_}
 use Prim.Native.Nat.{ℕ, _<_, _≤_}
@@ -9,7 +9,9 @@ use native.Mathlib.Decide.{decLt}
 use native.Mathlib.Omega.{arith}
 use borrow.Author.Tests.{eqb-true}
 use lib.Dec.{eqb}
+use lib.IntN.{_+ℤ_}
 use lib.ListN.{length}
+use Rattle.sums.specs.Sums.{sumOf}
 use Rattle.encoding.specs.Entries.{entryAt}
 use Rattle.area.specs.Log.{Machine}
 use Rattle.machine.specs.Log.{firstWanted, anyWanted}
@@ -18,13 +20,16 @@ use Rattle.machine.specs.Steps as steps
 use Rattle.machine.specs.Causes.{Lengths, deliverCauses, promoteCauses}
 use Rattle.machine.proofs.Wanted.{none-wanted, reads-wanted}
 use Rattle.calls.proofs.Accepted.{deliverable, promotable}
-use Rattle.published.proofs.Problems.{posed}
+use Rattle.published.specs.Figure.{Problem, increment}
+use Rattle.published.specs.Turns.{wantedOf, SettingsMatch, SuppliedSoFar}
+use Rattle.published.proofs.Problems.{posed-so-far, posed}
 use Rattle.published.proofs.Moments.{OnCourse, start-course, deliver-course, promote-course, course-simulates}
+use Rattle.published.proofs.Underway.{UnderwayNow, course-underway}
 use Rattle.calls.specs.Table.{Call, start, point, deliver, promote, result, crossTotal, check, row, causesOf, effectOf, refusal, changed, stateAfter}
 use Rattle.calls.proofs.Rows.{promote-effect}
 use Rattle.history.specs.LentCalls.{LentCall, lengthsLent}
-use Rattle.history.specs.Source.{StepsFollow, StepsFollowAll}
-use Rattle.history.proofs.Moves.{moved, machineStep, MachineInvariant, moved-fine, step-fine}
+use Rattle.history.specs.Source.{FollowsSoFar, StepsFollow, StepsFollowAll}
+use Rattle.history.proofs.Moves.{moved, machineStep, MachineInvariant, combined, moved-fine, step-fine}
 use Rattle.history.proofs.Lists.{machineAfter}
 use Rattle.history.proofs.Demand.{log-there, state-fine}
 use Rattle.history.proofs.Simulation.{follows-at}
@@ -62,8 +67,22 @@ steps-of m f c =
     record {
       every = λ P posing v. let x = course-simulates P m c posing v in follows-at P m (countOf 2 (m .log .entries)) f (x .simulates) (x .went-on);
       some = λ none. posed (f .sound) (all none);
+      every-moment = moment;
+      some-moment = posed-so-far (f .sound);
     }
   where
+    moment : (P : Problem) → SettingsMatch (m .log .settings) P → SuppliedSoFar P (m .log .entries) → FollowsSoFar P (m .log) (countOf 2 (m .log .entries))
+    moment P posing given =
+        let x : UnderwayNow P m (f .sound) = course-underway P m (f .sound) c posing given in
+        record {
+          old-there = x .underway .old-there;
+          old-here = x .underway .old-here;
+          not-old = x .underway .active;
+          pending = x .underway .pending;
+          result = ap (λ y. y +ℤ sumOf (wantedOf (m .log .entries)) (increment P)) (sym (combined m f)) ∙ x .underway .result;
+          went-on = x .went-on;
+        }
+
     all : (anyWanted (m .log .entries) ≡ true → ⊥) → (p : ℕ) → p < length (m .log .entries) → 1 ≤ entryAt (m .log .entries) p .state
     all none = none-wanted (m .log .entries) (step (decLt (firstWanted (m .log .entries)) (length (m .log .entries))))
       where

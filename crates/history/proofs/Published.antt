@@ -108,7 +108,7 @@ module _ (x : Part) (P : Problem) (g : Settings) where
     unfolding lendAll begun answersBy
     begun-taken = (
       inl first-taken,
-      (inl (ap (λ (o : Log). answerBy (lengthsLent x) o (supplyCall P l₀)) started-log ∙ supply-answer P (lengthsLent x) l₀ (tests.enough (lengthsLent x) g (omega (arith, long)) room) measured (unfold firstWanted wanted in omega arith)), tt),
+      (inl (ap (λ (o : Log). answerBy (lengthsLent x) o (supplyCall P l₀)) started-log ∙ supply-answer (lengthsLent x) l₀ (tests.enough (lengthsLent x) g (omega (arith, long)) room) P measured (unfold firstWanted wanted in omega arith)), tt),
     )
 
     free : (n : ℕ) (r : AfterTurns x P g long room measured fit posed n) → length (turnsOn P g n .log .entries) ≤ firstWanted (turnsOn P g n .log .entries)

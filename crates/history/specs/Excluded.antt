@@ -1,7 +1,6 @@
 -- What the statements shut out ("Versions that count for nothing", "Plausible figures that are wrong"), and the scope document's file as a
 -- list of calls.
 use mathlib.Core.Path.{_≡_}
-use mathlib.Core.Logic.{_⊎_}
 use mathlib.Core.Bool.{true, false}
 use mathlib.Core.List.{List, [], _∷_, map}
 use Prim.Native.Nat.{ℕ, _*_, _-_, _^_, _<_, _≤_}
@@ -16,8 +15,10 @@ use Rattle.area.specs.Settings.{settingsOf, SettingsFit, readingCount, leastSto
 use Rattle.area.specs.Entry.{Entry, deliveredOf, reservedBy, pendingOf}
 use Rattle.area.specs.Log.{Log, withEntries}
 use Rattle.area.specs.Encoding.{Area, entriesOf}
+use Rattle.encoding.specs.Entries.{entryAt}
 use Rattle.machine.specs.Log.{anyWanted, wantedIndex}
 use Rattle.machine.specs.Promote as rule
+use Rattle.machine.specs.Admitted.{ListsAdmitted, Exceeds}
 use Rattle.machine.specs.Steps.{startLog, deliverLog}
 use Rattle.machine.specs.Causes.{Lengths, inRange}
 use Rattle.machine.specs.Counts.{countsOf}
@@ -44,9 +45,13 @@ read k s rs = record { levels = k; state = s; indicator = 0; readings = rs }
 abbrev mixed : Log
 mixed = record { settings = settingsOf 2 0 64; entries = entry (pair 1 1) 2 ∷ entry (pair 2 1) 2 ∷ entry (pair 1 2) 2 ∷ entry (pair 3 1) 1 ∷ entry (pair 2 2) 1 ∷ entry (pair 1 3) 0 ∷ [] }
 
--- With the selected refined, the held would be above 512 or the reserved above the budget.
-abbrev pub ExceedsLimits : Log → Type 0
-ExceedsLimits l = (512 < length (refined l)) ⊎ (l .settings .budget < reservedBy (refined l))
+-- The selected index has a level for each axis, as every index has.
+abbrev pub SelectsIndex : Log → Type 0
+SelectsIndex l = l .settings .axes ≤ length (entryAt (l .entries) (rule.selected (l .entries)) .levels)
+
+-- ks are the indices that promote would admit, each once: told by their levels alone (crate `machine`, specs/Admitted.antt).
+abbrev pub ListsNext : Log → List (List ℕ) → Type 0
+ListsNext l ks = ListsAdmitted l (rule.selected (l .entries)) ks
 
 pub record Excluded : Type 0 where
   -- "refuses all starts or deliveries": no cause but the table's
@@ -73,12 +78,11 @@ pub record Excluded : Type 0 where
   -- "says met or spent from the start": met exactly if the pending error is at most the threshold
   pub met : (l : Log) → pendingOf (l .entries) ≤ l .settings .threshold → rule.promote l .outcome ≡ rule.met
   pub met-only : (l : Log) → rule.promote l .outcome ≡ rule.met → pendingOf (l .entries) ≤ l .settings .threshold
-  -- above the threshold, and within 512 and the budget, it is promoted
-  pub promoted : (l : Log) → (rule.isMet l ≡ true → ⊥) → rule.fits (l .settings .budget) (refined l) ≡ true
-      → rule.promote l .outcome ≡ rule.promoted
-  -- and spent exactly if the admitted would bring the held above 512 or the reserved above the budget
-  pub spent : (l : Log) → (rule.isMet l ≡ true → ⊥) → ExceedsLimits l → rule.promote l .outcome ≡ rule.spent
-  pub spent-only : (l : Log) → rule.promote l .outcome ≡ rule.spent → (rule.isMet l ≡ true → ⊥) × ExceedsLimits l
+  -- above the threshold it is spent exactly if the admitted would bring the held above 512 or the reserved above the budget
+  pub spent : (l : Log) (ks : List (List ℕ)) → SelectsIndex l → ListsNext l ks → l .settings .threshold < pendingOf (l .entries) → Exceeds l ks → rule.promote l .outcome ≡ rule.spent
+  pub spent-only : (l : Log) (ks : List (List ℕ)) → SelectsIndex l → ListsNext l ks → rule.promote l .outcome ≡ rule.spent → (l .settings .threshold < pendingOf (l .entries)) × Exceeds l ks
+  -- and promoted otherwise
+  pub promoted : (l : Log) (ks : List (List ℕ)) → SelectsIndex l → ListsNext l ks → l .settings .threshold < pendingOf (l .entries) → (Exceeds l ks → ⊥) → rule.promote l .outcome ≡ rule.promoted
   -- (2,2) is not admitted when only (2,1) is old, and is when (1,2) is old too
   pub one-old : rule.admits 2 (entry (pair 1 1) 2 ∷ entry (pair 2 1) 2 ∷ entry (pair 1 2) 1 ∷ []) (pair 2 1) 1 ≡ false
   pub both-old : rule.admits 2 (entry (pair 1 1) 2 ∷ entry (pair 2 1) 2 ∷ entry (pair 1 2) 2 ∷ []) (pair 2 1) 1 ≡ true

@@ -5,7 +5,8 @@ use mathlib.Core.Path.{_≡_}
 use mathlib.Core.Logic.{_⊎_}
 use mathlib.Core.Bool.{true}
 use mathlib.Core.List.{List, [], _∷_, _++_, map, List·Memᴰ}
-use Prim.Native.Nat.{ℕ, zero, suc, _*_, _<_, _≤_}
+use Prim.Native.Nat.{ℕ, zero, suc, _+_, _*_, _<_, _≤_}
+use lib.IntN.{_+ℤ_}
 use Rattle.sums.specs.Sums.{sumOf}
 use Rattle.grid.specs.Block.{block}
 use Rattle.grid.specs.Difference.{scaledDifference}
@@ -17,17 +18,18 @@ use Rattle.encoding.specs.Entries.{EnteredOld}
 use Rattle.machine.specs.Log.{anyWanted, wantedIndex}
 use Rattle.machine.specs.Promote as rule
 use Rattle.machine.specs.Counts.{countOf}
+use Rattle.machine.specs.Admitted.{totalOf}
 use Rattle.machine.specs.Steps.{startLog, deliverLog}
 use Rattle.machine.specs.Causes.{Lengths}
 use Rattle.machine.specs.Means.{crossOf}
 use Rattle.calls.specs.Replies.{accepted, promotion}
 use Rattle.calls.specs.Table.{Call, start, deliver, promote, Answer, answer}
 use Rattle.calls.specs.Calls.{callOn}
-use Rattle.published.specs.Figure.{Problem, increment, loopCondition, turns}
-use Rattle.published.specs.Turns.{activeOf, SettingsMatch, ReadingValued, Supplied}
+use Rattle.published.specs.Figure.{Problem, increment, loopCondition, select, turns}
+use Rattle.published.specs.Turns.{activeOf, wantedOf, notOldOf, SettingsMatch, ReadingValued, Supplied, SuppliedSoFar, ExceedsLimits, PromotionFollows}
 use Rattle.published.specs.Sums.{SampledFrom}
-use Rattle.history.specs.LentCalls.{Part, LentCall}
-use Rattle.history.specs.Logged.{logAfter, answerBy}
+use Rattle.history.specs.LentCalls.{Part, LentCall, lengthsLent}
+use Rattle.history.specs.Logged.{logStep, logAfter, answerBy}
 use Rattle.history.specs.Storage.{Storage, areaLent, Lent, AllLent, storageAfter, answersOf}
 use Rattle.history.specs.Found.{Found}
 
@@ -62,12 +64,47 @@ pub record Follows (P : Problem) (l : Log) (n : ℕ) : Type 0 where
   -- and promote, called next in storage that is long enough, answers *met* exactly if the test fails; then Fig. 1 returns this result
   pub over : (z : Lengths) → 512 ≤ z .records → leastStore (l .settings) ≤ z .readings → (loopCondition P (turns P n) ≡ true → ⊥) → answerBy z l promote ≡ answer (promotion rule.met)
   pub goes-on : (z : Lengths) → loopCondition P (turns P n) ≡ true → answerBy z l promote ≡ answer (promotion rule.met) → ⊥
+  -- where the test holds it is *spent* exactly if after the next turn 𝒪 and 𝒜 have more than 512 indices, or their blocks more points than
+  -- the budget
+  pub spent : (z : Lengths) → 512 ≤ z .records → leastStore (l .settings) ≤ z .readings → loopCondition P (turns P n) ≡ true
+      → ExceedsLimits (l .settings .budget) (turns P (suc n)) → answerBy z l promote ≡ answer (promotion rule.spent)
+  pub spent-only : (z : Lengths) → answerBy z l promote ≡ answer (promotion rule.spent)
+      → (loopCondition P (turns P n) ≡ true) × ExceedsLimits (l .settings .budget) (turns P (suc n))
+  -- and *promoted* otherwise
+  pub promoted : (z : Lengths) → 512 ≤ z .records → leastStore (l .settings) ≤ z .readings → loopCondition P (turns P n) ≡ true
+      → (ExceedsLimits (l .settings .budget) (turns P (suc n)) → ⊥) → answerBy z l promote ≡ answer (promotion rule.promoted)
+  -- a promote that is promoted is, on 𝒪 and 𝒜, the selection, the move and the scan; the pending error falls by the selected indicator
+  pub promotes : (x : LentCall) → x .call ≡ promote → answerBy (lengthsLent (x .part)) l promote ≡ answer (promotion rule.promoted)
+      → PromotionFollows P (turns P n) (select P (turns P n)) (l .entries) (logStep l x .entries)
+  -- and the mean stays: r and the new indicators follow with the deliveries (`FollowsSoFar`)
+  pub promotes-result : (x : LentCall) → x .call ≡ promote → answerBy (lengthsLent (x .part)) l promote ≡ answer (promotion rule.promoted)
+      → crossOf (logStep l x .entries) ≡ crossOf (l .entries)
 
--- After every list of the third demand with nothing left wanted, Fig. 1 has the log's state, after as many turns as there are old
--- indices; and a problem that gives these readings and indicators there always is.
+-- The log at any moment, also between a promotion and its deliveries: Fig. 1 has made n turns, and the log's state is that after them but for
+-- what is wanted.
+pub record FollowsSoFar (P : Problem) (l : Log) (n : ℕ) : Type 0 where
+  -- the old are 𝒪
+  pub old-there : (k : List ℕ) → EnteredOld (l .entries) k → List·Memᴰ k (turns P n .old)
+  pub old-here : (k : List ℕ) → List·Memᴰ k (turns P n .old) → EnteredOld (l .entries) k
+  -- the indices that are not old, in order, are 𝒜
+  pub not-old : notOldOf (l .entries) ≡ turns P n .active
+  -- the pending error, with the problem's indicators of the wanted, is η
+  pub pending : pendingOf (l .entries) + totalOf (P .indicator) (wantedOf (l .entries)) ≡ turns P n .estimate
+  -- the mean, with the increments of the wanted, is r
+  pub result : crossOf (l .entries) +ℤ sumOf (wantedOf (l .entries)) (increment P) ≡ turns P n .result
+  -- the loop's test held before each of the turns
+  pub went-on : (i : ℕ) → i < n → loopCondition P (turns P i) ≡ true
+
+-- After every list of the third demand:
 pub record StepsFollow (l : Log) : Type 0 where
+  -- with nothing left wanted, Fig. 1 has the log's state, after as many turns as there are old indices
   pub every : (P : Problem) → SettingsMatch (l .settings) P → Supplied P (l .entries) → Follows P l (countOf 2 (l .entries))
+  -- and a problem that gives these readings and indicators there always is
   pub some : (anyWanted (l .entries) ≡ true → ⊥) → (P : Problem) × SettingsMatch (l .settings) P × ReadingValued P × Supplied P (l .entries)
+  -- whatever is wanted, it has that state but for the wanted, for every problem that gives what is delivered so far
+  pub every-moment : (P : Problem) → SettingsMatch (l .settings) P → SuppliedSoFar P (l .entries) → FollowsSoFar P l (countOf 2 (l .entries))
+  -- and such a problem there always is
+  pub some-moment : (P : Problem) × SettingsMatch (l .settings) P × ReadingValued P × SuppliedSoFar P (l .entries)
 
 abbrev pub StepsFollowAll : Type 0
 StepsFollowAll = (w : Storage) (first : LentCall) (later : List LentCall) (g : Settings) → AllLent w (first ∷ later)

@@ -11,6 +11,9 @@ pub mod Ranges
 pub mod Started
 pub mod Delivered
 pub mod Admitted
+pub mod Totals
+pub mod Limits
+pub mod Spent
 pub mod Refined
 pub mod Facts
 pub mod Promotes

@@ -2,6 +2,7 @@
 -- steps are on an area.
 pub mod Log
 pub mod Promote
+pub mod Admitted
 pub mod Steps
 pub mod Areas
 pub mod Causes

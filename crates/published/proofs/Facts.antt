@@ -1,7 +1,7 @@
 -- The machine's steps are the lines of Fig. 1, proved.
 -- Assumes nothing.
 use mathlib.Core.Path.{_≡_, refl, ap₂, subst}
-use mathlib.Core.List.{[], _∷_, List·Memᴰ·not-nil}
+use mathlib.Core.List.{List, [], _∷_, List·Memᴰ·not-nil}
 use Prim.Native.Nat.{ℕ, zero, suc, _<_}
 use native.Mathlib.Nat.{zero-add}
 use native.Mathlib.Omega.{arith}
@@ -9,10 +9,11 @@ use lib.IntN.{pos, +ℤ-idl}
 use Rattle.grid.specs.Index.{root}
 use Rattle.area.specs.declared.Settings.{Settings}
 use Rattle.area.specs.Settings.{SettingsFit}
-use Rattle.area.specs.Entry.{pendingOf}
+use Rattle.area.specs.Entry.{reservedBy, pendingOf}
 use Rattle.encoding.specs.Entries.{SoundMachine}
 use Rattle.machine.specs.Promote.{promoted, promote}
 use Rattle.machine.specs.Steps.{started}
+use Rattle.machine.specs.Admitted.{totalOf}
 use Rattle.machine.proofs.Facts.{step-facts}
 use Rattle.published.specs.Figure.{Problem, Figure, increment, initial, joined, turns}
 use Rattle.published.specs.Turns.{supply, supplies, turnsOn, activeOf, SettingsMatch, ReadingValued, Simulates}
@@ -30,7 +31,7 @@ nothing = record { old = []; active = []; result = pos 0; estimate = 0 }
 
 module _ (P : Problem) where
   nothing-agrees : Agrees P [] nothing
-  unfolding nothing activeOf pendingOf
+  unfolding nothing activeOf pendingOf reservedBy totalOf
   nothing-agrees =
       record {
         supplied =
@@ -39,6 +40,8 @@ module _ (P : Problem) where
         old-here = λ k h. absurd (List·Memᴰ·not-nil h);
         active = refl;
         pending = refl;
+        held = refl;
+        reserved = refl;
       }
 
   pub started-waits : (g : Settings) → SettingsMatch g P → Waiting P (started g) [] (root ∷ []) nothing
@@ -69,6 +72,10 @@ published-facts =
       begins = λ P g measured fit posed. begins-both P g measured fit posed .1;
       over = Outcomes.over;
       goes-on = Outcomes.goes-on;
+      selects = OneTurn.selects-same;
+      refines = λ P m s p v at h a. OneTurn.refines P m s v at p h a;
+      spent-at = λ P m s p v at h a. OneTurn.spent-at P m s v at p h a;
+      promoted-at = λ P m s p v at h a. OneTurn.promoted-at P m s v at p h a;
       one-turn = λ P m s measured v at e. OneTurn.one-turn P m s v at e measured;
       any-turns = λ P g n measured fit posed. any-turns P g measured fit posed n;
     }

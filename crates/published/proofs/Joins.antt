@@ -7,11 +7,14 @@ use mathlib.Core.List.{List, [], _∷_, _++_, map, append-nil, List·Memᴰ}
 use Prim.Native.Nat.{ℕ, zero, suc, _+_, _<_, _≤_}
 use native.Mathlib.Omega.{arith}
 use lib.Dec.{eqb}
-use Rattle.grid.specs.Block.{block}
-use Rattle.area.specs.Entry.{Entry, pendingOf}
+use lib.ListN.{length, length-append}
+use Rattle.grid.specs.Block.{block, blockSize}
+use Rattle.area.specs.Entry.{Entry, reservedBy, pendingOf}
 use Rattle.area.specs.Log.{Machine}
 use Rattle.encoding.specs.Entries.{entryAt, EnteredOld}
 use Rattle.machine.specs.Log.{wanted}
+use Rattle.machine.specs.Admitted.{totalOf}
+use Rattle.machine.proofs.Totals.{total-append}
 use Rattle.machine.proofs.Appends.{Split, append-left, append-right, append-split, append-each, old-left}
 use Rattle.published.specs.Figure.{Problem, Figure, joined}
 use Rattle.published.specs.Turns.{activeOf, SettingsMatch, Supplied, Simulates}
@@ -28,6 +31,8 @@ pub record Agrees (P : Problem) (es : List Entry) (s : Figure) : Type 0 where
   pub old-here : (k : List ℕ) → List·Memᴰ k (s .old) → EnteredOld es k
   pub active : activeOf es ≡ s .active
   pub pending : pendingOf es ≡ s .estimate
+  pub held : length es ≡ length (s .old) + length (s .active)
+  pub reserved : reservedBy es ≡ totalOf blockSize (s .old) + totalOf blockSize (s .active)
 
 -- and those of the indices ks are wanted after them
 pub record Waiting (P : Problem) (m : Machine) (es : List Entry) (ks : List (List ℕ)) (s : Figure) : Type 0 where
@@ -55,6 +60,8 @@ waiting-none P m es s w =
       active = a .active;
       result = w .result;
       pending = a .pending;
+      held = a .held;
+      reserved = a .reserved;
     }
   where
     a : Agrees P (m .log .entries) s
@@ -62,7 +69,7 @@ waiting-none P m es s w =
 
 -- ---- one entry more
 
-active-append : (xs ys : List Entry) → activeOf (xs ++ ys) ≡ activeOf xs ++ activeOf ys
+pub active-append : (xs ys : List Entry) → activeOf (xs ++ ys) ≡ activeOf xs ++ activeOf ys
 unfolding activeOf
 active-append [] ys = refl
 active-append (x ∷ xs) ys = step (eqb (x .state) 1) (active-append xs ys)
@@ -72,10 +79,15 @@ active-append (x ∷ xs) ys = step (eqb (x .state) 1) (active-append xs ys)
     step true ih = ap (λ ks. x .levels ∷ ks) ih
     step false ih = ih
 
-pending-append : (xs ys : List Entry) → pendingOf (xs ++ ys) ≡ pendingOf xs + pendingOf ys
+pub pending-append : (xs ys : List Entry) → pendingOf (xs ++ ys) ≡ pendingOf xs + pendingOf ys
 unfolding pendingOf
 pending-append [] ys = omega arith
 pending-append (x ∷ xs) ys = omega (arith, pending-append xs ys)
+
+pub reserved-append : (xs ys : List Entry) → reservedBy (xs ++ ys) ≡ reservedBy xs + reservedBy ys
+unfolding reservedBy
+reserved-append [] ys = omega arith
+reserved-append (x ∷ xs) ys = omega (arith, reserved-append xs ys)
 
 module _ (P : Problem) (es : List Entry) (k : List ℕ) where
   abbrev new : List Entry
@@ -122,7 +134,7 @@ module _ (P : Problem) (es : List Entry) (k : List ℕ) where
           (arith, h .2, ap (λ n. entryAt (es ++ new) n .state) (x .2), ap (λ (e : Entry). e .state) (append-right es new (x .0)), new-state (x .0) (x .1)))
 
   pub more-agrees : (s : Figure) → Agrees P es s → Agrees P (es ++ new) (joined P k s)
-  unfolding joined entryFor activeOf pendingOf
+  unfolding joined entryFor activeOf pendingOf reservedBy totalOf
   more-agrees s a =
       record {
         supplied = more-supplied (a .supplied);
@@ -130,4 +142,6 @@ module _ (P : Problem) (es : List Entry) (k : List ℕ) where
         old-here = λ l h. old-left es new l (a .old-here l h);
         active = active-append es new ∙ ap (λ ks. ks ++ k ∷ []) (a .active);
         pending = omega (arith, pending-append es new, a .pending);
+        held = omega (arith, length-append es new, length-append (s .active) (k ∷ []), a .held);
+        reserved = omega (arith, reserved-append es new, total-append blockSize (s .active) (k ∷ []), a .reserved);
       }

@@ -5,6 +5,7 @@ pub mod Scans
 pub mod Below
 pub mod Increments
 pub mod Joins
+pub mod Awaited
 pub mod Supplies
 pub mod Outcomes
 pub mod OneTurn
@@ -13,3 +14,4 @@ pub mod Problems
 pub mod Sums
 pub mod Facts
 pub mod Moments
+pub mod Underway

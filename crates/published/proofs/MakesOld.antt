@@ -14,6 +14,7 @@ use Rattle.grid.specs.Block.{block}
 use Rattle.grid.specs.Coefficient.{sameLevels}
 use Rattle.grid.proofs.Members.{same-refl, same-or}
 use Rattle.area.specs.Entry.{Entry, pendingOf}
+use Rattle.machine.specs.Admitted.{totalOf}
 use Rattle.encoding.specs.Entries.{entryAt, EnteredOld}
 use Rattle.machine.specs.Promote.{madeOld, makeOld}
 use Rattle.machine.proofs.Sets.{Different, set-here, set-each}
@@ -56,6 +57,22 @@ active-makeOld (e ∷ es) (suc p) u h a =
     step : (t : Bool) → activeOf (makeOld es p) ≡ without (activeOf es) (entryAt es p .levels)
         → cond t (e .levels ∷ activeOf (makeOld es p)) (activeOf (makeOld es p)) ≡ without (cond t (e .levels ∷ activeOf es) (activeOf es)) (entryAt es p .levels)
     step true ih = rw apart (ap (λ ks. e .levels ∷ ks) ih)
+    step false ih = ih
+
+-- one fewer are active, and their totals fall by its index
+pub total-makeOld : (f : List ℕ → ℕ) (es : List Entry) (p : ℕ) → p < length es → entryAt es p .state ≡ 1
+    → totalOf f (activeOf es) ≡ f (entryAt es p .levels) + totalOf f (activeOf (makeOld es p))
+unfolding makeOld madeOld activeOf totalOf
+total-makeOld f [] p h a = absurd (omega arith)
+total-makeOld f (e ∷ es) zero h a = rw (eq-eqb (e .state) 1 a)
+total-makeOld f (e ∷ es) (suc p) h a = step (eqb (e .state) 1) (total-makeOld f es p (omega arith) a)
+  where
+    k : List ℕ
+    k = entryAt es p .levels
+
+    step : (t : Bool) → totalOf f (activeOf es) ≡ f k + totalOf f (activeOf (makeOld es p))
+        → totalOf f (cond t (e .levels ∷ activeOf es) (activeOf es)) ≡ f k + totalOf f (cond t (e .levels ∷ activeOf (makeOld es p)) (activeOf (makeOld es p)))
+    step true ih = omega (arith, ih)
     step false ih = ih
 
 -- ---- the pending error

@@ -1,31 +1,40 @@
--- A promotion that is promoted, and the deliveries of all that it admitted, are one turn.
+-- Refining an active place is the move of its index and the scan, a promotion that is promoted besides the selection, and with the deliveries
+-- of all that it admitted it is one turn.
 -- The idea: the promotion selects and makes old what Fig. 1 selects and moves, and appends as wanted what the scan joins; the deliveries join
 -- these in order.
 -- Assumes nothing.
 use mathlib.Core.Path.{_≡_, refl, sym, ap, _∙_, subst}
 use mathlib.Core.Bool.{true}
-use mathlib.Core.List.{List, [], _∷_, _++_, map}
-use Prim.Native.Nat.{ℕ, suc, _<_, _≤_}
+use mathlib.Core.List.{List, [], _∷_, _++_, map, List·Memᴰ}
+use Prim.Native.Nat.{ℕ, suc, _+_, _<_, _≤_}
 use native.Mathlib.Omega.{arith}
 use borrow.Author.Tests.{ne-eqb}
-use lib.ListN.{length}
+use lib.ListN.{length, length-append, length-map}
 use Rattle.grid.specs.Index.{forward}
-use Rattle.area.specs.Entry.{Entry}
+use Rattle.grid.specs.Block.{blockSize}
+use Rattle.area.specs.Entry.{Entry, reservedBy, pendingOf}
 use Rattle.area.specs.Log.{Log, Machine}
-use Rattle.encoding.specs.Entries.{entryAt, SoundMachine}
+use Rattle.encoding.specs.Entries.{entryAt, EnteredOld, SoundMachine}
 use Rattle.machine.specs.Log.{wanted}
 use Rattle.machine.specs.Counts.{countOf}
-use Rattle.machine.specs.Promote.{promoted, selected, makeOld, admittedAxes, refine, isMet, promote}
+use Rattle.machine.specs.Promote.{spent, promoted, selected, madeOld, makeOld, admittedAxes, refine, isMet, promoteAt, promote}
+use Rattle.machine.specs.Admitted.{totalOf}
 use Rattle.machine.specs.Steps.{promoteStep}
 use Rattle.machine.proofs.Wanted.{first-none}
+use Rattle.machine.proofs.Sets.{set-each, reserved-set}
+use Rattle.machine.proofs.Appends.{old-left, old-before}
+use Rattle.machine.proofs.Admitted.{makeOld-length}
+use Rattle.machine.proofs.Totals.{total-append, total-length}
+use Rattle.machine.proofs.Limits.{limits-spent, limits-only, limits-promoted, promote-above}
 use Rattle.machine.proofs.Facts.{step-facts}
-use Rattle.published.specs.Figure.{Problem, Figure, without, moved, scanned, turn}
-use Rattle.published.specs.Turns.{supplies, turnOn, SettingsMatch, ReadingValued, Simulates}
+use Rattle.published.specs.Figure.{Problem, Figure, select, without, moved, turnAt, turn}
+use Rattle.published.specs.Turns.{supplies, turnOn, activeOf, notOldOf, SettingsMatch, ReadingValued, Simulates, ExceedsLimits, PromotionFollows}
 use Rattle.published.proofs.Selects.{select-same}
-use Rattle.published.proofs.MakesOld.{active-makeOld, pending-makeOld, makeOld-there, makeOld-here, makeOld-supplied}
+use Rattle.published.proofs.MakesOld.{active-makeOld, total-makeOld, pending-makeOld, makeOld-there, makeOld-here, makeOld-supplied}
 use Rattle.published.proofs.Scans.{joinedAll, scan-admits}
 use Rattle.published.proofs.Joins.{Agrees, Waiting, Joining}
-use Rattle.published.proofs.Supplies.{supplies-join}
+use Rattle.published.proofs.Awaited.{joins-old, joins-active, EachDelivered, active-before, pending-before, reserved-both, not-old-both}
+use Rattle.published.proofs.Supplies.{all-wanted, supplies-join}
 use Rattle.published.proofs.Outcomes.{promoted-not-met, promoted-log}
 
 -- ---- how many are wanted
@@ -46,78 +55,195 @@ wanted-map : (k axes : List ℕ) → map (λ a. wanted (forward k a)) axes ≡ m
 wanted-map k [] = refl
 wanted-map k (a ∷ axes) = ap (λ es. wanted (forward k a) ∷ es) (wanted-map k axes)
 
-module _ (P : Problem) (m : Machine) (s : Figure) (v : SoundMachine m) (at : Simulates P m s) (e : promote (m .log) .outcome ≡ promoted) where
+-- Fig. 1 selects the index of the selected place
+pub selects-same : (P : Problem) (m : Machine) (s : Figure) → Simulates P m s → select P s ≡ entryAt (m .log .entries) (selected (m .log .entries)) .levels
+selects-same P m s at = select-same P (m .log .entries) s (at .supplied .indicators) (at .active)
+
+module _ (P : Problem) (m : Machine) (s : Figure) (v : SoundMachine m) (at : Simulates P m s) where
   abbrev es : List Entry
   es = m .log .entries
 
-  -- the selected place and its index
-  abbrev p : ℕ
-  p = selected es
+  -- ---- any active place refined
 
-  abbrev k : List ℕ
-  k = entryAt es p .levels
+  module _ (p : ℕ) (inside : p < length (m .log .entries)) (is-active : entryAt (m .log .entries) p .state ≡ 1) where
+    abbrev k : List ℕ
+    k = entryAt es p .levels
 
-  not-met : isMet (m .log) ≡ true → ⊥
-  not-met = promoted-not-met (m .log) e
+    active-same : activeOf (makeOld es p) ≡ without (s .active) k
+    active-same = active-makeOld es p (v .different) inside is-active ∙ ap (λ ks. without ks k) (at .active)
 
-  inside : p < length es
-  inside = step-facts .selects (m .log) not-met .0
+    -- the totals over the active, before and after
+    total-active : (f : List ℕ → ℕ) → totalOf f (s .active) ≡ f k + totalOf f (without (s .active) k)
+    total-active f =
+        ap (totalOf f) (sym (at .active)) ∙ total-makeOld f es p inside is-active ∙ ap (λ ks. f k + totalOf f ks) active-same
 
-  is-active : entryAt es p .state ≡ 1
-  is-active = step-facts .selects (m .log) not-met .1
+    agrees : Agrees P (makeOld es p) (moved P k s)
+    unfolding moved totalOf
+    agrees =
+        record {
+          supplied = makeOld-supplied es p inside P (at .supplied);
+          old-there = makeOld-there es p inside (s .old) (at .old-there);
+          old-here = makeOld-here es p inside (s .old) (at .old-here);
+          active = active-same;
+          pending = omega (arith, pending-makeOld es p inside is-active, at .pending, at .supplied .indicators p inside);
+          held =
+              omega
+              (arith, makeOld-length es p inside, at .held, length-append (s .old) (k ∷ []), total-active (λ j. 1), total-length (s .active), total-length (without (s .active) k));
+          reserved =
+              omega (arith, reserved-makeOld, at .reserved, total-append blockSize (s .old) (k ∷ []), total-active blockSize);
+        }
+      where
+        reserved-makeOld : reservedBy (makeOld es p) ≡ reservedBy es
+        reserved-makeOld = unfold makeOld madeOld in reserved-set es p (madeOld (entryAt es p)) inside refl
 
-  -- ---- what the promotion leaves
+    -- the admitted indices
+    abbrev ks : List (List ℕ)
+    ks = map (forward k) (admittedAxes (P .axes) (makeOld es p) k)
 
-  agrees : Agrees P (makeOld es p) (moved P k s)
-  unfolding moved
-  agrees =
-      record {
-        supplied = makeOld-supplied es p inside P (at .supplied);
-        old-there = makeOld-there es p inside (s .old) (at .old-there);
-        old-here = makeOld-here es p inside (s .old) (at .old-here);
-        active = active-makeOld es p (v .different) inside is-active ∙ ap (λ ks. without ks k) (at .active);
-        pending = omega (arith, pending-makeOld es p inside is-active, at .pending, at .supplied .indicators p inside);
-      }
+    abbrev after : List Entry
+    after = refine (m .log .settings .axes) es p
 
-  -- the admitted indices
-  abbrev ks : List (List ℕ)
-  ks = map (forward k) (admittedAxes (P .axes) (makeOld es p) k)
+    after-is : refine (m .log .settings .axes) (m .log .entries) p ≡ makeOld es p ++ map wanted ks
+    unfolding refine
+    after-is =
+        ap (λ d. refine d es p) (sym (at .posed .axes))
+        ∙ ap (λ ws. makeOld es p ++ ws) (wanted-map k (admittedAxes (P .axes) (makeOld es p) k))
 
-  step-entries : promoteStep m .log .entries ≡ makeOld es p ++ map wanted ks
-  unfolding promoteStep refine
-  step-entries =
-      ap (λ (l : Log). l .entries) (promoted-log (m .log) e)
-      ∙ ap (λ d. refine d es p) (sym (at .posed .axes))
-      ∙ ap (λ ws. makeOld es p ++ ws) (wanted-map k (admittedAxes (P .axes) (makeOld es p) k))
+    -- ---- the turn of Fig. 1 with its index
 
-  waits : Waiting P (promoteStep m) (makeOld es p) ks (moved P k s)
-  unfolding promoteStep moved
-  waits =
-      record {
-        posed = subst (λ (l : Log). SettingsMatch (l .settings) P) (sym (promoted-log (m .log) e)) (at .posed);
-        entries = step-entries;
-        agrees = agrees;
-        result = at .result;
-      }
+    turn-joins : turnAt P k s ≡ joinedAll P ks (moved P k s)
+    unfolding turnAt
+    turn-joins = scan-admits P (moved P k s) (makeOld es p) (agrees .old-there) (agrees .old-here) k
 
-  sound : SoundMachine (promoteStep m)
-  sound = step-facts .promote m v (omega (arith, first-none es (at .supplied .delivered)))
+    each : EachDelivered (makeOld es p)
+    unfolding makeOld
+    each q h = (agrees .supplied .delivered q h, set-each es p (madeOld (entryAt es p)) inside (λ e. e .state ≤ 2) (unfold madeOld in omega arith) (λ r b n. v .states r b) q (omega (arith, makeOld-length es p inside)))
 
-  -- ---- the turn of Fig. 1
+    turn-old : turnAt P k s .old ≡ moved P k s .old
+    turn-old = ap (λ (r : Figure). r .old) turn-joins ∙ joins-old P ks (moved P k s)
 
-  turn-joins : turn P s ≡ joinedAll P ks (moved P k s)
+    turn-active : turnAt P k s .active ≡ moved P k s .active ++ ks
+    turn-active = ap (λ (r : Figure). r .active) turn-joins ∙ joins-active P ks (moved P k s)
+
+    pub refines : PromotionFollows P s (entryAt (m .log .entries) p .levels) (m .log .entries) (refine (m .log .settings .axes) (m .log .entries) p)
+    refines =
+        record {
+          old-there = λ j h. subst (List·Memᴰ j) (sym turn-old) (agrees .old-there j (old-before (makeOld es p) (map wanted ks) (all-wanted ks) j (subst (λ xs. EnteredOld xs j) after-is h)));
+          old-here = λ j h. subst (λ xs. EnteredOld xs j) (sym after-is) (old-left (makeOld es p) (map wanted ks) j (agrees .old-here j (subst (List·Memᴰ j) turn-old h)));
+          active = ap activeOf after-is ∙ active-before (makeOld es p) ks ∙ agrees .active;
+          not-old = ap notOldOf after-is ∙ not-old-both (makeOld es p) ks each ∙ ap (λ xs. xs ++ ks) (agrees .active) ∙ sym turn-active;
+          pending-falls = omega (arith, pending-makeOld es p inside is-active, at .supplied .indicators p inside, pending-after);
+          pending = pending-after ∙ agrees .pending;
+        }
+      where
+        pending-after : pendingOf after ≡ pendingOf (makeOld es p)
+        pending-after = ap pendingOf after-is ∙ pending-before (makeOld es p) ks
+
+    -- ---- how many would be held, and how much reserved
+
+    held-next : length after ≡ length (turnAt P k s .old) + length (turnAt P k s .active)
+    held-next =
+        omega
+        (arith, ap length after-is, length-append (makeOld es p) (map wanted ks), length-map ks wanted, agrees .held, ap length turn-old, ap length turn-active, length-append (moved P k s .active) ks)
+
+    reserved-next : reservedBy after ≡ totalOf blockSize (turnAt P k s .old) + totalOf blockSize (turnAt P k s .active)
+    reserved-next =
+        omega
+        (arith, ap reservedBy after-is, reserved-both (makeOld es p) ks, agrees .reserved, ap (totalOf blockSize) turn-old, ap (totalOf blockSize) turn-active, total-append blockSize (moved P k s .active) ks)
+
+    abbrev next : Figure
+    next = turnAt P k s
+
+    pub spent-at : ExceedsLimits (m .log .settings .budget) (turnAt P (entryAt (m .log .entries) p .levels) s) → promoteAt (m .log) p .outcome ≡ spent
+    spent-at =
+        limits-spent (m .log) p (length (next .old) + length (next .active)) (totalOf blockSize (next .old) + totalOf blockSize (next .active)) held-next reserved-next
+
+    pub spent-at-only : promoteAt (m .log) p .outcome ≡ spent → ExceedsLimits (m .log .settings .budget) (turnAt P (entryAt (m .log .entries) p .levels) s)
+    spent-at-only =
+        limits-only (m .log) p (length (next .old) + length (next .active)) (totalOf blockSize (next .old) + totalOf blockSize (next .active)) held-next reserved-next
+
+    pub promoted-at : (ExceedsLimits (m .log .settings .budget) (turnAt P (entryAt (m .log .entries) p .levels) s) → ⊥) → promoteAt (m .log) p .outcome ≡ promoted
+    promoted-at =
+        limits-promoted (m .log) p (length (next .old) + length (next .active)) (totalOf blockSize (next .old) + totalOf blockSize (next .active)) held-next reserved-next
+
+  -- ---- the selected place, where the pending error is above the threshold
+
+  abbrev chosen : ℕ
+  chosen = selected es
+
+  turn-is : turn P s ≡ turnAt P (entryAt es chosen .levels) s
   unfolding turn
-  turn-joins =
-      ap (λ i. scanned P i (P .axes) 0 (moved P i s)) (select-same P es s (at .supplied .indicators) (at .active))
-      ∙ scan-admits P (moved P k s) (makeOld es p) (agrees .old-there) (agrees .old-here) k
+  turn-is = ap (λ i. turnAt P i s) (selects-same P m s at)
 
-  pub turn-joining : Joining P (promoteStep m) (turn P s)
-  turn-joining = record { given = makeOld es p; awaited = ks; figure = moved P k s; waits = waits; joins = sym turn-joins }
+  module _ (not-met : isMet (m .log) ≡ true → ⊥) where
+    abbrev here : chosen < length es
+    here = step-facts .selects (m .log) not-met .0
 
-  pub one-turn : ReadingValued P → SoundMachine (turnOn P m) × Simulates P (turnOn P m) (turn P s)
-  unfolding turnOn
-  one-turn measured =
-      subst (λ n. SoundMachine (supplies P n (promoteStep m)) × Simulates P (supplies P n (promoteStep m)) (turn P s))
-      (sym (ap (countOf 0) step-entries ∙ count-after (makeOld es p) ks (agrees .supplied .delivered)))
-      (subst (λ r. SoundMachine (supplies P (length ks) (promoteStep m)) × Simulates P (supplies P (length ks) (promoteStep m)) r) (sym turn-joins)
-      (supplies-join P measured ks (promoteStep m) (makeOld es p) (moved P k s) sound waits))
+    abbrev active-here : entryAt es chosen .state ≡ 1
+    active-here = step-facts .selects (m .log) not-met .1
+
+    pub next-spent : ExceedsLimits (m .log .settings .budget) (turn P s) → promote (m .log) .outcome ≡ spent
+    next-spent x = promote-above (m .log) not-met ∙ spent-at chosen here active-here (subst (ExceedsLimits (m .log .settings .budget)) turn-is x)
+
+    pub next-spent-only : promote (m .log) .outcome ≡ spent → ExceedsLimits (m .log .settings .budget) (turn P s)
+    next-spent-only e =
+        subst (ExceedsLimits (m .log .settings .budget)) (sym turn-is) (spent-at-only chosen here active-here (sym (promote-above (m .log) not-met) ∙ e))
+
+    pub next-promoted : (ExceedsLimits (m .log .settings .budget) (turn P s) → ⊥) → promote (m .log) .outcome ≡ promoted
+    next-promoted n =
+        promote-above (m .log) not-met ∙ promoted-at chosen here active-here (λ x. n (subst (ExceedsLimits (m .log .settings .budget)) (sym turn-is) x))
+
+  -- ---- a promotion that is promoted, and the deliveries
+
+  module _ (e : promote (m .log) .outcome ≡ promoted) where
+    not-met : isMet (m .log) ≡ true → ⊥
+    not-met = promoted-not-met (m .log) e
+
+    is-inside : chosen < length es
+    is-inside = step-facts .selects (m .log) not-met .0
+
+    active-there : entryAt es chosen .state ≡ 1
+    active-there = step-facts .selects (m .log) not-met .1
+
+    abbrev i : List ℕ
+    i = entryAt es chosen .levels
+
+    abbrev admitted : List (List ℕ)
+    admitted = map (forward i) (admittedAxes (P .axes) (makeOld es chosen) i)
+
+    step-entries : promoteStep m .log .entries ≡ makeOld es chosen ++ map wanted admitted
+    unfolding promoteStep
+    step-entries = ap (λ (l : Log). l .entries) (promoted-log (m .log) e) ∙ after-is chosen is-inside active-there
+
+    -- on 𝒪 and 𝒜 the promotion is the selection, the move and the scan
+    pub promotion-follows : PromotionFollows P s (select P s) (m .log .entries) (promote (m .log) .log .entries)
+    promotion-follows =
+        subst (λ j. PromotionFollows P s j es (promote (m .log) .log .entries)) (sym (selects-same P m s at))
+        (subst (PromotionFollows P s i es) (sym (ap (λ (l : Log). l .entries) (promoted-log (m .log) e))) (refines chosen is-inside active-there))
+
+    waits : Waiting P (promoteStep m) (makeOld es chosen) admitted (moved P i s)
+    unfolding promoteStep moved
+    waits =
+        record {
+          posed = subst (λ (l : Log). SettingsMatch (l .settings) P) (sym (promoted-log (m .log) e)) (at .posed);
+          entries = step-entries;
+          agrees = agrees chosen is-inside active-there;
+          result = at .result;
+        }
+
+    sound : SoundMachine (promoteStep m)
+    sound = step-facts .promote m v (omega (arith, first-none es (at .supplied .delivered)))
+
+    joins-turn : turn P s ≡ joinedAll P admitted (moved P i s)
+    joins-turn = turn-is ∙ turn-joins chosen is-inside active-there
+
+    pub turn-joining : Joining P (promoteStep m) (turn P s)
+    turn-joining = record { given = makeOld es chosen; awaited = admitted; figure = moved P i s; waits = waits; joins = sym joins-turn }
+
+    pub one-turn : ReadingValued P → SoundMachine (turnOn P m) × Simulates P (turnOn P m) (turn P s)
+    unfolding turnOn
+    one-turn measured =
+        subst (λ n. SoundMachine (supplies P n (promoteStep m)) × Simulates P (supplies P n (promoteStep m)) (turn P s))
+        (sym (ap (countOf 0) step-entries ∙ count-after (makeOld es chosen) admitted (agrees chosen is-inside active-there .supplied .delivered)))
+        (subst (λ r. SoundMachine (supplies P (length admitted) (promoteStep m)) × Simulates P (supplies P (length admitted) (promoteStep m)) r) (sym joins-turn)
+        (supplies-join P measured admitted (promoteStep m) (makeOld es chosen) (moved P i s) sound waits))

@@ -61,7 +61,7 @@ module _ (es : List Entry) (k : List ℕ) (ws : List Entry) (delivered-all : (p 
       ∙ ap (λ (e : Entry). set whole (length es) (delivered e rs i)) at-seam
       ∙ set-append-seam es (wanted k) ws (delivered (wanted k) rs i)
 
-all-wanted : (ks : List (List ℕ)) (i : ℕ) → i < length (map wanted ks) → entryAt (map wanted ks) i .state ≡ 0
+pub all-wanted : (ks : List (List ℕ)) (i : ℕ) → i < length (map wanted ks) → entryAt (map wanted ks) i .state ≡ 0
 unfolding wanted
 all-wanted [] i h = absurd (omega arith)
 all-wanted (k ∷ ks) zero h = refl

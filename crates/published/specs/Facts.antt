@@ -1,14 +1,17 @@
 -- The machine's steps are the lines of Fig. 1.
 use mathlib.Core.Path.{_≡_}
 use mathlib.Core.Bool.{true}
+use mathlib.Core.List.{List}
 use Prim.Native.Nat.{ℕ, _<_}
+use lib.ListN.{length}
 use Rattle.area.specs.declared.Settings.{Settings}
 use Rattle.area.specs.Settings.{SettingsFit}
 use Rattle.area.specs.Log.{Machine}
-use Rattle.encoding.specs.Entries.{SoundMachine}
+use Rattle.encoding.specs.Entries.{entryAt, SoundMachine}
+use Rattle.machine.specs.Promote as rule
 use Rattle.machine.specs.Promote.{met, promoted, promote}
-use Rattle.published.specs.Figure.{Problem, Figure, initial, loopCondition, turn, turns}
-use Rattle.published.specs.Turns.{turnOn, turnsOn, SettingsMatch, ReadingValued, Simulates}
+use Rattle.published.specs.Figure.{Problem, Figure, initial, loopCondition, select, turnAt, turn, turns}
+use Rattle.published.specs.Turns.{turnOn, turnsOn, SettingsMatch, ReadingValued, Simulates, ExceedsLimits, PromotionFollows}
 
 pub record PublishedFacts : Type 0 where
   -- start and the root's delivery are the lines before the loop
@@ -16,6 +19,16 @@ pub record PublishedFacts : Type 0 where
   -- the loop goes on exactly if promote is not met
   pub over : (P : Problem) (m : Machine) (s : Figure) → Simulates P m s → (loopCondition P s ≡ true → ⊥) → promote (m .log) .outcome ≡ met
   pub goes-on : (P : Problem) (m : Machine) (s : Figure) → Simulates P m s → loopCondition P s ≡ true → promote (m .log) .outcome ≡ met → ⊥
+  -- promote selects what Fig. 1 selects
+  pub selects : (P : Problem) (m : Machine) (s : Figure) → Simulates P m s → select P s ≡ entryAt (m .log .entries) (rule.selected (m .log .entries)) .levels
+  -- refining any active place is on 𝒪 and 𝒜 the move of its index and the scan
+  pub refines : (P : Problem) (m : Machine) (s : Figure) (p : ℕ) → SoundMachine m → Simulates P m s → p < length (m .log .entries) → entryAt (m .log .entries) p .state ≡ 1
+      → PromotionFollows P s (entryAt (m .log .entries) p .levels) (m .log .entries) (rule.refine (m .log .settings .axes) (m .log .entries) p)
+  -- it is *spent* exactly if after the turn with its index 𝒪 and 𝒜 are past the limits, and *promoted* otherwise
+  pub spent-at : (P : Problem) (m : Machine) (s : Figure) (p : ℕ) → SoundMachine m → Simulates P m s → p < length (m .log .entries) → entryAt (m .log .entries) p .state ≡ 1
+      → ExceedsLimits (m .log .settings .budget) (turnAt P (entryAt (m .log .entries) p .levels) s) → rule.promoteAt (m .log) p .outcome ≡ rule.spent
+  pub promoted-at : (P : Problem) (m : Machine) (s : Figure) (p : ℕ) → SoundMachine m → Simulates P m s → p < length (m .log .entries) → entryAt (m .log .entries) p .state ≡ 1
+      → (ExceedsLimits (m .log .settings .budget) (turnAt P (entryAt (m .log .entries) p .levels) s) → ⊥) → rule.promoteAt (m .log) p .outcome ≡ rule.promoted
   -- a promotion that is promoted, and the deliveries of all that it admitted, are one turn
   pub one-turn : (P : Problem) (m : Machine) (s : Figure) → ReadingValued P → SoundMachine m → Simulates P m s → promote (m .log) .outcome ≡ promoted
       → SoundMachine (turnOn P m) × Simulates P (turnOn P m) (turn P s)

@@ -85,9 +85,13 @@ unfoldable pub scanned : Problem → List ℕ → (n k : ℕ) → Figure → Fig
 scanned P i zero k s = s
 scanned P i (suc n) k s = scanned P i n (k + 1) (cond (admissible P s (forward i k)) (joined P (forward i k) s) s)
 
+-- One turn of the loop, once i is selected: the move, and then the scan.
+unfoldable pub turnAt : Problem → List ℕ → Figure → Figure
+turnAt P i s = scanned P i (P .axes) 0 (moved P i s)
+
 -- One turn of the loop. It has a meaning where the loop's test holds, and then 𝒜 is not empty.
 unfoldable pub turn : Problem → Figure → Figure
-turn P s = scanned P (select P s) (P .axes) 0 (moved P (select P s) s)
+turn P s = turnAt P (select P s) s
 
 -- The variables after n turns.
 unfoldable pub turns : Problem → ℕ → Figure

@@ -1,0 +1,44 @@
+-- When promote is *spent*, after every list of calls: by the indices that it would admit, which are told by their levels alone (crate `machine`,
+-- specs/Admitted.antt).
+use mathlib.Core.Path.{_≡_}
+use mathlib.Core.Bool.{true}
+use mathlib.Core.List.{List, _∷_}
+use Prim.Native.Nat.{ℕ, _<_, _≤_}
+use lib.ListN.{length}
+use Rattle.area.specs.declared.Settings.{Settings}
+use Rattle.area.specs.Settings.{leastStore}
+use Rattle.area.specs.Entry.{pendingOf}
+use Rattle.area.specs.Log.{Log}
+use Rattle.encoding.specs.Entries.{entryAt, Entered}
+use Rattle.machine.specs.Log.{anyWanted}
+use Rattle.machine.specs.Promote as rule
+use Rattle.machine.specs.Admitted.{Admitted, ListsAdmitted, Exceeds}
+use Rattle.machine.specs.Steps.{startLog}
+use Rattle.machine.specs.Causes.{Lengths}
+use Rattle.calls.specs.Replies.{accepted, promotion}
+use Rattle.calls.specs.Table.{start, promote, answer}
+use Rattle.calls.specs.Calls.{callOn}
+use Rattle.history.specs.LentCalls.{LentCall}
+use Rattle.history.specs.Logged.{logAfter, answerBy}
+use Rattle.history.specs.Storage.{Storage, areaLent, AllLent}
+
+pub record Admissions (l : Log) : Type 0 where
+  -- what any active place would admit can be listed, each index once
+  pub listed : (p : ℕ) → p < length (l .entries) → entryAt (l .entries) p .state ≡ 1 → (ks : List (List ℕ)) × ListsAdmitted l p ks
+  -- none of it is held yet
+  pub none-held : (p : ℕ) (k : List ℕ) → p < length (l .entries) → entryAt (l .entries) p .state ≡ 1 → Admitted (l .settings .axes) (l .entries) p k
+      → Entered (l .entries) k → ⊥
+  -- promote, called next with nothing wanted in storage that is long enough, is *spent* exactly if the pending error is above the threshold
+  -- and what the selected place would admit brings the held above 512 or the reserved above the budget
+  pub spent : (z : Lengths) (ks : List (List ℕ)) → 512 ≤ z .records → leastStore (l .settings) ≤ z .readings → (anyWanted (l .entries) ≡ true → ⊥)
+      → ListsAdmitted l (rule.selected (l .entries)) ks → l .settings .threshold < pendingOf (l .entries) → Exceeds l ks → answerBy z l promote ≡ answer (promotion rule.spent)
+  pub spent-only : (z : Lengths) (ks : List (List ℕ)) → ListsAdmitted l (rule.selected (l .entries)) ks → answerBy z l promote ≡ answer (promotion rule.spent)
+      → (l .settings .threshold < pendingOf (l .entries)) × Exceeds l ks
+  -- above the threshold and not so, it is *promoted*
+  pub promoted : (z : Lengths) (ks : List (List ℕ)) → 512 ≤ z .records → leastStore (l .settings) ≤ z .readings → (anyWanted (l .entries) ≡ true → ⊥)
+      → ListsAdmitted l (rule.selected (l .entries)) ks → l .settings .threshold < pendingOf (l .entries) → (Exceeds l ks → ⊥) → answerBy z l promote ≡ answer (promotion rule.promoted)
+
+-- After every list of the third demand.
+abbrev pub SpentExactly : Type 0
+SpentExactly = (w : Storage) (first : LentCall) (later : List LentCall) (g : Settings) → AllLent w (first ∷ later)
+    → first .call ≡ start g → callOn (areaLent w (first .part)) (start g) .answer ≡ answer accepted → Admissions (logAfter (startLog g) later)
