@@ -3,7 +3,6 @@
 -- Assumes nothing.
 use mathlib.Core.Path.{_≡_, refl, ap, sym, _∙_, subst}
 use mathlib.Core.Bool.{Bool, true, false, cond}
-use mathlib.Core.List.{List}
 use Prim.Native.Nat.{ℕ, suc, _<_, _≤_}
 use native.Mathlib.Omega.{arith}
 use borrow.Author.Tests.{eqb-true}
@@ -24,7 +23,7 @@ use Rattle.calls.specs.Replies.{refused, promotion}
 use Rattle.calls.proofs.Tests as tests
 use Rattle.published.specs.Figure.{Problem, loopCondition, select, turn, turns}
 use Rattle.published.specs.Turns.{Simulates, ExceedsLimits, PromotionFollows}
-use Rattle.published.proofs.OneTurn.{next-spent, next-spent-only, next-promoted, promotion-follows}
+use Rattle.published.proofs.OneTurn.{next-spent, next-spent-only, next-once, next-promoted, promotion-follows}
 use Rattle.published.proofs.Facts.{published-facts}
 use Rattle.calls.specs.Table.{promote, result, Answer, answer, row, acceptedAnswer, refusedAnswer, refusal, answerOf}
 use Rattle.history.specs.LentCalls.{LentCall, lengthsLent}
@@ -100,6 +99,7 @@ module _ (P : Problem) (m : Machine) (n : ℕ) (invariant : MachineInvariant m) 
         goes-on = λ z g e. published-facts .goes-on P m (turns P n) simulates g (answered z (m .log) rule.met e .1);
         spent = λ z h k g x. answers z h k (next-spent P m (turns P n) (invariant .sound) simulates (above g) (unfold turns in x));
         spent-only = λ z e. let o : rule.promote (m .log) .outcome ≡ rule.spent = answered z (m .log) rule.spent e .1 in spent-outcome o;
+        once-after = λ g. unfold turns in next-once P m (turns P n) (invariant .sound) simulates (above g);
         promoted = λ z h k g x. answers z h k (next-promoted P m (turns P n) (invariant .sound) simulates (above g) (unfold turns in x));
         promotes = λ x is e. subst (λ (o : Log). PromotionFollows P (turns P n) (select P (turns P n)) (m .log .entries) (o .entries)) (sym (log-after x is e))
             (promotion-follows P m (turns P n) (invariant .sound) simulates (answered (lengthsLent (x .part)) (m .log) rule.promoted e .1));

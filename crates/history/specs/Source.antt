@@ -9,6 +9,7 @@ use Prim.Native.Nat.{ℕ, zero, suc, _+_, _*_, _<_, _≤_}
 use lib.IntN.{_+ℤ_}
 use Rattle.sums.specs.Sums.{sumOf}
 use Rattle.grid.specs.Block.{block}
+use Rattle.grid.specs.Terms.{NoDup}
 use Rattle.grid.specs.Difference.{scaledDifference}
 use Rattle.area.specs.declared.Settings.{Settings}
 use Rattle.area.specs.Settings.{SettingsFit, leastStore}
@@ -73,6 +74,8 @@ pub record Follows (P : Problem) (l : Log) (n : ℕ) : Type 0 where
   -- and *promoted* otherwise
   pub promoted : (z : Lengths) → 512 ≤ z .records → leastStore (l .settings) ≤ z .readings → loopCondition P (turns P n) ≡ true
       → (ExceedsLimits (l .settings .budget) (turns P (suc n)) → ⊥) → answerBy z l promote ≡ answer (promotion rule.promoted)
+  -- no index stands twice in those 𝒪 and 𝒜, so that it is indices that are counted
+  pub once-after : loopCondition P (turns P n) ≡ true → NoDup (turns P (suc n) .old ++ turns P (suc n) .active)
   -- a promote that is promoted is, on 𝒪 and 𝒜, the selection, the move and the scan; the pending error falls by the selected indicator
   pub promotes : (x : LentCall) → x .call ≡ promote → answerBy (lengthsLent (x .part)) l promote ≡ answer (promotion rule.promoted)
       → PromotionFollows P (turns P n) (select P (turns P n)) (l .entries) (logStep l x .entries)

@@ -93,7 +93,7 @@ module _ {m : Machine} (v : SoundMachine m) (p : ℕ) (inside : p < length (m .l
   abbrev k : List ℕ
   k = entryAt es p .levels
 
-  not-old : EnteredOld es k → ⊥
+  pub not-old : EnteredOld (m .log .entries) (entryAt (m .log .entries) p .levels) → ⊥
   not-old h =
       let e : h .0 ≡ p = v .different (h .0) p (h .1 .place) inside (h .1 .same) in
       omega (arith, h .2, ap (λ q. entryAt es q .state) e)

@@ -204,6 +204,11 @@ module _ {m : Machine} (v : SoundMachine m) (p : ℕ) (inside : p < length (m .l
       let x = reads-and _ _ (reads-le (length after) 512) (reads-le (reservedBy after) (g .budget)) .sure e in
       sound-from (joint (x .0) (x .1)) (append-each kept new (SoundEntry g (EnteredOld after)) kept-sound new-sound)
 
+  -- no index is there twice, whether it fits or not
+  pub refine-different : Different (refine (m .log .settings .axes) (m .log .entries) p)
+  unfolding refine
+  refine-different = different
+
   -- what is delivered stays so, and nothing else is
   pub refine-delivered : deliveredOf (refine d es p) ≡ deliveredOf es
   unfolding refine

@@ -4,7 +4,7 @@
 use mathlib.Core.Path.{_≡_, refl, sym, ap, _∙_, subst}
 use mathlib.Core.Logic.{_⊎_, inl, inr}
 use mathlib.Core.List.{List, [], _∷_, _++_, map, List·Memᴰ, List·Memᴰ·head, List·Memᴰ·tail, List·Memᴰ·not-nil, List·Memᴰ·cases-cons, Memᴰ·cast}
-use Prim.Native.Nat.{ℕ, zero, suc, _+_, _<_, _≤_}
+use Prim.Native.Nat.{ℕ, zero, suc, _+_, _<_}
 use native.Mathlib.Decide.{ℕ-discrete}
 use native.Mathlib.Omega.{arith}
 use lib.ListN.{length, getD, length-append, length-map}
@@ -15,10 +15,10 @@ use Rattle.grid.proofs.Lower.{map-in, in-map}
 use Rattle.grid.proofs.Neighbours.{forward-level, forward-other}
 use Rattle.area.specs.Entry.{Entry, reservedBy}
 use Rattle.area.specs.Log.{Log, Machine}
-use Rattle.encoding.specs.Entries.{entryAt, Has, Entered, EnteredOld, SoundMachine}
+use Rattle.encoding.specs.Entries.{entryAt, Entered, EnteredOld, SoundMachine}
 use Rattle.machine.specs.Log.{wanted}
 use Rattle.machine.specs.Promote.{spent, promoted, madeOld, makeOld, admittedAxes, refine, promoteAt}
-use Rattle.machine.specs.Admitted.{Admitted, Lists, totalOf, ListsAdmitted, Exceeds, IndexPlace, AdmittedFacts}
+use Rattle.machine.specs.Admitted.{Admitted, totalOf, ListsAdmitted, Exceeds, IndexPlace, AdmittedFacts}
 use Rattle.machine.proofs.Passing.{Occurs, Rising}
 use Rattle.machine.proofs.Old.{Admits}
 use Rattle.machine.proofs.Sets.{set-here, reserved-set}

@@ -1,21 +1,24 @@
 -- Indices joined in turn, and entries of which some are wanted: what there is of 𝒪 and 𝒜, of η and of r.
 -- Assumes nothing.
-use mathlib.Core.Path.{_≡_, refl, sym, ap, ap₂, _∙_, subst}
+use mathlib.Core.Path.{_≡_, refl, sym, ap, _∙_}
 use mathlib.Core.Bool.{Bool, true, false, cond}
-use mathlib.Core.List.{List, [], _∷_, _++_, map, append-nil}
-use Prim.Native.Nat.{ℕ, zero, suc, _+_, _<_, _≤_}
+use mathlib.Core.Logic.{_≢_, _⊎_, inl, inr}
+use mathlib.Core.List.{List, [], _∷_, _++_, map, append-nil, List·Memᴰ, List·Memᴰ·not-nil, List·Memᴰ·cases-cons}
+use Prim.Native.Nat.{ℕ, suc, _+_, _<_, _≤_}
 use native.Mathlib.Omega.{arith}
 use borrow.Author.Tests.{eq-eqb, ne-eqb, eqb-true, eqb-false}
 use lib.Dec.{eqb}
-use lib.IntN.{ℤ, pos, _+ℤ_, +ℤ-idr, +ℤ-assoc}
-use lib.ListN.{length, length-append}
+use lib.IntN.{_+ℤ_, +ℤ-idr, +ℤ-assoc}
+use lib.ListN.{length}
 use lib.Seq.{append-snoc}
 use Rattle.sums.specs.Sums.{sumOf}
 use Rattle.grid.specs.Block.{blockSize}
+use Rattle.grid.specs.Terms.{NoDup}
 use Rattle.area.specs.Entry.{Entry, reservedBy, pendingOf}
-use Rattle.encoding.specs.Entries.{entryAt}
+use Rattle.encoding.specs.Entries.{entryAt, Has}
 use Rattle.machine.specs.Log.{wanted}
 use Rattle.machine.specs.Admitted.{totalOf}
+use Rattle.machine.proofs.Sets.{Different}
 use Rattle.published.specs.Figure.{Problem, Figure, increment, joined}
 use Rattle.published.specs.Turns.{activeOf, wantedOf, notOldOf}
 use Rattle.published.proofs.Scans.{joinedAll}
@@ -103,3 +106,39 @@ not-old-both (e ∷ es) ks f = step (eqb (e .state) 1) refl (not-old-both es ks 
       where
         two : (e .state ≡ 1 → ⊥) → (1 ≤ e .state) × (e .state ≤ 2) → e .state ≡ 2
         two n b = omega (arith, b .0, b .1)
+
+-- ---- the indices that are not old
+
+-- each is that of an entry that is not old
+pub not-old-sure : (es : List Entry) (k : List ℕ) → List·Memᴰ k (notOldOf es) → (p : ℕ) × Has es k p × (entryAt es p .state ≢ 2)
+unfolding notOldOf
+not-old-sure [] k m = absurd (List·Memᴰ·not-nil m)
+not-old-sure (e ∷ es) k m = step (eqb (e .state) 2) refl m (not-old-sure es k)
+  where
+    next : (p : ℕ) × Has es k p × (entryAt es p .state ≢ 2) → (p : ℕ) × Has (e ∷ es) k p × (entryAt (e ∷ es) p .state ≢ 2)
+    next (p, h, n) = (suc p, record { place = omega (arith, h .place); same = h .same }, n)
+
+    step : (t : Bool) → eqb (e .state) 2 ≡ t → List·Memᴰ k (cond t (notOldOf es) (e .levels ∷ notOldOf es))
+        → (List·Memᴰ k (notOldOf es) → (p : ℕ) × Has es k p × (entryAt es p .state ≢ 2)) → (p : ℕ) × Has (e ∷ es) k p × (entryAt (e ∷ es) p .state ≢ 2)
+    step true q m ih = next (ih m)
+    step false q m ih = first (List·Memᴰ·cases-cons m)
+      where
+        first : (k ≡ e .levels) ⊎ List·Memᴰ k (notOldOf es) → (p : ℕ) × Has (e ∷ es) k p × (entryAt (e ∷ es) p .state ≢ 2)
+        first (inl i) = (0, record { place = omega arith; same = sym i }, eqb-false (e .state) 2 q)
+        first (inr r) = next (ih r)
+
+pub not-old-once : (es : List Entry) → Different es → NoDup (notOldOf es)
+unfolding notOldOf
+not-old-once [] u = tt
+not-old-once (e ∷ es) u =
+    step (eqb (e .state) 2) (not-old-once es (λ p q hp hq i. let z : suc p ≡ suc q = u (suc p) (suc q) (omega arith) (omega arith) i in omega arith))
+  where
+    out : List·Memᴰ (e .levels) (notOldOf es) → ⊥
+    out m =
+        let x = not-old-sure es (e .levels) m in
+        let z : 0 ≡ suc (x .0) = u 0 (suc (x .0)) (omega arith) (omega (arith, x .1 .place)) (sym (x .1 .same)) in
+        omega arith
+
+    step : (t : Bool) → NoDup (notOldOf es) → NoDup (cond t (notOldOf es) (e .levels ∷ notOldOf es))
+    step true n = n
+    step false n = (out, n)

@@ -1,7 +1,7 @@
 -- The machine's steps are the lines of Fig. 1, proved.
 -- Assumes nothing.
 use mathlib.Core.Path.{_≡_, refl, ap₂, subst}
-use mathlib.Core.List.{List, [], _∷_, List·Memᴰ·not-nil}
+use mathlib.Core.List.{[], _∷_, List·Memᴰ·not-nil}
 use Prim.Native.Nat.{ℕ, zero, suc, _<_}
 use native.Mathlib.Nat.{zero-add}
 use native.Mathlib.Omega.{arith}
@@ -42,6 +42,7 @@ module _ (P : Problem) where
         pending = refl;
         held = refl;
         reserved = refl;
+        once = tt;
       }
 
   pub started-waits : (g : Settings) → SettingsMatch g P → Waiting P (started g) [] (root ∷ []) nothing
@@ -74,6 +75,7 @@ published-facts =
       goes-on = Outcomes.goes-on;
       selects = OneTurn.selects-same;
       refines = λ P m s p v at h a. OneTurn.refines P m s v at p h a;
+      once-after = λ P m s p v at h a. OneTurn.once-after P m s v at p h a;
       spent-at = λ P m s p v at h a. OneTurn.spent-at P m s v at p h a;
       promoted-at = λ P m s p v at h a. OneTurn.promoted-at P m s v at p h a;
       one-turn = λ P m s measured v at e. OneTurn.one-turn P m s v at e measured;

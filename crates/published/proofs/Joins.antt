@@ -9,6 +9,7 @@ use native.Mathlib.Omega.{arith}
 use lib.Dec.{eqb}
 use lib.ListN.{length, length-append}
 use Rattle.grid.specs.Block.{block, blockSize}
+use Rattle.grid.specs.Terms.{NoDup}
 use Rattle.area.specs.Entry.{Entry, reservedBy, pendingOf}
 use Rattle.area.specs.Log.{Machine}
 use Rattle.encoding.specs.Entries.{entryAt, EnteredOld}
@@ -33,6 +34,7 @@ pub record Agrees (P : Problem) (es : List Entry) (s : Figure) : Type 0 where
   pub pending : pendingOf es ≡ s .estimate
   pub held : length es ≡ length (s .old) + length (s .active)
   pub reserved : reservedBy es ≡ totalOf blockSize (s .old) + totalOf blockSize (s .active)
+  pub once : NoDup (s .old)
 
 -- and those of the indices ks are wanted after them
 pub record Waiting (P : Problem) (m : Machine) (es : List Entry) (ks : List (List ℕ)) (s : Figure) : Type 0 where
@@ -62,6 +64,7 @@ waiting-none P m es s w =
       pending = a .pending;
       held = a .held;
       reserved = a .reserved;
+      once = a .once;
     }
   where
     a : Agrees P (m .log .entries) s
@@ -144,4 +147,5 @@ module _ (P : Problem) (es : List Entry) (k : List ℕ) where
         pending = omega (arith, pending-append es new, a .pending);
         held = omega (arith, length-append es new, length-append (s .active) (k ∷ []), a .held);
         reserved = omega (arith, reserved-append es new, total-append blockSize (s .active) (k ∷ []), a .reserved);
+        once = a .once;
       }

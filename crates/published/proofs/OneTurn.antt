@@ -5,16 +5,19 @@
 -- Assumes nothing.
 use mathlib.Core.Path.{_≡_, refl, sym, ap, _∙_, subst}
 use mathlib.Core.Bool.{true}
-use mathlib.Core.List.{List, [], _∷_, _++_, map, List·Memᴰ}
+use mathlib.Core.Logic.{_≢_}
+use mathlib.Core.List.{List, [], _∷_, _++_, map, List·Memᴰ, List·Memᴰ·not-nil, List·Memᴰ·eq-of-singleton, Memᴰ·cast}
 use Prim.Native.Nat.{ℕ, suc, _+_, _<_, _≤_}
 use native.Mathlib.Omega.{arith}
 use borrow.Author.Tests.{ne-eqb}
 use lib.ListN.{length, length-append, length-map}
 use Rattle.grid.specs.Index.{forward}
 use Rattle.grid.specs.Block.{blockSize}
+use Rattle.grid.specs.Terms.{NoDup}
+use Rattle.grid.proofs.Lower.{nodup-append}
 use Rattle.area.specs.Entry.{Entry, reservedBy, pendingOf}
 use Rattle.area.specs.Log.{Log, Machine}
-use Rattle.encoding.specs.Entries.{entryAt, EnteredOld, SoundMachine}
+use Rattle.encoding.specs.Entries.{entryAt, Has, EnteredOld, SoundMachine}
 use Rattle.machine.specs.Log.{wanted}
 use Rattle.machine.specs.Counts.{countOf}
 use Rattle.machine.specs.Promote.{spent, promoted, selected, madeOld, makeOld, admittedAxes, refine, isMet, promoteAt, promote}
@@ -23,7 +26,8 @@ use Rattle.machine.specs.Steps.{promoteStep}
 use Rattle.machine.proofs.Wanted.{first-none}
 use Rattle.machine.proofs.Sets.{set-each, reserved-set}
 use Rattle.machine.proofs.Appends.{old-left, old-before}
-use Rattle.machine.proofs.Admitted.{makeOld-length}
+use Rattle.machine.proofs.Admitted.{makeOld-length, not-old}
+use Rattle.machine.proofs.Refined.{refine-different}
 use Rattle.machine.proofs.Totals.{total-append, total-length}
 use Rattle.machine.proofs.Limits.{limits-spent, limits-only, limits-promoted, promote-above}
 use Rattle.machine.proofs.Facts.{step-facts}
@@ -33,7 +37,7 @@ use Rattle.published.proofs.Selects.{select-same}
 use Rattle.published.proofs.MakesOld.{active-makeOld, total-makeOld, pending-makeOld, makeOld-there, makeOld-here, makeOld-supplied}
 use Rattle.published.proofs.Scans.{joinedAll, scan-admits}
 use Rattle.published.proofs.Joins.{Agrees, Waiting, Joining}
-use Rattle.published.proofs.Awaited.{joins-old, joins-active, EachDelivered, active-before, pending-before, reserved-both, not-old-both}
+use Rattle.published.proofs.Awaited.{joins-old, joins-active, EachDelivered, active-before, pending-before, reserved-both, not-old-both, not-old-sure, not-old-once}
 use Rattle.published.proofs.Supplies.{all-wanted, supplies-join}
 use Rattle.published.proofs.Outcomes.{promoted-not-met, promoted-log}
 
@@ -77,6 +81,12 @@ module _ (P : Problem) (m : Machine) (s : Figure) (v : SoundMachine m) (at : Sim
     total-active f =
         ap (totalOf f) (sym (at .active)) ∙ total-makeOld f es p inside is-active ∙ ap (λ ks. f k + totalOf f ks) active-same
 
+    -- the place's index was not old before
+    old-once : NoDup (s .old ++ k ∷ [])
+    old-once =
+        nodup-append (s .old) (k ∷ []) (at .once) (List·Memᴰ·not-nil, tt) (λ j h q.
+        not-old v p inside is-active (at .old-here k (Memᴰ·cast (sym (List·Memᴰ·eq-of-singleton q)) h)))
+
     agrees : Agrees P (makeOld es p) (moved P k s)
     unfolding moved totalOf
     agrees =
@@ -91,6 +101,7 @@ module _ (P : Problem) (m : Machine) (s : Figure) (v : SoundMachine m) (at : Sim
               (arith, makeOld-length es p inside, at .held, length-append (s .old) (k ∷ []), total-active (λ j. 1), total-length (s .active), total-length (without (s .active) k));
           reserved =
               omega (arith, reserved-makeOld, at .reserved, total-append blockSize (s .old) (k ∷ []), total-active blockSize);
+          once = old-once;
         }
       where
         reserved-makeOld : reservedBy (makeOld es p) ≡ reservedBy es
@@ -138,6 +149,18 @@ module _ (P : Problem) (m : Machine) (s : Figure) (v : SoundMachine m) (at : Sim
       where
         pending-after : pendingOf after ≡ pendingOf (makeOld es p)
         pending-after = ap pendingOf after-is ∙ pending-before (makeOld es p) ks
+
+    -- no index is there twice
+    pub once-after : NoDup (turnAt P (entryAt (m .log .entries) p .levels) s .old ++ turnAt P (entryAt (m .log .entries) p .levels) s .active)
+    once-after =
+        nodup-append (turnAt P k s .old) (turnAt P k s .active) (subst NoDup (sym turn-old) (unfold moved in old-once)) (subst NoDup (refines .not-old) (not-old-once after (refine-different v p inside is-active))) (λ j h q.
+        apart j (refines .old-here j h) (not-old-sure after j (subst (List·Memᴰ j) (sym (refines .not-old)) q)))
+      where
+        apart : (j : List ℕ) → EnteredOld after j → (q : ℕ) × Has after j q × (entryAt after q .state ≢ 2) → ⊥
+        apart j h x =
+            x .2
+            (ap (λ r. entryAt after r .state) (refine-different v p inside is-active (x .0) (h .0) (x .1 .place) (h .1 .place) (x .1 .same ∙ sym (h .1 .same)))
+            ∙ h .2)
 
     -- ---- how many would be held, and how much reserved
 
@@ -188,6 +211,9 @@ module _ (P : Problem) (m : Machine) (s : Figure) (v : SoundMachine m) (at : Sim
     pub next-spent-only : promote (m .log) .outcome ≡ spent → ExceedsLimits (m .log .settings .budget) (turn P s)
     next-spent-only e =
         subst (ExceedsLimits (m .log .settings .budget)) (sym turn-is) (spent-at-only chosen here active-here (sym (promote-above (m .log) not-met) ∙ e))
+
+    pub next-once : NoDup (turn P s .old ++ turn P s .active)
+    next-once = subst (λ (r : Figure). NoDup (r .old ++ r .active)) (sym turn-is) (once-after chosen here active-here)
 
     pub next-promoted : (ExceedsLimits (m .log .settings .budget) (turn P s) → ⊥) → promote (m .log) .outcome ≡ promoted
     next-promoted n =

@@ -1,12 +1,12 @@
 -- The machine at any moment, in Fig. 1's variables: the old are 𝒪, the others 𝒜, and what is not yet delivered is missing from η and r.
 -- The idea: the delivered entries stand within the turn, and the wanted ones joined complete it.
 -- Assumes nothing.
-use mathlib.Core.Path.{_≡_, refl, sym, ap, ap₂, _∙_, subst}
+use mathlib.Core.Path.{_≡_, sym, ap, ap₂, _∙_, subst}
 use mathlib.Core.Bool.{true}
-use mathlib.Core.List.{List, [], _∷_, _++_, map, List·Memᴰ}
+use mathlib.Core.List.{List, _++_, map, List·Memᴰ}
 use Prim.Native.Nat.{ℕ, _+_, _<_, _≤_}
 use native.Mathlib.Omega.{arith}
-use lib.IntN.{ℤ, _+ℤ_}
+use lib.IntN.{_+ℤ_}
 use lib.ListN.{length, length-append}
 use Rattle.sums.specs.Sums.{sumOf}
 use Rattle.area.specs.Entry.{Entry, pendingOf}

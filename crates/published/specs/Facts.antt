@@ -1,9 +1,10 @@
 -- The machine's steps are the lines of Fig. 1.
 use mathlib.Core.Path.{_≡_}
 use mathlib.Core.Bool.{true}
-use mathlib.Core.List.{List}
+use mathlib.Core.List.{_++_}
 use Prim.Native.Nat.{ℕ, _<_}
 use lib.ListN.{length}
+use Rattle.grid.specs.Terms.{NoDup}
 use Rattle.area.specs.declared.Settings.{Settings}
 use Rattle.area.specs.Settings.{SettingsFit}
 use Rattle.area.specs.Log.{Machine}
@@ -24,6 +25,9 @@ pub record PublishedFacts : Type 0 where
   -- refining any active place is on 𝒪 and 𝒜 the move of its index and the scan
   pub refines : (P : Problem) (m : Machine) (s : Figure) (p : ℕ) → SoundMachine m → Simulates P m s → p < length (m .log .entries) → entryAt (m .log .entries) p .state ≡ 1
       → PromotionFollows P s (entryAt (m .log .entries) p .levels) (m .log .entries) (rule.refine (m .log .settings .axes) (m .log .entries) p)
+  -- after the turn with its index no index stands twice in 𝒪 and 𝒜, so that the limits count indices
+  pub once-after : (P : Problem) (m : Machine) (s : Figure) (p : ℕ) → SoundMachine m → Simulates P m s → p < length (m .log .entries) → entryAt (m .log .entries) p .state ≡ 1
+      → NoDup (turnAt P (entryAt (m .log .entries) p .levels) s .old ++ turnAt P (entryAt (m .log .entries) p .levels) s .active)
   -- it is *spent* exactly if after the turn with its index 𝒪 and 𝒜 are past the limits, and *promoted* otherwise
   pub spent-at : (P : Problem) (m : Machine) (s : Figure) (p : ℕ) → SoundMachine m → Simulates P m s → p < length (m .log .entries) → entryAt (m .log .entries) p .state ≡ 1
       → ExceedsLimits (m .log .settings .budget) (turnAt P (entryAt (m .log .entries) p .levels) s) → rule.promoteAt (m .log) p .outcome ≡ rule.spent

@@ -7,7 +7,7 @@ use Prim.Native.Nat.{ℕ, zero, suc, _+_, _<_, _≤_}
 use lib.Dec.{eqb}
 use lib.ListN.{length}
 use Rattle.grid.specs.Block.{block, blockSize}
-use Rattle.grid.specs.Terms.{IsReading}
+use Rattle.grid.specs.Terms.{IsReading, NoDup}
 use Rattle.area.specs.declared.Settings.{Settings}
 use Rattle.area.specs.Entry.{Entry, reservedBy, pendingOf}
 use Rattle.area.specs.Log.{Machine}
@@ -72,7 +72,8 @@ pub record SuppliedSoFar (P : Problem) (es : List Entry) : Type 0 where
   pub indicators : (p : ℕ) → p < length es → 1 ≤ entryAt es p .state → entryAt es p .indicator ≡ P .indicator (entryAt es p .levels)
 
 -- The machine has the state of Fig. 1: the same old set, the same active set (also in the same order), the same result, the same
--- pending error; and as many indices are held as 𝒪 and 𝒜 have, with as many readings reserved as their blocks have points.
+-- pending error; and as many indices are held as 𝒪 and 𝒜 have, with as many readings reserved as their blocks have points. No index comes
+-- into 𝒪 twice.
 pub record Simulates (P : Problem) (m : Machine) (s : Figure) : Type 0 where
   pub posed : SettingsMatch (m .log .settings) P
   pub supplied : Supplied P (m .log .entries)
@@ -83,6 +84,7 @@ pub record Simulates (P : Problem) (m : Machine) (s : Figure) : Type 0 where
   pub pending : pendingOf (m .log .entries) ≡ s .estimate
   pub held : length (m .log .entries) ≡ length (s .old) + length (s .active)
   pub reserved : reservedBy (m .log .entries) ≡ totalOf blockSize (s .old) + totalOf blockSize (s .active)
+  pub once : NoDup (s .old)
 
 -- 𝒪 and 𝒜 together have more than 512 indices, or their blocks more points than the budget.
 abbrev pub ExceedsLimits : (budget : ℕ) → Figure → Type 0
