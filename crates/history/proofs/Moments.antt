@@ -55,14 +55,14 @@ module _ (m : Machine) (f : MachineInvariant m) (c : OnCourse m) where
       split true e = moved-course (lengthsLent (x .part)) (x .call) (eqb-true (refusal (lengthsLent (x .part)) true (m .log) (x .call)) 0 e)
       split false e = c
 
-after-course : (m : Machine) → MachineInvariant m → OnCourse m → (xs : List LentCall) → OnCourse (machineAfter m xs)
+pub after-course : (m : Machine) → MachineInvariant m → OnCourse m → (xs : List LentCall) → OnCourse (machineAfter m xs)
 unfolding machineAfter
 after-course m f c [] = c
 after-course m f c (x ∷ xs) = after-course (machineStep m x) (step-fine m f x) (step-course m f c x) xs
 
 -- ---- the machine's log
 
-steps-of : (m : Machine) → MachineInvariant m → OnCourse m → StepsFollow (m .log)
+pub steps-of : (m : Machine) → MachineInvariant m → OnCourse m → StepsFollow (m .log)
 steps-of m f c =
     record {
       every = λ P posing v. let x = course-simulates P m c posing v in follows-at P m (countOf 2 (m .log .entries)) f (x .simulates) (x .went-on);

@@ -43,7 +43,7 @@ use Rattle.history.proofs.Answered.{AllTaken, one-taken, both-taken, tu
 
 -- ---- the mean after every list
 
-mean-follows : (m : Machine) → MachineInvariant m → MeanFollows (m .log)
+pub mean-follows : (m : Machine) → MachineInvariant m → MeanFollows (m .log)
 mean-follows m f =
     record {
       difference = λ P r k n. sum-facts .difference m P (f .sound) r k n;

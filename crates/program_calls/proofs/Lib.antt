@@ -1,0 +1,4 @@
+-- The laws, lowest first.
+pub mod Answers
+pub mod Steps
+pub mod Facts

@@ -1,0 +1,117 @@
+-- The program is a list of calls: the execution of a job file of the right form that start accepts is a list of the third demand, its log is
+-- the one that is printed from, and where it prints `end met` the loop of Fig. 1 has ended with the result that is printed as `scaled`.
+use mathlib.Core.Path.{_≡_}
+use mathlib.Core.Logic.{_⊎_}
+use mathlib.Core.Bool.{true, false}
+use mathlib.Core.List.{List, [], _∷_, _++_}
+use Prim.Native.Nat.{ℕ, suc, _-_, _<_, _≤_}
+use Rattle.area.specs.Log.{Log, Machine}
+use Rattle.machine.specs.Log.{anyWanted}
+use Rattle.machine.specs.Promote as rule
+use Rattle.machine.specs.Steps.{startLog}
+use Rattle.machine.specs.Counts.{countOf}
+use Rattle.calls.specs.Replies.{refused, accepted, promotion}
+use Rattle.calls.specs.Table.{Call, Answer, answer}
+use Rattle.published.specs.Figure.{Problem, loopCondition, turns}
+use Rattle.published.specs.Turns.{SettingsMatch, ReadingValued, Supplied}
+use Rattle.history.specs.Logged.{stateOf, logAfter, answerBy, answersBy}
+use Rattle.history.specs.Storage.{Storage, Lent}
+use Rattle.history.specs.Found.{Demand}
+use Rattle.history.specs.Source.{MeanFollows, Follows, StepsFollow, lendAll}
+use Rattle.jobfile.specs.Form.{formed, formOf, entryCount}
+use Rattle.reporting.specs.Text.{Ending, met, spent, short, reportText, refusalText}
+use Rattle.running.specs.Execution.{Result, refusedAt, ended, unfinished, deliveryByte, startCause, resultOf, fileSettings}
+use Rattle.running.specs.Report.{reportValuesOf, textOf}
+use Rattle.running.specs.Facts.{ByDelivery}
+use Rattle.program_calls.specs.Calls.{ownPart, ownLent, lent, startCall, laterCalls, programLog, deliveriesFrom}
+
+-- ---- the answers
+
+-- *Accepted*, or *promoted*.
+abbrev pub Taken : Answer → Type 0
+Taken y = (y ≡ answer accepted) ⊎ (y ≡ answer (promotion rule.promoted))
+
+abbrev pub AllTaken : List Answer → Type 0
+AllTaken [] = Unit {0}
+AllTaken (y ∷ ys) = Taken y × AllTaken ys
+
+-- The last answer is y, and all before it are *accepted* or *promoted*.
+pub record LastAnswer (y : Answer) (ys : List Answer) : Type 0 where
+  pub before : List Answer
+  pub all : ys ≡ before ++ y ∷ []
+  pub taken : AllTaken before
+
+-- ---- the calls xs, made from the log l on with i entries delivered
+
+-- How the answers ys end, by the ending, with the state m and so many entries used. *Met* and *spent* are the last answer, with nothing wanted,
+-- and what promote answers at that state. *Short* is no answer: a block is wanted, and no entry is left.
+abbrev pub EndingAnswers : List ℕ → Ending → Machine → (used : ℕ) → List Answer → Type 0
+EndingAnswers c met m used ys = LastAnswer (answer (promotion rule.met)) ys × (anyWanted (m .log .entries) ≡ false) × (rule.promote (m .log) .outcome ≡ rule.met)
+EndingAnswers c spent m used ys = LastAnswer (answer (promotion rule.spent)) ys × (anyWanted (m .log .entries) ≡ false) × (rule.promote (m .log) .outcome ≡ rule.spent)
+EndingAnswers c short m used ys = AllTaken ys × (anyWanted (m .log .entries) ≡ true) × (entryCount c ≤ used)
+
+-- They end, with the state m and so many entries used.
+pub record EndsBy (c : List ℕ) (l : Log) (i : ℕ) (xs : List Call) (e : Ending) (m : Machine) (used : ℕ) : Type 0 where
+  -- the state is the one that the log after the calls stands for: its log is that log, its mean the combination sum
+  pub state : m ≡ stateOf (logAfter l (lendAll ownPart xs))
+  -- with the file's settings
+  pub settings : m .log .settings ≡ fileSettings c
+  pub answers : EndingAnswers c e m used (answersBy l (lendAll ownPart xs))
+  -- every entry used was delivered by one of the calls
+  pub entries : used ≡ deliveriesFrom i xs
+
+-- The last of them is refused.
+pub record RefusedBy (c : List ℕ) (l : Log) (i : ℕ) (xs : List Call) (number byte : ℕ) : Type 0 where
+  -- by 7 or 8
+  pub cause : ByDelivery number
+  -- which is what the call answers
+  pub answers : LastAnswer (answer (refused number)) (answersBy l (lendAll ownPart xs))
+  -- it is the delivery of this entry, whose count field or reading the byte names
+  pub entry : ℕ
+  pub last : deliveriesFrom i xs ≡ suc entry
+  pub named : byte ≡ deliveryByte c entry number
+
+abbrev pub ResultBy : List ℕ → Log → (i : ℕ) → List Call → Result → Type 0
+ResultBy c l i xs (refusedAt number byte) = RefusedBy c l i xs number byte
+ResultBy c l i xs (ended e m used) = EndsBy c l i xs e m used
+ResultBy c l i xs unfinished = Unit {0}
+
+-- ---- beside Fig. 1
+
+-- The loop of Fig. 1 has ended with the state m: n is the number of its turns.
+pub record LoopEnded (P : Problem) (c : List ℕ) (m : Machine) (used n : ℕ) : Type 0 where
+  -- Fig. 1 has the log's state
+  pub follows : Follows P (programLog c) n
+  -- its test held before each turn, and fails after them
+  pub went-on : (k : ℕ) → k < n → loopCondition P (turns P k) ≡ true
+  pub over : loopCondition P (turns P n) ≡ false
+  -- and what is printed as `scaled` is its r
+  pub scaled : reportValuesOf met m (entryCount c - used) .scaled ≡ turns P n .result
+
+-- ---- the program
+
+-- Of a file of the right form that start accepts:
+pub record ProgramIsCalls (c : List ℕ) : Type 0 where
+  -- start is accepted, whatever the log was
+  pub starts : (l : Log) → answerBy ownLent l (startCall c) ≡ answer accepted
+  -- the start and the later calls are a list of the third demand, in any storage of that size
+  pub demand : (w : Storage) → Lent w ownPart → Demand w (lent (startCall c)) (lendAll ownPart (laterCalls c)) (fileSettings c)
+  -- after them the log follows Fig. 1
+  pub means : MeanFollows (programLog c)
+  pub steps : StepsFollow (programLog c)
+  -- what the execution comes to is what the calls come to
+  pub result : ResultBy c (startLog (fileSettings c)) 0 (laterCalls c) (resultOf c)
+  -- so where it ends, it is printed from the state that the calls' log stands for
+  pub ends : (e : Ending) (m : Machine) (used : ℕ) → resultOf c ≡ ended e m used → EndsBy c (startLog (fileSettings c)) 0 (laterCalls c) e m used
+  pub printed : (e : Ending) (m : Machine) (used : ℕ) → resultOf c ≡ ended e m used → (m ≡ stateOf (programLog c)) × (textOf c ≡ reportText (reportValuesOf e (stateOf (programLog c)) (entryCount c - used)))
+  -- and where it is refused, the last call is refused by that number
+  pub refuses : (number byte : ℕ) → resultOf c ≡ refusedAt number byte → RefusedBy c (startLog (fileSettings c)) 0 (laterCalls c) number byte × (textOf c ≡ refusalText number byte)
+  -- where it prints `end met` the loop of Fig. 1 has ended, for every problem that gives the file's readings and indicators; there is one
+  pub loop-ended : (m : Machine) (used : ℕ) → resultOf c ≡ ended met m used → (P : Problem) → SettingsMatch (fileSettings c) P → Supplied P (programLog c .entries)
+      → LoopEnded P c m used (countOf 2 (programLog c .entries))
+  pub problem : (m : Machine) (used : ℕ) → resultOf c ≡ ended met m used → (P : Problem) × SettingsMatch (fileSettings c) P × ReadingValued P × Supplied P (programLog c .entries)
+
+pub record ProgramFacts : Type 0 where
+  pub calls : (c : List ℕ) → formOf c ≡ formed → startCause c ≡ 0 → ProgramIsCalls c
+  -- a file that start refuses: that is its only call, and it is refused by the number that is printed
+  pub start-refused : (c : List ℕ) → formOf c ≡ formed → (startCause c ≡ 0 → ⊥) → (l : Log) → answerBy ownLent l (startCall c) ≡ answer (refused (startCause c))
