@@ -30,7 +30,7 @@ SHOWN = 2>&1 | LC_ALL=C sed -u -E \
 # What `make compare` and `make soak` run over; both can be set on the command line.
 SEED = 1
 
-.PHONY: run program tools test proofs exported figures rust-test reference-runs figures-compared check-compared calls-compared callers programs-compared compare soak bench vectors clean
+.PHONY: run program tools test proofs exported figures rust-test reference-runs figures-compared check-compared calls-compared records-compared callers programs-compared compare soak bench stack vectors clean
 # The tests of `make test` run what those before them built.
 .NOTPARALLEL:
 
@@ -47,7 +47,7 @@ tools:
 	@$(CARGO) build $(RELEASE) -p reference
 
 # Every test. The proofs come first, since the other tests run what they build; their verdict, the last line of `rt ci`, is said again at the end.
-test: proofs rust-test reference-runs figures-compared check-compared calls-compared callers programs-compared
+test: proofs rust-test reference-runs figures-compared check-compared calls-compared records-compared callers programs-compared
 	@tail -n 1 build/verdict
 
 proofs:
@@ -85,6 +85,11 @@ check-compared: exported
 calls-compared: exported
 	@$(CARGO) run $(RELEASE) -p harness --bin compare_calls -- 1 20000
 
+# Lists of calls over lent record structs against the reference's, by an unproved program outside the repository (tests/records); some seconds.
+records-compared: exported
+	@$(CARGO) build $(RELEASE) -p harness
+	@tests/records/run $(SEED)
+
 # The callers' side: the header in C, and as C++ where there is a compiler for it; then a job run by calls in C and in Rust, whose report
 # is that of the same job as a file.
 callers: exported
@@ -118,6 +123,10 @@ bench: exported program
 	@$(CARGO) build $(RELEASE) -p bench
 	@$(TOOLS)/measure $(INTEGRATOR)
 	@$(TOOLS)/measure instructions $(INTEGRATOR)
+
+# How deep the stack of each exported call goes, for the header and docs/CLAIMS.md. No test.
+stack: exported
+	@$(CARGO) run $(RELEASE) -p harness --bin stack
 
 # Writes the named and generated job files of the crate `vectors` anew, and what they must print.
 vectors: tools

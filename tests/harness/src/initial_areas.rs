@@ -52,7 +52,7 @@ impl InitialAreas {
     /// A job a few promotions before its end at 512 held, or at that end. Its
     /// budget may be any that it hasn't passed, for the calls so far have
     /// taken no notice of it.
-    fn nearly_full(&mut self, rng: &mut Rng) -> Area {
+    pub fn nearly_full(&mut self, rng: &mut Rng) -> Area {
         let axes = rng.between(5, MOST_AXES as i64) as usize;
         let areas = self.nearly_full.entry(axes).or_insert_with(|| grow(axes));
         let last = areas.len() - 1;
@@ -100,7 +100,7 @@ fn grow(axes: usize) -> Vec<Area> {
 }
 
 /// Storage as it may be found: of sufficient length and full of anything.
-fn garbage(rng: &mut Rng) -> Area {
+pub fn garbage(rng: &mut Rng) -> Area {
     let mut record =
         || IndexRecord::from_words(&std::array::from_fn::<u32, WORDS, _>(|_| rng.number() as u32));
     let records = (0..HELD_LIMIT + 8).map(|_| record()).collect();

@@ -8,7 +8,9 @@
 //!   altered, short, at their limits, or garbage, and what was seen of them;
 //! - [`answers`], [`pair`]: a call on both sides, and the comparison after it;
 //! - [`initial_areas`], [`lists`], [`coverage`]: lists of calls by seed, and what was
-//!   seen of them.
+//!   seen of them;
+//! - [`records`]: lists of calls over lent record structs, for the program of
+//!   tests/records.
 
 pub mod answers;
 pub mod calls;
@@ -18,5 +20,6 @@ pub mod initial_areas;
 pub mod lent;
 pub mod lists;
 pub mod pair;
+pub mod records;
 pub mod tally;
 pub mod verdict;

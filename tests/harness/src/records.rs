@@ -1,0 +1,249 @@
+//! Lists of calls over lent index record structs, as the program of
+//! tests/records reads them, and the lines that it has to print: the
+//! reference's answers, with a digest of the area after each call.
+
+use crate::answers::outcome_word;
+use crate::check_cases::near_ceiling;
+use crate::initial_areas::{garbage, InitialAreas};
+use reference::area::{Area, IndexRecord, JobRecord, WORDS};
+use reference::call::{self, Answer, Call};
+use reference::calls;
+use reference::choice::{Block, Chooser};
+use reference::grid::{self, BUDGET_LIMIT, HELD_LIMIT, MOST_AXES};
+use reference::rng::Rng;
+use std::collections::BTreeMap;
+
+/// What the program has room for: one more than a job can hold, of each.
+const RECORDS: usize = HELD_LIMIT + 1;
+const READINGS: usize = BUDGET_LIMIT as usize + 1;
+/// The program's point buffer, and what lies in it beforehand.
+const BUFFER: usize = 16;
+const FILL: u8 = 200;
+const END: u32 = 0;
+const CONTENT: u32 = 8;
+
+/// The program's input, and the output that is due.
+pub struct Lists {
+    area: Area,
+    initial_areas: InitialAreas,
+    pub input: Vec<u8>,
+    pub output: String,
+    /// How often each answer was seen, by the number that is printed.
+    pub seen: BTreeMap<u64, u32>,
+}
+
+impl Default for Lists {
+    fn default() -> Lists {
+        let mut area = Area::empty(RECORDS, READINGS);
+        area.records.fill(IndexRecord::from_words(&[0; WORDS]));
+        let (input, output) = (Vec::new(), String::new());
+        let (initial_areas, seen) = (InitialAreas::default(), BTreeMap::new());
+        Lists { area, initial_areas, input, output, seen }
+    }
+}
+
+impl Lists {
+    /// A list that begins in storage full of anything, where every call but
+    /// start is refused: a start on too few records, one on just enough, a point
+    /// past the root's block, and calls of all kinds.
+    pub fn from_garbage(&mut self, seed: u64, count: usize) {
+        let mut chooser = Chooser::new(Rng::new(seed));
+        let mut area = garbage(&mut chooser.rng);
+        area.job.budget = chooser.parameters.budget;
+        self.content(area);
+        for call in [Call::Check, Call::Promote, Call::Result] {
+            self.call(&call, RECORDS, READINGS);
+        }
+        let start = chooser.start();
+        for lent in [HELD_LIMIT - 1, HELD_LIMIT] {
+            self.call(&start, lent, READINGS);
+        }
+        self.call(&Call::Point { n: 1, buffer: MOST_AXES }, RECORDS, READINGS);
+        self.carry_on(&mut chooser, count);
+    }
+
+    /// Each call once, on 511, 512 and 513 records in turn, from storage full of
+    /// zeros: few steps, for the interpreter.
+    pub fn each_call(&mut self) {
+        let start = Call::Start { axes: 1, threshold: 0, budget: 3 };
+        let calls = [
+            (start.clone(), HELD_LIMIT - 1),
+            (start, HELD_LIMIT),
+            (Call::Point { n: 0, buffer: 2 }, RECORDS),
+            (Call::Deliver { readings: vec![-5], indicator: 9 }, RECORDS),
+            (Call::Promote, HELD_LIMIT),
+            (Call::Check, HELD_LIMIT - 1),
+            (Call::Result, HELD_LIMIT),
+            (Call::CrossTotal, RECORDS),
+        ];
+        for (call, lent) in calls {
+            self.call(&call, lent, 3);
+        }
+    }
+
+    /// A list that begins with a job a few promotions before its end at 512
+    /// held, or at that end.
+    pub fn from_nearly_full(&mut self, seed: u64, count: usize) {
+        let mut chooser = Chooser::new(Rng::new(seed));
+        let area = self.initial_areas.nearly_full(&mut chooser.rng);
+        chooser.parameters.axes = area.job.axes;
+        self.content(area);
+        self.carry_on(&mut chooser, count);
+    }
+
+    /// A list that begins with a job on its way to the ceilings.
+    pub fn from_near_ceiling(&mut self, seed: u64, count: usize) {
+        let mut chooser = Chooser::new(Rng::new(seed));
+        let area = near_ceiling(&mut chooser.rng);
+        chooser.parameters.axes = area.job.axes;
+        self.content(area);
+        self.carry_on(&mut chooser, count);
+    }
+
+    pub fn end(&mut self) {
+        self.word(END);
+    }
+
+    fn carry_on(&mut self, chooser: &mut Chooser, count: usize) {
+        for _ in 0..count {
+            let wanted = self.wanted();
+            let call = match chooser.rng.below(100) {
+                0..=49 => chooser.carry_on(wanted),
+                50..=59 => chooser.point(wanted),
+                60..=64 => chooser.damaged_point(wanted),
+                65..=71 => chooser.damaged_deliver(wanted),
+                72..=78 => Call::Promote,
+                79..=84 => Call::Result,
+                85..=88 => Call::CrossTotal,
+                89..=94 => Call::Check,
+                _ => chooser.damaged_start(),
+            };
+            let lent = chooser.rng.pick(&[511, 512, 512, 512, 513, 513, 513, 513]);
+            let budget = self.area.job.budget.min(BUDGET_LIMIT) as usize;
+            let store = chooser.rng.pick(&[READINGS, READINGS, READINGS, budget, budget / 2]);
+            self.call(&call, lent, store);
+        }
+    }
+
+    fn wanted(&self) -> Option<Block> {
+        let place = calls::first_wanted(&self.area)?;
+        let levels = self.area.records[place].levels;
+        let axes = MOST_AXES.min(self.area.job.axes as usize);
+        let fits = grid::within_ceilings(&levels) && levels[axes..].iter().all(|&l| l == 1);
+        fits.then_some(Block { axes, levels })
+    }
+
+    /// Another content of the whole area.
+    fn content(&mut self, mut area: Area) {
+        area.records.resize(RECORDS, IndexRecord::wanted([7; MOST_AXES], 7));
+        area.store.resize(READINGS, 7);
+        self.head(CONTENT, RECORDS, READINGS);
+        for record in &area.records {
+            record.to_words().into_iter().for_each(|word| self.word(word));
+        }
+        area.store.iter().for_each(|&reading| self.word(reading as u32));
+        job_words(&area.job).into_iter().for_each(|word| self.word(word));
+        self.area = area;
+        self.line(CONTENT, &[]);
+    }
+
+    /// A call, lent so many records and readings; the reference isn't lent
+    /// the others.
+    fn call(&mut self, call: &Call, lent: usize, readings: usize) {
+        self.head(kind(call), lent, readings);
+        arguments(call).into_iter().for_each(|word| self.word(word));
+        let mut buffer = [FILL; BUFFER];
+        let length = if let Call::Point { buffer, .. } = call { *buffer } else { 0 };
+        let records_kept = self.area.records.split_off(lent);
+        let store_kept = self.area.store.split_off(readings);
+        let answer = call::perform(&mut self.area, call, &mut buffer[..length]);
+        self.area.records.extend(records_kept);
+        self.area.store.extend(store_kept);
+        let mut numbers = printed(&answer);
+        *self.seen.entry(numbers[0]).or_default() += 1;
+        if let Call::Point { .. } = call {
+            numbers.extend(buffer.map(u64::from));
+        }
+        self.line(kind(call), &numbers);
+    }
+
+    fn head(&mut self, kind: u32, records: usize, readings: usize) {
+        [kind, records as u32, readings as u32].into_iter().for_each(|word| self.word(word));
+    }
+
+    fn word(&mut self, word: u32) {
+        self.input.extend(word.to_le_bytes());
+    }
+
+    /// What was answered, and the digest of the area.
+    fn line(&mut self, kind: u32, numbers: &[u64]) {
+        let words = job_words(&self.area.job).into_iter();
+        let words = words.chain(self.area.records.iter().flat_map(IndexRecord::to_words));
+        let words = words.chain(self.area.store.iter().map(|&reading| reading as u32));
+        let digest = words.fold(0, mix);
+        self.output += &format!(" {kind}");
+        for number in numbers.iter().chain([&digest]) {
+            self.output += &format!(" {number}");
+        }
+        self.output += "\n";
+    }
+}
+
+fn mix(digest: u64, word: u32) -> u64 {
+    (digest * 65_599 + u64::from(word) % 4_294_967_291) % 4_294_967_291
+}
+
+fn wide(number: u64) -> [u32; 2] {
+    [number as u32, (number >> 32) as u32]
+}
+
+fn job_words(job: &JobRecord) -> Vec<u32> {
+    let mut words = vec![job.axes];
+    words.extend(wide(job.threshold));
+    words.extend([job.budget, job.held, job.reserved]);
+    words.extend(wide(job.pending));
+    words.extend(wide(job.mean as u64));
+    words
+}
+
+fn kind(call: &Call) -> u32 {
+    match call {
+        Call::Start { .. } => 1,
+        Call::Point { .. } => 2,
+        Call::Deliver { .. } => 3,
+        Call::Promote => 4,
+        Call::Result => 5,
+        Call::CrossTotal => 6,
+        Call::Check => 7,
+    }
+}
+
+fn arguments(call: &Call) -> Vec<u32> {
+    match call {
+        Call::Start { axes, threshold, budget } => {
+            [&[*axes][..], &wide(*threshold), &[*budget]].concat()
+        }
+        Call::Point { n, buffer } => [&wide(*n)[..], &[*buffer as u32]].concat(),
+        Call::Deliver { readings, indicator } => [*indicator, readings.len() as u32]
+            .into_iter()
+            .chain(readings.iter().map(|&reading| reading as u32))
+            .collect(),
+        _ => Vec::new(),
+    }
+}
+
+/// The numbers that the program prints for an answer.
+fn printed(answer: &Answer) -> Vec<u64> {
+    match answer {
+        Answer::Started | Answer::Point(_) | Answer::Delivered => vec![0],
+        Answer::Promotion(promotion) => vec![20 + u64::from(outcome_word(*promotion))],
+        Answer::Totals(totals) => [0, totals.old.into(), totals.active.into()]
+            .into_iter()
+            .chain([totals.wanted.into(), totals.reserved.into(), totals.pending])
+            .chain([totals.mean as u64, totals.ceiling.into()])
+            .collect(),
+        Answer::CrossTotal(total) => vec![0, *total as u64],
+        Answer::Sound(sound) => vec![30 + u64::from(*sound)],
+        Answer::Refused(cause) => vec![cause.number().into()],
+    }
+}
