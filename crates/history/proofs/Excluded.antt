@@ -123,6 +123,7 @@ excluded =
       promoted = promoted-if;
       spent = spent-if;
       spent-only = only-if;
+      four-held = unfold rule.promote rule.promoteAt rule.refine rule.makeOld rule.madeOld rule.selected rule.firstActive rule.largest rule.isMet rule.fits rule.admittedAxes rule.passing rule.admits rule.backwardOld rule.isOld within levelsWithin excess forward backward allFrom sameLevels pair pendingOf reservedBy blockSize newCount wanted in refl;
       one-old = unfold rule.admits rule.backwardOld rule.isOld within levelsWithin excess forward backward allFrom sameLevels pair in refl;
       both-old = unfold rule.admits rule.backwardOld rule.isOld within levelsWithin excess forward backward allFrom sameLevels pair in refl;
       level-one = unfold rule.admits rule.backwardOld rule.isOld within levelsWithin excess forward backward allFrom sameLevels pair in refl;

@@ -45,6 +45,13 @@ read k s rs = record { levels = k; state = s; indicator = 0; readings = rs }
 abbrev mixed : Log
 mixed = record { settings = settingsOf 2 0 64; entries = entry (pair 1 1) 2 ∷ entry (pair 2 1) 2 ∷ entry (pair 1 2) 2 ∷ entry (pair 3 1) 1 ∷ entry (pair 2 2) 1 ∷ entry (pair 1 3) 0 ∷ [] }
 
+abbrev active : List ℕ → ℕ → Entry
+active k i = record { levels = k; state = 1; indicator = i; readings = [] }
+
+-- Two old and two active: (1,2) would admit (2,2) and (1,3).
+abbrev fourHeld : Log
+fourHeld = record { settings = settingsOf 2 0 64; entries = entry (pair 1 1) 2 ∷ entry (pair 2 1) 2 ∷ active (pair 1 2) 1 ∷ active (pair 3 1) 1 ∷ [] }
+
 -- The selected index has a level for each axis, as every index has.
 abbrev pub SelectsIndex : Log → Type 0
 SelectsIndex l = l .settings .axes ≤ length (entryAt (l .entries) (rule.selected (l .entries)) .levels)
@@ -83,6 +90,8 @@ pub record Excluded : Type 0 where
   pub spent-only : (l : Log) (ks : List (List ℕ)) → SelectsIndex l → ListsNext l ks → rule.promote l .outcome ≡ rule.spent → (l .settings .threshold < pendingOf (l .entries)) × Exceeds l ks
   -- and promoted otherwise
   pub promoted : (l : Log) (ks : List (List ℕ)) → SelectsIndex l → ListsNext l ks → l .settings .threshold < pendingOf (l .entries) → (Exceeds l ks → ⊥) → rule.promote l .outcome ≡ rule.promoted
+  -- with four held, and six within 512 and the budget, it is promoted
+  pub four-held : rule.promote fourHeld .outcome ≡ rule.promoted
   -- (2,2) is not admitted when only (2,1) is old, and is when (1,2) is old too
   pub one-old : rule.admits 2 (entry (pair 1 1) 2 ∷ entry (pair 2 1) 2 ∷ entry (pair 1 2) 1 ∷ []) (pair 2 1) 1 ≡ false
   pub both-old : rule.admits 2 (entry (pair 1 1) 2 ∷ entry (pair 2 1) 2 ∷ entry (pair 1 2) 2 ∷ []) (pair 2 1) 1 ≡ true
