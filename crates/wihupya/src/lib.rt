@@ -53,6 +53,13 @@ fn job_of(words: &[u32; 10]) -> area::JobRecord
     }
 }
 
+// The job record that ten words are, and that they are the words of that record, so that a refused call can leave them.
+fn job_in(words: [u32; 10]) -> area::JobRecord
+    ensures { λ r. ⌜ (r ≡ jobOf words) × (wordsOf (jobOf words) ≡ words) ⌝ }
+{
+    job_of(&words)
+}
+
 // The low and the high word of a 64-bit number.
 fn low_word(number: u64) -> u32
     ensures { λ r. ⌜ r ≡ lowWord number ⌝ }
@@ -177,11 +184,16 @@ pub extern "C" fn wihupya_start(
         threshold,
         budget,
     };
-    let answered = calls::start(job_of(job), settings, cells, store);
+    let before = *job;
+    let answered = calls::start(job_in(before), settings, cells, store);
     let after = answered.job;
     let answer = answered.answer;
+    let number = number_of(answer);
+    if number != 0 {
+        return number;
+    }
     *job = words_of(after);
-    number_of(answer)
+    number
 }
 
 // Writes the positions of a point of the first wanted block.
@@ -209,11 +221,16 @@ pub extern "C" fn wihupya_deliver(
 ) -> u32
     ensures { λ r. ⌜ record { number = r; job = now (job .exit); run = runOf (now (cells .exit)); store = now (store .exit) } ≡ exported (callOn (areaOf (jobOf (now (job .entry))) (now (cells .entry)) (now (store .entry))) (deliver (now (readings .entry)) indicator)) ⌝ }
 {
-    let answered = calls::deliver(job_of(job), readings, indicator, cells, store);
+    let before = *job;
+    let answered = calls::deliver(job_in(before), readings, indicator, cells, store);
     let after = answered.job;
     let answer = answered.answer;
+    let number = number_of(answer);
+    if number != 0 {
+        return number;
+    }
     *job = words_of(after);
-    number_of(answer)
+    number
 }
 
 // Promotes, and writes the outcome: 0 met, 1 spent, 2 promoted.
@@ -227,13 +244,18 @@ pub extern "C" fn wihupya_promote(
     ensures is { λ r. ⌜ record { number = r; job = now (job .exit); run = runOf (now (cells .exit)); store = now (store .entry) } ≡ exported (callOn (areaOf (jobOf (now (job .entry))) (now (cells .entry)) (now (store .entry))) promote) ⌝ }
     ensures outcome { λ r. ⌜ now (outcome .exit) ≡ outcomeAfter (callOn (areaOf (jobOf (now (job .entry))) (now (cells .entry)) (now (store .entry))) promote .answer .reply) (now (outcome .entry)) ⌝ }
 {
-    let answered = calls::promote(job_of(job), cells, store);
+    let before = *job;
+    let answered = calls::promote(job_in(before), cells, store);
     let after = answered.job;
     let answer = answered.answer;
+    let number = number_of(answer);
+    if number != 0 {
+        return number;
+    }
     *job = words_of(after);
-    let before = *outcome;
-    *outcome = outcome_word(answer, before);
-    number_of(answer)
+    let left = *outcome;
+    *outcome = outcome_word(answer, left);
+    number
 }
 
 // The counts of the area.

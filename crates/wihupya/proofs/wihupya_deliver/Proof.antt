@@ -1,4 +1,4 @@
--- `wihupya::wihupya_deliver` meets its contract: the call on the words' job record, written as words again. Assumes nothing.
+-- `wihupya::wihupya_deliver` meets its contract: the call on the words' job record, written as words again; a refusal writes none. Assumes nothing.
 use borrow.Author.Needs.{needs}
 use mathlib.Core.Path.{ap, _∙_}
 use Prim.Native.Nat.{_-_}
@@ -9,17 +9,15 @@ use Rattle.area.specs.Records.{runOf}
 use Rattle.area.specs.Encoding.{areaOf}
 use Rattle.calls.specs.Table as table
 use Rattle.calls.specs.Calls.{callOn}
+use Rattle.wihupya.proofs.Refusals.{refused-words}
 use Rattle.wihupya.proofs.wihupya_deliver.Statement.{statement}
 use Rattle.wihupya.proofs.wihupya_deliver.Tie as tie
 
-job-of-requires : tie.Need-job-of-requires
-job-of-requires c κs = search needs
+job-in-requires : tie.Need-job-in-requires
+job-in-requires c κs = search needs
 
 deliver-requires : tie.Need-deliver-requires
 deliver-requires c κs = search needs
-
-words-of-requires : tie.Need-words-of-requires
-words-of-requires c κs = search needs
 
 number-of-requires : tie.Need-number-of-requires
 number-of-requires c κs = search needs
@@ -36,17 +34,40 @@ returns c =
     let s = c .before .before .before .before .before .before .before .before .before .before .before .before in
     let cells = now (s .args .cells) in
     let store = now (s .args .store) in
-    let is = c .before .before .before .before .before .before .deliver .ensures ∙ ap (λ (j : JobRecord). callOn (areaOf j cells store) (table.deliver (now (s .args .readings)) (s .args .indicator))) (c .before .before .before .before .before .before .before .before .before .job-of .ensures) in
-    (λ i. record { number = c .number-of .ensures i; job = c .before .words-of .ensures i; run = runOf (c .before .before .before .before .before .before .deliver .last .1 .1 .1 .0); store = c .before .before .before .before .before .before .deliver .last .1 .1 .1 .1 .0 }) ∙ ap exported is
+    let r = c .before .before .before .before .before .before .deliver .result in
+    let is = c .before .before .before .before .before .before .deliver .ensures ∙ ap (λ (j : JobRecord). callOn (areaOf j cells store) (table.deliver (now (s .args .readings)) (s .args .indicator))) (c .before .before .before .before .before .before .before .before .before .job-in .ensures .0) in
+    (λ i. record { number = c .before .number-of .ensures i; job = (refused-words (now (s .args .job)) cells store (table.deliver (now (s .args .readings)) (s .args .indicator)) r (c .before .before .before .before .before .before .deliver .last .1 .1 .1 .0) (c .before .before .before .before .before .before .deliver .last .1 .1 .1 .1 .0) (c .before .number-of .result) is (c .before .number-of .ensures) (c .if1 .taken) (c .before .before .before .before .before .before .before .before .before .job-in .ensures .1)) i; run = runOf (c .before .before .before .before .before .before .deliver .last .1 .1 .1 .0); store = c .before .before .before .before .before .before .deliver .last .1 .1 .1 .1 .0 }) ∙ ap exported is
+
+words-of-requires : tie.Need-words-of-requires
+words-of-requires c κs = search needs
+
+same-length-3 : tie.Need-same-length-3
+same-length-3 c = search needs
+
+same-length-4 : tie.Need-same-length-4
+same-length-4 c = search needs
+
+returns-2 : tie.Need-returns-2
+unfolding exported
+returns-2 c =
+    let s = c .before .before .before .before .before .before .before .before .before .before .before .before .before in
+    let cells = now (s .args .cells) in
+    let store = now (s .args .store) in
+    let r = c .before .before .before .before .before .before .before .deliver .result in
+    let is = c .before .before .before .before .before .before .before .deliver .ensures ∙ ap (λ (j : JobRecord). callOn (areaOf j cells store) (table.deliver (now (s .args .readings)) (s .args .indicator))) (c .before .before .before .before .before .before .before .before .before .before .job-in .ensures .0) in
+    (λ i. record { number = c .before .before .number-of .ensures i; job = (c .words-of .ensures) i; run = runOf (c .before .before .before .before .before .before .before .deliver .last .1 .1 .1 .0); store = c .before .before .before .before .before .before .before .deliver .last .1 .1 .1 .1 .0 }) ∙ ap exported is
 
 pub wihupya-deliver-spec : {M : Type 1} → statement M
 wihupya-deliver-spec =
     tie.close
     (tie.spec
-    job-of-requires
+    job-in-requires
     deliver-requires
-    words-of-requires
     number-of-requires
     same-length
     same-length-2
-    returns)
+    returns
+    words-of-requires
+    same-length-3
+    same-length-4
+    returns-2)
