@@ -177,7 +177,8 @@ pub extern "C" fn wihupya_start(
     cells: &mut [u32],
     store: &[i32],
 ) -> u32
-    ensures { λ r. ⌜ record { number = r; job = now (job .exit); run = runOf (now (cells .exit)); store = now (store .entry) } ≡ exported (callOn (areaOf (jobOf (now (job .entry))) (now (cells .entry)) (now (store .entry))) (start (settingsOf axes threshold budget))) ⌝ }
+    ensures is { λ r. ⌜ record { number = r; job = now (job .exit); run = runOf (now (cells .exit)); store = now (store .entry) } ≡ exported (callOn (areaOf (jobOf (now (job .entry))) (now (cells .entry)) (now (store .entry))) (start (settingsOf axes threshold budget))) ⌝ }
+    ensures refused { λ r. ⌜ ((r ≡ 0 → ⊥) → now (job .exit) ≡ now (job .entry)) ⌝ }
 {
     let settings = area::Settings {
         axes,
@@ -219,7 +220,8 @@ pub extern "C" fn wihupya_deliver(
     cells: &mut [u32],
     store: &mut [i32],
 ) -> u32
-    ensures { λ r. ⌜ record { number = r; job = now (job .exit); run = runOf (now (cells .exit)); store = now (store .exit) } ≡ exported (callOn (areaOf (jobOf (now (job .entry))) (now (cells .entry)) (now (store .entry))) (deliver (now (readings .entry)) indicator)) ⌝ }
+    ensures is { λ r. ⌜ record { number = r; job = now (job .exit); run = runOf (now (cells .exit)); store = now (store .exit) } ≡ exported (callOn (areaOf (jobOf (now (job .entry))) (now (cells .entry)) (now (store .entry))) (deliver (now (readings .entry)) indicator)) ⌝ }
+    ensures refused { λ r. ⌜ ((r ≡ 0 → ⊥) → now (job .exit) ≡ now (job .entry)) ⌝ }
 {
     let before = *job;
     let answered = calls::deliver(job_in(before), readings, indicator, cells, store);
@@ -243,6 +245,7 @@ pub extern "C" fn wihupya_promote(
 ) -> u32
     ensures is { λ r. ⌜ record { number = r; job = now (job .exit); run = runOf (now (cells .exit)); store = now (store .entry) } ≡ exported (callOn (areaOf (jobOf (now (job .entry))) (now (cells .entry)) (now (store .entry))) promote) ⌝ }
     ensures outcome { λ r. ⌜ now (outcome .exit) ≡ outcomeAfter (callOn (areaOf (jobOf (now (job .entry))) (now (cells .entry)) (now (store .entry))) promote .answer .reply) (now (outcome .entry)) ⌝ }
+    ensures refused { λ r. ⌜ ((r ≡ 0 → ⊥) → now (job .exit) ≡ now (job .entry)) ⌝ }
 {
     let before = *job;
     let answered = calls::promote(job_in(before), cells, store);

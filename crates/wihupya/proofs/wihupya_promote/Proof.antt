@@ -1,6 +1,6 @@
 -- `wihupya::wihupya_promote` meets its contract: the call on the words' job record, written as words again; a refusal writes none. Assumes nothing.
 use borrow.Author.Needs.{needs}
-use mathlib.Core.Path.{ap, _∙_}
+use mathlib.Core.Path.{refl, ap, _∙_}
 use Prim.Native.Nat.{_-_}
 use denote.Ref.{now}
 use Rattle.wihupya.specs.Exports.{exported, outcomeAfter}
@@ -34,7 +34,7 @@ returns c =
     let r = c .before .before .before .before .before .promote .result in
     let is = c .before .before .before .before .before .promote .ensures ∙ ap (λ (j : JobRecord). callOn (areaOf j cells store) table.promote) (c .before .before .before .before .before .before .before .job-in .ensures .0) in (
       (λ i. record { number = c .before .number-of .ensures i; job = (refused-words (now (s .args .job)) cells store table.promote r (c .before .before .before .before .before .promote .last .1 .0) (store) (c .before .number-of .result) is (c .before .number-of .ensures) (c .if1 .taken) (c .before .before .before .before .before .before .before .job-in .ensures .1)) i; run = runOf (c .before .before .before .before .before .promote .last .1 .0); store = store }) ∙ ap exported is,
-      refused-outcome (r .answer) (c .before .number-of .result) (now (s .args .outcome)) (c .before .number-of .ensures) (c .if1 .taken) ∙ ap (λ (x : CallResult). outcomeAfter (x .answer .reply) (now (s .args .outcome))) is,
+      (refused-outcome (r .answer) (c .before .number-of .result) (now (s .args .outcome)) (c .before .number-of .ensures) (c .if1 .taken) ∙ ap (λ (x : CallResult). outcomeAfter (x .answer .reply) (now (s .args .outcome))) is, λ n. refl),
     )
 
 words-of-requires : tie.Need-words-of-requires
@@ -55,7 +55,7 @@ returns-2 c =
     let r = c .before .before .before .before .before .before .before .before .promote .result in
     let is = c .before .before .before .before .before .before .before .before .promote .ensures ∙ ap (λ (j : JobRecord). callOn (areaOf j cells store) table.promote) (c .before .before .before .before .before .before .before .before .before .before .job-in .ensures .0) in (
       (λ i. record { number = c .before .before .before .before .number-of .ensures i; job = (c .before .before .words-of .ensures) i; run = runOf (c .before .before .before .before .before .before .before .before .promote .last .1 .0); store = store }) ∙ ap exported is,
-      c .outcome-word .ensures ∙ ap (λ (x : CallResult). outcomeAfter (x .answer .reply) (now (s .args .outcome))) is,
+      (c .outcome-word .ensures ∙ ap (λ (x : CallResult). outcomeAfter (x .answer .reply) (now (s .args .outcome))) is, λ n. absurd (n (c .before .before .before .if1 .left))),
     )
 
 pub wihupya-promote-spec : {M : Type 1} → statement M

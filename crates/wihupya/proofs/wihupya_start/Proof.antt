@@ -1,6 +1,6 @@
 -- `wihupya::wihupya_start` meets its contract: the call on the words' job record, written as words again; a refusal writes none. Assumes nothing.
 use borrow.Author.Needs.{needs}
-use mathlib.Core.Path.{ap, _∙_}
+use mathlib.Core.Path.{refl, ap, _∙_}
 use Prim.Native.Nat.{_-_}
 use denote.Ref.{now}
 use Rattle.wihupya.specs.Exports.{exported}
@@ -32,8 +32,10 @@ returns c =
     let cells = now (s .args .cells) in
     let store = now (s .args .store) in
     let r = c .before .before .before .before .before .start .result in
-    let is = c .before .before .before .before .before .start .ensures ∙ ap (λ (j : JobRecord). callOn (areaOf j cells store) (table.start (record { axes = s .args .axes; threshold = s .args .threshold; budget = s .args .budget }))) (c .before .before .before .before .before .before .before .job-in .ensures .0) in
-    (λ i. record { number = c .before .number-of .ensures i; job = (refused-words (now (s .args .job)) cells store (table.start (record { axes = s .args .axes; threshold = s .args .threshold; budget = s .args .budget })) r (c .before .before .before .before .before .start .last .1 .1 .0) (store) (c .before .number-of .result) is (c .before .number-of .ensures) (c .if1 .taken) (c .before .before .before .before .before .before .before .job-in .ensures .1)) i; run = runOf (c .before .before .before .before .before .start .last .1 .1 .0); store = store }) ∙ ap exported is
+    let is = c .before .before .before .before .before .start .ensures ∙ ap (λ (j : JobRecord). callOn (areaOf j cells store) (table.start (record { axes = s .args .axes; threshold = s .args .threshold; budget = s .args .budget }))) (c .before .before .before .before .before .before .before .job-in .ensures .0) in (
+      (λ i. record { number = c .before .number-of .ensures i; job = (refused-words (now (s .args .job)) cells store (table.start (record { axes = s .args .axes; threshold = s .args .threshold; budget = s .args .budget })) r (c .before .before .before .before .before .start .last .1 .1 .0) (store) (c .before .number-of .result) is (c .before .number-of .ensures) (c .if1 .taken) (c .before .before .before .before .before .before .before .job-in .ensures .1)) i; run = runOf (c .before .before .before .before .before .start .last .1 .1 .0); store = store }) ∙ ap exported is,
+      λ n. refl,
+    )
 
 words-of-requires : tie.Need-words-of-requires
 words-of-requires c κs = search needs
@@ -48,8 +50,10 @@ returns-2 c =
     let cells = now (s .args .cells) in
     let store = now (s .args .store) in
     let r = c .before .before .before .before .before .before .start .result in
-    let is = c .before .before .before .before .before .before .start .ensures ∙ ap (λ (j : JobRecord). callOn (areaOf j cells store) (table.start (record { axes = s .args .axes; threshold = s .args .threshold; budget = s .args .budget }))) (c .before .before .before .before .before .before .before .before .job-in .ensures .0) in
-    (λ i. record { number = c .before .before .number-of .ensures i; job = (c .words-of .ensures) i; run = runOf (c .before .before .before .before .before .before .start .last .1 .1 .0); store = store }) ∙ ap exported is
+    let is = c .before .before .before .before .before .before .start .ensures ∙ ap (λ (j : JobRecord). callOn (areaOf j cells store) (table.start (record { axes = s .args .axes; threshold = s .args .threshold; budget = s .args .budget }))) (c .before .before .before .before .before .before .before .before .job-in .ensures .0) in (
+      (λ i. record { number = c .before .before .number-of .ensures i; job = (c .words-of .ensures) i; run = runOf (c .before .before .before .before .before .before .start .last .1 .1 .0); store = store }) ∙ ap exported is,
+      λ n. absurd (n (c .before .if1 .left)),
+    )
 
 pub wihupya-start-spec : {M : Type 1} → statement M
 wihupya-start-spec =
