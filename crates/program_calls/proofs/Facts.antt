@@ -3,9 +3,10 @@
 -- Assumes nothing.
 use mathlib.Core.Path.{_≡_, refl, ap, sym, _∙_, subst}
 use mathlib.Core.Bool.{Bool, true, false, cond}
-use mathlib.Core.List.{List, [], _∷_}
-use Prim.Native.Nat.{ℕ, _-_, _<_}
+use mathlib.Core.List.{List, [], _∷_, _++_}
+use Prim.Native.Nat.{ℕ, _-_}
 use native.Mathlib.Omega.{arith}
+use borrow.Author.Tests.{ne-eqb}
 use lib.Dec.{eqb}
 use Rattle.area.specs.declared.Settings.{Settings}
 use Rattle.area.specs.Settings.{SettingsFit}
@@ -15,10 +16,9 @@ use Rattle.machine.specs.Promote as rule
 use Rattle.machine.specs.Steps as steps
 use Rattle.machine.specs.Counts.{countOf, countsOf}
 use Rattle.machine.specs.Causes.{firstCause, startCauses}
-use Rattle.machine.specs.Means.{crossOf}
 use Rattle.machine.proofs.Facts.{step-facts}
 use Rattle.machine.proofs.Means.{mean-facts}
-use Rattle.calls.specs.Replies.{refused, accepted, promotion}
+use Rattle.calls.specs.Replies.{accepted, promotion}
 use Rattle.calls.specs.Table.{Call, start, promote, answer}
 use Rattle.calls.specs.Calls.{CallResult, callOn}
 use Rattle.calls.proofs.Accepted.{startable}
@@ -27,7 +27,7 @@ use Rattle.published.specs.Figure.{Problem, loopCondition, turns}
 use Rattle.published.specs.Turns.{SettingsMatch, ReadingValued, Supplied}
 use Rattle.published.proofs.Moments.{start-course}
 use Rattle.history.specs.LentCalls.{LentCall}
-use Rattle.history.specs.Logged.{stateOf, logAfter, answerBy}
+use Rattle.history.specs.Logged.{stateOf, answerBy}
 use Rattle.history.specs.Storage.{Storage, areaLent, Lent, AllLent}
 use Rattle.history.specs.Found.{Demand}
 use Rattle.history.specs.Source.{MeanFollows, Follows, StepsFollow, lendAll}
@@ -38,13 +38,14 @@ use Rattle.history.proofs.Demand.{third-demand}
 use Rattle.history.proofs.Published.{mean-follows}
 use Rattle.history.proofs.Moments.{after-course, steps-of}
 use Rattle.jobfile.specs.Form.{formed, formOf, entryCount}
-use Rattle.reporting.specs.Text.{Ending, met, reportText, refusalText}
-use Rattle.running.specs.Execution.{ownLengths, Result, refusedAt, ended, execution, stepLimit, startByte, startCause, resultIn, resultOf, fileSettings}
+use Rattle.reporting.specs.Text.{line, endWord, Ending, met, endingWord, reportText, refusalText}
+use Rattle.running.specs.Execution.{ownLengths, refusedAt, ended, execution, stepLimit, startByte, startCause, resultIn, resultOf, fileSettings}
 use Rattle.running.specs.Report.{reportValuesOf, textIn, textOf}
 use Rattle.program_calls.specs.Calls.{ownPart, ownLent, lent, startCall, laterCalls, programLog}
-use Rattle.program_calls.specs.Facts.{EndsBy, RefusedBy, ResultBy, LoopEnded, ProgramIsCalls, ProgramFacts}
+use Rattle.program_calls.specs.Facts.{EndsBy, RefusedBy, ResultBy, LoopEnded, ProgramIsCalls, EndMet, ProgramFacts}
 use Rattle.program_calls.proofs.Answers.{start-taken, start-refused, promote-answer}
 use Rattle.program_calls.proofs.Steps.{agrees}
+use Rattle.program_calls.proofs.Endings.{only-met, refused-start, right-form, start-accepts-it}
 
 all-lent : (w : Storage) → Lent w ownPart → (xs : List Call) → AllLent w (lendAll ownPart xs)
 unfolding lendAll
@@ -181,5 +182,29 @@ module _ (c : List ℕ) (right : formOf c ≡ formed) (none : startCause c ≡ 0
         problem = problem;
       }
 
+refused-text : (c : List ℕ) → formOf c ≡ formed → (startCause c ≡ 0 → ⊥) → textOf c ≡ refusalText (startCause c) (startByte (startCause c))
+unfolding textOf
+refused-text c right f = ap (textIn (entryCount c)) (refused-start c right (ne-eqb (startCause c) 0 f)) ∙ unfold textIn in refl
+
+end-met : (c before : List ℕ) → textOf c ≡ before ++ line endWord (endingWord met) → EndMet c
+end-met c before e =
+    let x = only-met (entryCount c) (resultOf c) before (unfold textOf in e) in
+    let right = right-form c (x .0) (x .1) (x .2) in
+    let none = start-accepts-it c (x .0) (x .1) (x .2) in
+    record {
+      right = right;
+      starts = none;
+      state = x .0;
+      used = x .1;
+      result = x .2;
+      loop = loop-ended c right none (x .0) (x .1) (x .2);
+      problem = problem c right none (x .0) (x .1) (x .2);
+    }
+
 pub program-facts : ProgramFacts
-program-facts = record { calls = is-calls; start-refused = λ c right f l. start-refused l (fileSettings c) f }
+program-facts =
+    record {
+      calls = is-calls;
+      start-refused = λ c right f l. (start-refused l (fileSettings c) f, refused-text c right f);
+      end-met = end-met;
+    }

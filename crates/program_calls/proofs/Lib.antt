@@ -1,4 +1,5 @@
 -- The laws, lowest first.
 pub mod Answers
 pub mod Steps
+pub mod Endings
 pub mod Facts

@@ -19,8 +19,8 @@ use Rattle.history.specs.Storage.{Storage, Lent}
 use Rattle.history.specs.Found.{Demand}
 use Rattle.history.specs.Source.{MeanFollows, Follows, StepsFollow, lendAll}
 use Rattle.jobfile.specs.Form.{formed, formOf, entryCount}
-use Rattle.reporting.specs.Text.{Ending, met, spent, short, reportText, refusalText}
-use Rattle.running.specs.Execution.{Result, refusedAt, ended, unfinished, deliveryByte, startCause, resultOf, fileSettings}
+use Rattle.reporting.specs.Text.{line, endWord, Ending, met, spent, short, endingWord, reportText, refusalText}
+use Rattle.running.specs.Execution.{Result, refusedAt, ended, unfinished, deliveryByte, startByte, startCause, resultOf, fileSettings}
 use Rattle.running.specs.Report.{reportValuesOf, textOf}
 use Rattle.running.specs.Facts.{ByDelivery}
 use Rattle.program_calls.specs.Calls.{ownPart, ownLent, lent, startCall, laterCalls, programLog, deliveriesFrom}
@@ -71,6 +71,7 @@ pub record RefusedBy (c : List ℕ) (l : Log) (i : ℕ) (xs : List Call) (number
   pub last : deliveriesFrom i xs ≡ suc entry
   pub named : byte ≡ deliveryByte c entry number
 
+-- What the execution comes to, as what the calls come to. That it is never unfinished is `ExecutionFacts.ends` (crate `running`).
 abbrev pub ResultBy : List ℕ → Log → (i : ℕ) → List Call → Result → Type 0
 ResultBy c l i xs (refusedAt number byte) = RefusedBy c l i xs number byte
 ResultBy c l i xs (ended e m used) = EndsBy c l i xs e m used
@@ -111,7 +112,22 @@ pub record ProgramIsCalls (c : List ℕ) : Type 0 where
       → LoopEnded P c m used (countOf 2 (programLog c .entries))
   pub problem : (m : Machine) (used : ℕ) → resultOf c ≡ ended met m used → (P : Problem) × SettingsMatch (fileSettings c) P × ReadingValued P × Supplied P (programLog c .entries)
 
+-- Of every list of bytes whose text has `end met` as its last line:
+pub record EndMet (c : List ℕ) : Type 0 where
+  -- it is a file of the right form that start accepts, and its execution ends *met*, with a state and so many entries used
+  pub right : formOf c ≡ formed
+  pub starts : startCause c ≡ 0
+  pub state : Machine
+  pub used : ℕ
+  pub result : resultOf c ≡ ended met state used
+  -- the loop of Fig. 1 has ended, and `scaled` is its r, for every problem that gives the file's readings and indicators; there is one
+  pub loop : (P : Problem) → SettingsMatch (fileSettings c) P → Supplied P (programLog c .entries) → LoopEnded P c state used (countOf 2 (programLog c .entries))
+  pub problem : (P : Problem) × SettingsMatch (fileSettings c) P × ReadingValued P × Supplied P (programLog c .entries)
+
 pub record ProgramFacts : Type 0 where
   pub calls : (c : List ℕ) → formOf c ≡ formed → startCause c ≡ 0 → ProgramIsCalls c
   -- a file that start refuses: that is its only call, and it is refused by the number that is printed
-  pub start-refused : (c : List ℕ) → formOf c ≡ formed → (startCause c ≡ 0 → ⊥) → (l : Log) → answerBy ownLent l (startCall c) ≡ answer (refused (startCause c))
+  pub start-refused : (c : List ℕ) → formOf c ≡ formed → (startCause c ≡ 0 → ⊥) → (l : Log)
+      → (answerBy ownLent l (startCall c) ≡ answer (refused (startCause c))) × (textOf c ≡ refusalText (startCause c) (startByte (startCause c)))
+  -- where it prints `end met`
+  pub end-met : (c before : List ℕ) → textOf c ≡ before ++ line endWord (endingWord met) → EndMet c
