@@ -2,12 +2,13 @@
 -- The idea: a record at place p is read from the cells past 27·p; 27 words written there replace that record and no other.
 -- Assumes nothing.
 use mathlib.Core.Path.{_≡_, refl, ap, sym, _∙_}
-use mathlib.Core.List.{List, _∷_, _++_, append-assoc}
+use mathlib.Core.List.{List, [], _∷_, _++_, append-assoc}
 use Prim.Native.Nat.{ℕ, zero, suc, _+_, _≤_, _<_, _-_, _*_, _/_}
 use native.Mathlib.Nat.{add-assoc}
 use native.Mathlib.Omega.{arith}
 use lib.ListN.{length, getD, take, drop, set, length-drop, length-append, take-append-drop, List·getD-append}
 use lib.Seq.{take-all, drop-append-add, drop-cons, length-take-le, getD-drop, getD-take, sets, sets-eq, length-sets, take-add, drop-drop, take-at, drop-at, take-append-le, drop-append-le, getD-append-add}
+use Rattle.area.specs.Encoding.{none}
 use Rattle.area.specs.declared.IndexRecord.{IndexRecord}
 use Rattle.area.specs.Records.{recordOf, records, recordsOf, recordCells, cellsFor, cellsOf, blank, runOf, stored}
 use Rattle.sums.proofs.Lists.{sets-append}
@@ -23,6 +24,12 @@ length-records (suc n) c = ap suc (length-records n (drop 27 c))
 pub length-recordsOf : (c : List ℕ) → length (recordsOf c) ≡ length c / 27
 unfolding recordsOf
 length-recordsOf c = length-records (length c / 27) c
+
+-- an element that is there does not depend on what would stand for a missing one
+pub there-same : (xs : List ℕ) (i d e : ℕ) → i < length xs → getD xs i d ≡ getD xs i e
+there-same [] i d e h = absurd (omega (arith, h))
+there-same (x ∷ xs) zero d e h = refl
+there-same (x ∷ xs) (suc i) d e h = there-same xs i d e (omega (arith, h))
 
 getD-records : (n : ℕ) (c : List ℕ) (p : ℕ) (d : IndexRecord) → p < n → getD (records n c) p d ≡ recordOf (drop (p * 27) c)
 unfolding records
@@ -63,12 +70,6 @@ module _ (c : List ℕ) (p : ℕ) (h : p * 27 + 27 ≤ length c) where
   unfolding recordOf
   links-in = rw (record-at c p h, drop-drop 11 (p * 27) c)
 
-  pub link-in : (i : ℕ) → i < 16 → getD c (p * 27 + 11 + i) 0 ≡ getD (getD (recordsOf c) p blank .links) i 0
-  unfolding recordOf
-  link-in i b =
-      rw (record-at c p h)
-      (sym (getD-take 16 (drop 11 (drop (p * 27) c)) i 0 b ∙ getD-drop 11 (drop (p * 27) c) i 0 ∙ getD-drop (p * 27) c (11 + i) 0 ∙ ap (λ n. getD c n 0) (sym (add-assoc (p * 27) 11 i))))
-
   -- a record put together from its parts
   pub load-is : record {
     levels = take 8 (drop (p * 27) c);
@@ -85,6 +86,16 @@ module _ (c : List ℕ) (p : ℕ) (h : p * 27 + 27 ≤ length c) where
 
   pub sixteen-links : length (getD (recordsOf c) p blank .links) ≡ 16
   sixteen-links = ap length (sym links-in) ∙ length-take-le 16 (drop (p * 27 + 11) c) (rw (length-drop (p * 27 + 11) c) (omega arith))
+
+  -- a link that is there, whatever one would stand for a missing one
+  link-zero : (i : ℕ) → i < 16 → getD c (p * 27 + 11 + i) 0 ≡ getD (getD (recordsOf c) p blank .links) i 0
+  unfolding recordOf
+  link-zero i b =
+      rw (record-at c p h)
+      (sym (getD-take 16 (drop 11 (drop (p * 27) c)) i 0 b ∙ getD-drop 11 (drop (p * 27) c) i 0 ∙ getD-drop (p * 27) c (11 + i) 0 ∙ ap (λ n. getD c n 0) (sym (add-assoc (p * 27) 11 i))))
+
+  pub link-in : (i : ℕ) → i < 16 → getD c (p * 27 + 11 + i) 0 ≡ getD (getD (recordsOf c) p blank .links) i none
+  link-in i b = link-zero i b ∙ there-same (getD (recordsOf c) p blank .links) i 0 none (omega (arith, sixteen-links, b))
 
 -- ---- one record written
 

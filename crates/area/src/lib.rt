@@ -5,6 +5,7 @@ ghost use mathlib.Core.Path.{_≡_};
 ghost use Prim.Native.Nat.{_+_, _*_, _<_, _≤_};
 ghost use lib.ListN.{length, getD, take, drop};
 ghost use lib.Seq.{sets};
+ghost use Rattle.area.specs.Encoding.{none};
 ghost use Rattle.grid.specs.Index.{level, Within};
 ghost use Rattle.grid.specs.Coefficient.{sameLevels};
 ghost use Rattle.area.specs.Settings.{readingsFor, readingCount, leastStore};
@@ -158,7 +159,7 @@ pub fn first_at(cells: &[u32], place: usize) -> u32
 // One link of the record at a place.
 pub fn link_at(cells: &[u32], place: usize, which: usize) -> u32
     requires { ⌜ (place * 27 + 27 ≤ length (now cells)) × (which < 16) ⌝ }
-    ensures { λ r. ⌜ r ≡ getD (getD (recordsOf (now (cells .entry))) place blank .links) which 0 ⌝ }
+    ensures { λ r. ⌜ r ≡ getD (getD (recordsOf (now (cells .entry))) place blank .links) which none ⌝ }
 {
     cells[place * 27 + 11 + which]
 }

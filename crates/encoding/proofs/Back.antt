@@ -50,10 +50,10 @@ module _ (g : Settings) (m : ℤ) (s : List ℤ) (rs : List IndexRecord) (v : So
 
   module _ (p a : ℕ) (hp : p < length rs) (ha : a < 8) where
     forward-place : forwardLink rs p a ≡ placeIn rs (forward (levelsAt rs p) a)
-    forward-place = ap (λ l. getD l a 0) (r .links p hp) ∙ forward-at (levelsOf rs) (levelsAt rs p) a ha
+    forward-place = ap (λ l. getD l a none) (r .links p hp) ∙ forward-at (levelsOf rs) (levelsAt rs p) a ha
 
     backward-place : backwardLink rs p a ≡ placeIn rs (backward (levelsAt rs p) a)
-    backward-place = ap (λ l. getD l (8 + a) 0) (r .links p hp) ∙ backward-at (levelsOf rs) (levelsAt rs p) a ha
+    backward-place = ap (λ l. getD l (8 + a) none) (r .links p hp) ∙ backward-at (levelsOf rs) (levelsAt rs p) a ha
 
     no-backward : level (levelsAt rs p) a ≡ 1 → backwardLink rs p a ≡ none
     no-backward one = backward-place ∙ not-lowered rs few d index p a hp ha one

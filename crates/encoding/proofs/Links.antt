@@ -38,24 +38,24 @@ module _ (ls : List (List ℕ)) (k : List ℕ) where
   unfolding linksOf
   links-length = length-append ahead behind ∙ ap₂ _+_ (length-tabulate 8 (λ a. placeOf ls (forward k a))) (length-tabulate 8 (λ a. placeOf ls (backward k a)))
 
-  pub forward-at : (a : ℕ) → a < 8 → getD (linksOf ls k) a 0 ≡ placeOf ls (forward k a)
+  pub forward-at : (a : ℕ) → a < 8 → getD (linksOf ls k) a none ≡ placeOf ls (forward k a)
   unfolding linksOf
   forward-at a h =
-      List·getD-append ahead behind 0 a (omega (arith, length-tabulate 8 (λ a. placeOf ls (forward k a)))) ∙ getD-tabulate 8 (λ a. placeOf ls (forward k a)) a 0 h
+      List·getD-append ahead behind none a (omega (arith, length-tabulate 8 (λ a. placeOf ls (forward k a)))) ∙ getD-tabulate 8 (λ a. placeOf ls (forward k a)) a none h
 
-  pub backward-at : (a : ℕ) → a < 8 → getD (linksOf ls k) (8 + a) 0 ≡ placeOf ls (backward k a)
+  pub backward-at : (a : ℕ) → a < 8 → getD (linksOf ls k) (8 + a) none ≡ placeOf ls (backward k a)
   unfolding linksOf
   backward-at a h =
-      ap (λ n. getD (linksOf ls k) (n + a) 0) (sym (length-tabulate 8 (λ a. placeOf ls (forward k a))))
-      ∙ getD-append-add ahead behind a 0
-      ∙ getD-tabulate 8 (λ a. placeOf ls (backward k a)) a 0 h
+      ap (λ n. getD (linksOf ls k) (n + a) none) (sym (length-tabulate 8 (λ a. placeOf ls (forward k a))))
+      ∙ getD-append-add ahead behind a none
+      ∙ getD-tabulate 8 (λ a. placeOf ls (backward k a)) a none h
 
   -- sixteen links are an index's if they are its neighbours' places
-  links-are : (m : List ℕ) → length m ≡ 16 → ((a : ℕ) → a < 8 → getD m a 0 ≡ placeOf ls (forward k a))
-      → ((a : ℕ) → a < 8 → getD m (8 + a) 0 ≡ placeOf ls (backward k a)) → m ≡ linksOf ls k
-  links-are m e f b = ext-getD 0 m (linksOf ls k) (e ∙ sym links-length) (λ i h. each i (omega arith) (decLt i 8))
+  links-are : (m : List ℕ) → length m ≡ 16 → ((a : ℕ) → a < 8 → getD m a none ≡ placeOf ls (forward k a))
+      → ((a : ℕ) → a < 8 → getD m (8 + a) none ≡ placeOf ls (backward k a)) → m ≡ linksOf ls k
+  links-are m e f b = ext-getD none m (linksOf ls k) (e ∙ sym links-length) (λ i h. each i (omega arith) (decLt i 8))
     where
-      each : (i : ℕ) → i < 16 → Dec (i < 8) → getD m i 0 ≡ getD (linksOf ls k) i 0
+      each : (i : ℕ) → i < 16 → Dec (i < 8) → getD m i none ≡ getD (linksOf ls k) i none
       each i h (yes l) = f i l ∙ sym (forward-at i l)
       each i h (no l) =
           let s : i ≡ 8 + (i - 8) = omega arith in

@@ -117,10 +117,10 @@ module _ (a : Area) (s : Sound a) where
     same-levels = levels-at (a .job .settings) (a .store) rs p
 
     forward-in : (x : ℕ) → forwardLink all p x ≡ forwardLink rs p x
-    forward-in x = ap (λ (r : IndexRecord). getD (r .links) x 0) (sym (record-same p there))
+    forward-in x = ap (λ (r : IndexRecord). getD (r .links) x none) (sym (record-same p there))
 
     backward-in : (x : ℕ) → backwardLink all p x ≡ backwardLink rs p x
-    backward-in x = ap (λ (r : IndexRecord). getD (r .links) (8 + x) 0) (sym (record-same p there))
+    backward-in x = ap (λ (r : IndexRecord). getD (r .links) (8 + x) none) (sym (record-same p there))
 
     held-ahead : (x q : ℕ) → Has es (forward (entryAt es p .levels) x) q → Holds rs (forward (levelsAt rs p) x) q
     unfolding entriesOf

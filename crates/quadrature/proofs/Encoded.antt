@@ -78,7 +78,7 @@ module _ {d : ℕ} (h : ℕ) (rs : List IndexRecord) {s : List ℤ} {k : List �
         delivered = λ l w. subst (λ (r : IndexRecord). 1 ≤ r .state) (sym (record-same h rs l (some l w))) (ready .delivered l w);
         room = λ l w. subst (λ (r : IndexRecord). r .first + blockSize l ≤ length s) (sym (record-same h rs l (some l w))) (ready .room l w);
         range = λ l n w q. subst IsReading (sym (held-agree l n w q)) (ready .range l n w q);
-        ahead = λ l a b w f. ap (λ (r : IndexRecord). getD (r .links) a 0) (record-same h rs l (some l w)) ∙ ready .ahead l a b w f ∙ sym (place-same h rs (forward l a) (some (forward l a) f));
+        ahead = λ l a b w f. ap (λ (r : IndexRecord). getD (r .links) a none) (record-same h rs l (some l w)) ∙ ready .ahead l a b w f ∙ sym (place-same h rs (forward l a) (some (forward l a) f));
       }
 
 -- ---- records and entries

@@ -153,16 +153,16 @@ module _ {d : ℕ} {rs : List IndexRecord} (linked : Linked d rs) (p : ℕ) (ins
     step-raises = raising-in levels m a b (linked .eight p inside) bit
 
     -- the link names a held place: it is that of the raised index
-    pub step-held : (q : ℕ) → getD (recordAt rs p .links) a 0 ≡ q → q < length rs → raising levels m a ≡ raising (recordAt rs q .levels) m (a + 1)
+    pub step-held : (q : ℕ) → getD (recordAt rs p .links) a none ≡ q → q < length rs → raising levels m a ≡ raising (recordAt rs q .levels) m (a + 1)
     step-held q e h =
         step-raises
         ∙ ap (λ r. raising r m (a + 1)) (sym (ap (λ x. recordAt rs x .levels) (sym e ∙ linked .ahead p a inside b) ∙ place-levels rs raised (below-none (at-512 h e))))
       where
-        at-512 : q < length rs → getD (recordAt rs p .links) a 0 ≡ q → placeIn rs raised < 512
+        at-512 : q < length rs → getD (recordAt rs p .links) a none ≡ q → placeIn rs raised < 512
         at-512 h e = subst (λ x. x < 512) (sym e ∙ linked .ahead p a inside b) (NatL.lt-of-lt-of-le h (linked .few))
 
     -- it names none: nothing above is held
-    pub step-none : (q : ℕ) → getD (recordAt rs p .links) a 0 ≡ q → length rs ≤ q → lookupIn rs (raising levels m a) ≡ NotFound
+    pub step-none : (q : ℕ) → getD (recordAt rs p .links) a none ≡ q → length rs ≤ q → lookupIn rs (raising levels m a) ≡ NotFound
     step-none q e h = found-nothing rs (raising levels m a) (linked .few) (λ held. not-held-here (below held))
       where
         not-held-here : placeIn rs raised < length rs → ⊥

@@ -20,7 +20,7 @@ use Rattle.area.specs.declared.IndexRecord.{IndexRecord}
 use Rattle.area.specs.declared.Settings.{Settings}
 use Rattle.area.specs.Records.{levelsOf}
 use Rattle.area.specs.Entry.{indicesOf}
-use Rattle.area.specs.Encoding.{placeFrom, placeOf, linksOf, encoded, encodedFrom, recordsFor, storeFor}
+use Rattle.area.specs.Encoding.{placeFrom, placeOf, linksOf, encoded, encodedFrom, recordsFor, storeFor, none}
 use Rattle.quadrature.specs.Readings.{recordAt, placeIn, storedReading}
 use Rattle.quadrature.specs.Ready.{Ready, AllReady}
 use Rattle.quadrature.specs.Linked.{Linked}
@@ -50,7 +50,7 @@ module _ (g : Settings) (d : ℕ) (few : d ≤ 8) (x : ℤ) where
   levels-at = refl
 
   -- no forward neighbour is held, and the links say so
-  ahead-at : (a : ℕ) → a < 8 → getD (recordAt rs 0 .links) a 0 ≡ placeIn rs (forward root a)
+  ahead-at : (a : ℕ) → a < 8 → getD (recordAt rs 0 .links) a none ≡ placeIn rs (forward root a)
   unfolding recordsFor encodedFrom encoded rootAlone levelsOf placeOf placeFrom root sameLevels linksOf tabulate forward indicesOf
   ahead-at zero h = refl
   ahead-at (suc zero) h = refl
@@ -104,7 +104,7 @@ module _ (g : Settings) (d : ℕ) (few : d ≤ 8) (x : ℤ) where
         room = at-root (λ l. recordAt rs (placeIn rs l) .first + blockSize l ≤ length s) room-at;
         range = λ l n h q. at-root (λ m. (i : ℕ) → i < blockSize m → IsReading (storedReading rs s m i)) (in-range small) l h n q;
         ahead = λ l a b h f.
-            at-root (λ m. getD (recordAt rs (placeIn rs m) .links) a 0 ≡ placeIn rs (forward m a)) (ap (λ p. getD (recordAt rs p .links) a 0) root-at ∙ ahead-at a b) l h;
+            at-root (λ m. getD (recordAt rs (placeIn rs m) .links) a none ≡ placeIn rs (forward m a)) (ap (λ p. getD (recordAt rs p .links) a none) root-at ∙ ahead-at a b) l h;
       }
 
   -- there is one place
@@ -135,7 +135,7 @@ module _ (g : Settings) (d : ℕ) (few : d ≤ 8) (x : ℤ) where
         lower = λ p k h w.
             at-first (λ q. NowhereHigher k (recordAt rs q .levels) → placeIn rs k < length rs)
             (λ v. at-root (λ m. placeIn rs m < length rs) (omega (arith, root-at, one)) k (subst (NowhereHigher k) levels-at v)) p h w;
-        ahead = λ p a h b. at-first (λ q. getD (recordAt rs q .links) a 0 ≡ placeIn rs (forward (recordAt rs q .levels) a)) (ahead-at a b ∙ ap (λ k. placeIn rs (forward k a)) (sym levels-at)) p h;
+        ahead = λ p a h b. at-first (λ q. getD (recordAt rs q .links) a none ≡ placeIn rs (forward (recordAt rs q .levels) a)) (ahead-at a b ∙ ap (λ k. placeIn rs (forward k a)) (sym levels-at)) p h;
       }
 
 pub required-facts : (g : Settings) → RequiredFacts g

@@ -9,6 +9,7 @@ use lib.IntN.{ℤ, pos, natAbs, _+ℤ_, _*ℤ_}
 use lib.ListN.{length, getD, take, drop}
 use mir.Syntax.{w64}
 use mir.Val.{toZ}
+use Rattle.area.specs.Encoding.{none}
 use Rattle.rule.specs.Points.{newCount}
 use Rattle.rule.specs.Weights.{wholeWeight}
 use Rattle.grid.specs.Index.{level, forward}
@@ -157,7 +158,7 @@ module _ {d : ℕ} {rs : List IndexRecord} {s : List ℤ} {k : List ℕ} (ready 
             round .sum ∙ ap (λ p. tensorDone top l p ks Q) e ∙ done-level top ks Q l (round .low)
 
         -- to the next level, along the link
-        pub round-higher : {next : ℕ} → l < top → next ≡ getD (recordAt rs at .links) axis 0 → Round rs s k axis place rank top total (l + 1) 0 next
+        pub round-higher : {next : ℕ} → l < top → next ≡ getD (recordAt rs at .links) axis none → Round rs s k axis place rank top total (l + 1) 0 next
         round-higher {next} h e =
             record {
               low = omega arith;

@@ -13,6 +13,7 @@ use lib.Arith.{digits-lt}
 use lib.IntN.{ℤ, pos}
 use lib.ListN.{length, getD, take, drop, replicate, take-append-drop, length-drop, length-replicate, getD-replicate}
 use lib.Seq.{take-suc, take-set-le, ext-getD, getD-drop}
+use Rattle.area.specs.Encoding.{none}
 use Rattle.rule.specs.Points.{newCount}
 use Rattle.grid.specs.Index.{level, root, forward, NowhereHigher}
 use Rattle.grid.specs.Block.{blockSize}
@@ -98,9 +99,9 @@ module _ {d : ℕ} {rs : List IndexRecord} {s : List ℤ} {k : List ℕ} (ready 
           high b h (no f) = subst (λ x. x ≤ level k b) (sym (forward-other levels axis b f)) (st .lower .high b h)
 
       -- the link names the place of the raised index
-      pub link-is : getD (recordAt rs place .links) axis 0 ≡ placeIn rs raised
+      pub link-is : getD (recordAt rs place .links) axis none ≡ placeIn rs raised
       link-is =
-          subst (λ p. getD (recordAt rs p .links) axis 0 ≡ placeIn rs raised) (st .own) (ready .ahead levels axis a (st .lower) raised-lower)
+          subst (λ p. getD (recordAt rs p .links) axis none ≡ placeIn rs raised) (st .own) (ready .ahead levels axis a (st .lower) raised-lower)
 
       raised-at : recordAt rs (placeIn rs raised) .levels ≡ raised
       raised-at = place-levels rs raised (below-none (ready .found raised raised-lower))

@@ -6,6 +6,7 @@ use Prim.Native.Nat.{ℕ, _<_, _≤_}
 use lib.Dec.{leb}
 use lib.IntN.{ℤ, pos}
 use lib.ListN.{length, getD}
+use Rattle.area.specs.Encoding.{none}
 use Rattle.grid.specs.Index.{level, forward, NowhereHigher}
 use Rattle.grid.specs.Coefficient.{isIn, sign, raisedOn, marks}
 use Rattle.area.specs.declared.IndexRecord.{IndexRecord}
@@ -31,4 +32,4 @@ pub record Linked (d : ℕ) (rs : List IndexRecord) : Type 0 where
   pub beyond : (p a : ℕ) → p < length rs → d ≤ a → a < 8 → level (recordAt rs p .levels) a ≡ 1
   pub own : (p : ℕ) → p < length rs → placeIn rs (recordAt rs p .levels) ≡ p
   pub lower : (p : ℕ) (k : List ℕ) → p < length rs → NowhereHigher k (recordAt rs p .levels) → placeIn rs k < length rs
-  pub ahead : (p a : ℕ) → p < length rs → a < 8 → getD (recordAt rs p .links) a 0 ≡ placeIn rs (forward (recordAt rs p .levels) a)
+  pub ahead : (p a : ℕ) → p < length rs → a < 8 → getD (recordAt rs p .links) a none ≡ placeIn rs (forward (recordAt rs p .levels) a)

@@ -4,6 +4,7 @@ use mathlib.Core.List.{List}
 use Prim.Native.Nat.{ℕ, _+_, _<_, _≤_}
 use lib.IntN.{ℤ}
 use lib.ListN.{length, getD, take}
+use Rattle.area.specs.Encoding.{none}
 use Rattle.grid.specs.Index.{level, Within, root, forward, NowhereHigher}
 use Rattle.grid.specs.Block.{blockSize}
 use Rattle.grid.specs.Terms.{IsReading}
@@ -23,7 +24,7 @@ pub record Ready (d : ℕ) (rs : List IndexRecord) (s : List ℤ) (k : List ℕ)
   pub room : (l : List ℕ) → NowhereHigher l k → recordAt rs (placeIn rs l) .first + blockSize l ≤ length s
   pub range : (l : List ℕ) (n : ℕ) → NowhereHigher l k → n < blockSize l → IsReading (storedReading rs s l n)
   pub ahead : (l : List ℕ) (a : ℕ) → a < 8 → NowhereHigher l k → NowhereHigher (forward l a) k
-      → getD (recordAt rs (placeIn rs l) .links) a 0 ≡ placeIn rs (forward l a)
+      → getD (recordAt rs (placeIn rs l) .links) a none ≡ placeIn rs (forward l a)
 
 -- Where a walk stands at an axis: the record at the place is nowhere higher than k and at level 1 on the later axes; the rank is
 -- that of a point of the axes passed.

@@ -3,6 +3,7 @@ use mathlib.Core.Path.{_≡_}
 use mathlib.Core.List.{List}
 use Prim.Native.Nat.{ℕ, _+_, _<_}
 use lib.ListN.{length, getD}
+use Rattle.area.specs.Encoding.{none}
 use Rattle.grid.specs.Block.{blockSize}
 use Rattle.area.specs.declared.IndexRecord.{IndexRecord}
 use Rattle.area.specs.declared.Settings.{Settings}
@@ -18,10 +19,10 @@ stateAt rs p = recordAt rs p .state
 
 -- The links of a record along an axis: the place of its forward and of its backward neighbour.
 abbrev pub forwardLink : List IndexRecord → ℕ → ℕ → ℕ
-forwardLink rs p a = getD (recordAt rs p .links) a 0
+forwardLink rs p a = getD (recordAt rs p .links) a none
 
 abbrev pub backwardLink : List IndexRecord → ℕ → ℕ → ℕ
-backwardLink rs p a = getD (recordAt rs p .links) (8 + a) 0
+backwardLink rs p a = getD (recordAt rs p .links) (8 + a) none
 
 -- How many points the block of a place has, and how many readings.
 abbrev pub sizeAt : List IndexRecord → ℕ → ℕ

@@ -100,12 +100,12 @@ module _ (settings : Settings) (d : ℕ) (es : List Entry) (b : Based d es) wher
     new-links : new ≡ linksOf more x
     new-links =
         links-are more x new (new-length ls x)
-        (λ a g. new-forward ls x a g ∙ sym (place-other (forward x a) ls x (not-above a g) ∙ place-absent (forward x a) es (no-forward a g)))
+        (λ a g. new-forward ls x none a g ∙ sym (place-other (forward x a) ls x (not-above a g) ∙ place-absent (forward x a) es (no-forward a g)))
         (λ a g. step a g (decLt 1 (level x a)) ∙ sym (place-other (backward x a) ls x (not-below a g)))
       where
-        step : (a : ℕ) → a < 8 → Dec (1 < level x a) → getD new (8 + a) 0 ≡ placeOf ls (backward x a)
-        step a g (yes u) = new-above ls x a g u
-        step a g (no u) = new-none ls x a g (omega arith) ∙ sym (place-absent (backward x a) es (no-backward a g (omega arith)))
+        step : (a : ℕ) → a < 8 → Dec (1 < level x a) → getD new (8 + a) none ≡ placeOf ls (backward x a)
+        step a g (yes u) = new-above ls x none a g u
+        step a g (no u) = new-none ls x none a g (omega arith) ∙ sym (place-absent (backward x a) es (no-backward a g (omega arith)))
 
     -- ---- the links of an entry
 
@@ -133,7 +133,7 @@ module _ (settings : Settings) (d : ℕ) (es : List Entry) (b : Based d es) wher
       -- k's place is x's backward link along the axis along which x is k's forward neighbour
       ahead-hit : (a : ℕ) → a < 8 → x ≡ forward k a → getD new (8 + a) 0 ≡ p
       ahead-hit a g e =
-          new-above ls x a g (omega (arith, forward-level k a (in-k a g), ap (λ y. level y a) e, at-least d k (b .index p h) a g))
+          new-above ls x 0 a g (omega (arith, forward-level k a (in-k a g), ap (λ y. level y a) e, at-least d k (b .index p h) a g))
           ∙ ap (placeOf ls) (ap (λ y. backward y a) e ∙ backward-forward k a (in-k a g))
           ∙ place-has k p (record { place = h; same = refl })
 
@@ -144,10 +144,10 @@ module _ (settings : Settings) (d : ℕ) (es : List Entry) (b : Based d es) wher
           step : Dec (1 < level x a) → ⊥
           step (yes u) =
               let t = m .behind a (axis-of d x (m .index) a g u) u in
-              let at-p : t .0 ≡ p = sym (place-has (backward x a) (t .0) (t .1)) ∙ sym (new-above ls x a g u) ∙ q in
+              let at-p : t .0 ≡ p = sym (place-has (backward x a) (t .0) (t .1)) ∙ sym (new-above ls x 0 a g u) ∙ q in
               let same : k ≡ backward x a = ap (λ r. entryAt es r .levels) (sym at-p) ∙ t .1 .same in
               n (sym (ap (λ y. forward y a) same ∙ forward-backward x a (in-x a g) u))
-          step (no u) = omega (arith, none-far, sym (new-none ls x a g (omega arith)) ∙ q)
+          step (no u) = omega (arith, none-far, sym (new-none ls x 0 a g (omega arith)) ∙ q)
 
       own-links : recordAt rs p .links ≡ linksOf ls k
       unfolding recordsFor
@@ -157,21 +157,21 @@ module _ (settings : Settings) (d : ℕ) (es : List Entry) (b : Based d es) wher
       named-links =
           links-are more k (recordAt named p .links) (named-links-length new (length es) 8 0 rs p ∙ sixteen)
           (λ a g. ⊎-elim (ahead a g) (λ n. not-ahead a g (n .0)) (same-or x (forward k a)))
-          (λ a g. named-other new (length es) 8 0 rs p (8 + a) (inr (inl (omega arith))) ∙ ap (λ l. getD l (8 + a) 0) own-links ∙ backward-at ls k a g
+          (λ a g. named-other new (length es) 8 0 rs p (8 + a) (inr (inl (omega arith))) ∙ ap (λ l. getD l (8 + a) none) own-links ∙ backward-at ls k a g
           ∙ sym (place-other (backward k a) ls x (not-behind a g)))
         where
           sixteen : length (recordAt rs p .links) ≡ 16
           sixteen = ap length own-links ∙ links-length ls k
 
-          ahead : (a : ℕ) → a < 8 → x ≡ forward k a → getD (recordAt named p .links) a 0 ≡ placeOf more (forward k a)
+          ahead : (a : ℕ) → a < 8 → x ≡ forward k a → getD (recordAt named p .links) a none ≡ placeOf more (forward k a)
           ahead a g e =
               named-hit new (length es) 8 0 rs p a (omega arith) (omega arith) (ahead-hit a g e) (λ z. omega (arith, none-far)) (omega (arith, records-length settings es))
               (omega (arith, sixteen))
               ∙ sym (ap (placeOf more) (sym e) ∙ place-new x es (m .absent))
 
-          not-ahead : (a : ℕ) → a < 8 → x ≢ forward k a → getD (recordAt named p .links) a 0 ≡ placeOf more (forward k a)
+          not-ahead : (a : ℕ) → a < 8 → x ≢ forward k a → getD (recordAt named p .links) a none ≡ placeOf more (forward k a)
           not-ahead a g n =
-              named-other new (length es) 8 0 rs p a (inr (inr (ahead-miss a g n))) ∙ ap (λ l. getD l a 0) own-links ∙ forward-at ls k a g
+              named-other new (length es) 8 0 rs p a (inr (inr (ahead-miss a g n))) ∙ ap (λ l. getD l a none) own-links ∙ forward-at ls k a g
               ∙ sym (place-other (forward k a) ls x n)
 
     -- ---- the records

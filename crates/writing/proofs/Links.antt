@@ -27,11 +27,11 @@ module _ (ls : List (List ℕ)) (k : List ℕ) where
       ∙ ap₂ _+_ (length-tabulate 8 (λ a. placeOf ls (forward k a))) (length-tabulate 8 (λ a. placeOf ls (backward k a)))
 
   -- sixteen links are an index's if they are its neighbours' places
-  pub links-are : (m : List ℕ) → length m ≡ 16 → ((a : ℕ) → a < 8 → getD m a 0 ≡ placeOf ls (forward k a))
-      → ((a : ℕ) → a < 8 → getD m (8 + a) 0 ≡ placeOf ls (backward k a)) → m ≡ linksOf ls k
-  links-are m e f b = ext-getD 0 m (linksOf ls k) (e ∙ sym links-length) (λ i h. each i (omega arith) (decLt i 8))
+  pub links-are : (m : List ℕ) → length m ≡ 16 → ((a : ℕ) → a < 8 → getD m a none ≡ placeOf ls (forward k a))
+      → ((a : ℕ) → a < 8 → getD m (8 + a) none ≡ placeOf ls (backward k a)) → m ≡ linksOf ls k
+  links-are m e f b = ext-getD none m (linksOf ls k) (e ∙ sym links-length) (λ i h. each i (omega arith) (decLt i 8))
     where
-      each : (i : ℕ) → i < 16 → Dec (i < 8) → getD m i 0 ≡ getD (linksOf ls k) i 0
+      each : (i : ℕ) → i < 16 → Dec (i < 8) → getD m i none ≡ getD (linksOf ls k) i none
       each i h (yes l) = f i l ∙ sym (forward-at ls k i l)
       each i h (no l) =
           let s : i ≡ 8 + (i - 8) = omega arith in
@@ -47,23 +47,24 @@ module _ (ls : List (List ℕ)) (x : List ℕ) where
   unfolding newLinks
   new-length = length-append (replicate 8 none) (tabulate 8 behind) ∙ ap (λ n. 8 + n) (length-tabulate 8 behind)
 
-  pub new-forward : (a : ℕ) → a < 8 → getD (newLinks ls x) a 0 ≡ none
+  -- whatever stands for a missing link
+  pub new-forward : (d a : ℕ) → a < 8 → getD (newLinks ls x) a d ≡ none
   unfolding newLinks
-  new-forward a h = List·getD-append (replicate 8 none) (tabulate 8 behind) 0 a h ∙ getD-replicate 8 a none 0 h
+  new-forward d a h = List·getD-append (replicate 8 none) (tabulate 8 behind) d a h ∙ getD-replicate 8 a none d h
 
-  new-backward : (a : ℕ) → a < 8 → getD (newLinks ls x) (8 + a) 0 ≡ behind a
+  new-backward : (d a : ℕ) → a < 8 → getD (newLinks ls x) (8 + a) d ≡ behind a
   unfolding newLinks
-  new-backward a h = getD-append-add (replicate 8 none) (tabulate 8 behind) a 0 ∙ getD-tabulate 8 behind a 0 h
+  new-backward d a h = getD-append-add (replicate 8 none) (tabulate 8 behind) a d ∙ getD-tabulate 8 behind a d h
 
-  pub new-above : (a : ℕ) → a < 8 → 1 < level x a → getD (newLinks ls x) (8 + a) 0 ≡ placeOf ls (backward x a)
-  new-above a h l = new-backward a h ∙ rw (lt-ltb 1 (level x a) l)
+  pub new-above : (d a : ℕ) → a < 8 → 1 < level x a → getD (newLinks ls x) (8 + a) d ≡ placeOf ls (backward x a)
+  new-above d a h l = new-backward d a h ∙ rw (lt-ltb 1 (level x a) l)
 
-  pub new-none : (a : ℕ) → a < 8 → level x a ≤ 1 → getD (newLinks ls x) (8 + a) 0 ≡ none
-  new-none a h l = new-backward a h ∙ rw (le-ltb 1 (level x a) l)
+  pub new-none : (d a : ℕ) → a < 8 → level x a ≤ 1 → getD (newLinks ls x) (8 + a) d ≡ none
+  new-none d a h l = new-backward d a h ∙ rw (le-ltb 1 (level x a) l)
 
   -- each backward link is none or one of the places
   pub new-bounded : (a : ℕ) → a < 8 → (getD (newLinks ls x) (8 + a) 0 ≡ none) ⊎ (getD (newLinks ls x) (8 + a) 0 < length ls)
-  new-bounded a h = subst (λ q. (q ≡ none) ⊎ (q < length ls)) (sym (new-backward a h)) (step (ltb 1 (level x a)))
+  new-bounded a h = subst (λ q. (q ≡ none) ⊎ (q < length ls)) (sym (new-backward 0 a h)) (step (ltb 1 (level x a)))
     where
       step : (t : Bool) → (cond t (placeOf ls (backward x a)) none ≡ none) ⊎ (cond t (placeOf ls (backward x a)) none < length ls)
       step true = place-bounded (backward x a) ls

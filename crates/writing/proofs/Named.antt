@@ -78,35 +78,35 @@ module _ (links : List ℕ) (n : ℕ) where
   -- ---- the links of one place
 
   -- another link than the axis's, or of another place
-  axis-other : (a : ℕ) (rs : List IndexRecord) (p j : ℕ) → (j ≢ a) ⊎ (behind a ≢ p) → getD (recordAt (named a rs) p .links) j 0 ≡ getD (recordAt rs p .links) j 0
+  axis-other : (a : ℕ) (rs : List IndexRecord) (p j : ℕ) → (j ≢ a) ⊎ (behind a ≢ p) → getD (recordAt (named a rs) p .links) j none ≡ getD (recordAt rs p .links) j none
   axis-other a rs p j w = step (eqb (behind a) none) (ℕ-discrete p (behind a)) w
     where
       new : IndexRecord
       new = withForwardLink (recordAt rs (behind a)) a n
 
-      step : (t : Bool) → Dec (p ≡ behind a) → (j ≢ a) ⊎ (behind a ≢ p) → getD (recordAt (cond t rs (set rs (behind a) new)) p .links) j 0 ≡ getD (recordAt rs p .links) j 0
+      step : (t : Bool) → Dec (p ≡ behind a) → (j ≢ a) ⊎ (behind a ≢ p) → getD (recordAt (cond t rs (set rs (behind a) new)) p .links) j none ≡ getD (recordAt rs p .links) j none
       step true d w = refl
-      step false (no d) w = ap (λ (r : IndexRecord). getD (r .links) j 0) (getD-set-other rs (behind a) p new blank d)
+      step false (no d) w = ap (λ (r : IndexRecord). getD (r .links) j none) (getD-set-other rs (behind a) p new blank d)
       step false (yes d) (inr f) = absurd (f (sym d))
       step false (yes d) (inl f) = inside (decLt (behind a) (length rs))
         where
-          inside : Dec (behind a < length rs) → getD (recordAt (set rs (behind a) new) p .links) j 0 ≡ getD (recordAt rs p .links) j 0
-          inside (no h) = ap (λ x. getD (recordAt x p .links) j 0) (set-out rs (behind a) new (omega arith))
+          inside : Dec (behind a < length rs) → getD (recordAt (set rs (behind a) new) p .links) j none ≡ getD (recordAt rs p .links) j none
+          inside (no h) = ap (λ x. getD (recordAt x p .links) j none) (set-out rs (behind a) new (omega arith))
           inside (yes h) =
               rw d
-              (ap (λ (r : IndexRecord). getD (r .links) j 0) (getD-set-same rs (behind a) new blank h)
-              ∙ unfold withForwardLink in getD-set-other (recordAt rs (behind a) .links) a j n 0 f)
+              (ap (λ (r : IndexRecord). getD (r .links) j none) (getD-set-same rs (behind a) new blank h)
+              ∙ unfold withForwardLink in getD-set-other (recordAt rs (behind a) .links) a j n none f)
 
   -- the axis's link of the place
   axis-hit : (a : ℕ) (rs : List IndexRecord) (p : ℕ) → behind a ≡ p → p ≢ none → p < length rs → a < length (recordAt rs p .links)
-      → getD (recordAt (named a rs) p .links) a 0 ≡ n
+      → getD (recordAt (named a rs) p .links) a none ≡ n
   axis-hit a rs p e f h l =
       rw (e, ne-eqb p none f)
-      (ap (λ (r : IndexRecord). getD (r .links) a 0) (getD-set-same rs p (withForwardLink (recordAt rs p) a n) blank h)
-      ∙ unfold withForwardLink in getD-set-same (recordAt rs p .links) a n 0 l)
+      (ap (λ (r : IndexRecord). getD (r .links) a none) (getD-set-same rs p (withForwardLink (recordAt rs p) a n) blank h)
+      ∙ unfold withForwardLink in getD-set-same (recordAt rs p .links) a n none l)
 
   pub named-other : (m a : ℕ) (rs : List IndexRecord) (p j : ℕ) → (j < a) ⊎ ((a + m ≤ j) ⊎ (getD links (8 + j) 0 ≢ p))
-      → getD (recordAt (namedFrom m a links n rs) p .links) j 0 ≡ getD (recordAt rs p .links) j 0
+      → getD (recordAt (namedFrom m a links n rs) p .links) j none ≡ getD (recordAt rs p .links) j none
   unfolding namedFrom
   named-other zero a rs p j w = refl
   named-other (suc m) a rs p j w = named-other m (a + 1) (named a rs) p j (next w) ∙ axis-other a rs p j (here (ℕ-discrete j a) w)
@@ -123,15 +123,15 @@ module _ (links : List ℕ) (n : ℕ) where
       here (yes d) (inr (inr f)) = inr (rw d at f)
 
   pub named-hit : (m a : ℕ) (rs : List IndexRecord) (p j : ℕ) → a ≤ j → j < a + m → getD links (8 + j) 0 ≡ p → p ≢ none → p < length rs
-      → j < length (recordAt rs p .links) → getD (recordAt (namedFrom m a links n rs) p .links) j 0 ≡ n
+      → j < length (recordAt rs p .links) → getD (recordAt (namedFrom m a links n rs) p .links) j none ≡ n
   unfolding namedFrom
   named-hit zero a rs p j u v e f h l = absurd (omega arith)
   named-hit (suc m) a rs p j u v e f h l = step (ℕ-discrete j a) (named-hit m (a + 1) (named a rs) p j)
     where
       step : Dec (j ≡ a)
           → (a + 1 ≤ j → j < a + 1 + m → behind j ≡ p → p ≢ none → p < length (named a rs) → j < length (recordAt (named a rs) p .links)
-          → getD (recordAt (namedFrom m (a + 1) links n (named a rs)) p .links) j 0 ≡ n)
-          → getD (recordAt (namedFrom m (a + 1) links n (named a rs)) p .links) j 0 ≡ n
+          → getD (recordAt (namedFrom m (a + 1) links n (named a rs)) p .links) j none ≡ n)
+          → getD (recordAt (namedFrom m (a + 1) links n (named a rs)) p .links) j none ≡ n
       step (no d) r = r (omega arith) (omega arith) e f (omega (arith, named-length 1 a rs)) (omega (arith, named-links-length 1 a rs p))
       step (yes d) r = named-other m (a + 1) (named a rs) p j (inl (omega arith)) ∙ rw d (axis-hit a rs p (rw d at e) f h (rw d at l))
 

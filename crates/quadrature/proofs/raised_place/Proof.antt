@@ -8,6 +8,7 @@ use Prim.Native.Nat.{ℕ, _*_, _-_, _≤_, _<_}
 use native.Mathlib.Omega.{arith}
 use denote.Ref.{now}
 use lib.ListN.{length, getD}
+use Rattle.area.specs.Encoding.{none}
 use Rattle.grid.specs.Coefficient.{raisedOn, marks}
 use Rattle.grid.proofs.LoopSteps.{raising, raising-start, raising-out}
 use Rattle.area.specs.Records.{recordsOf, heldIn}
@@ -30,8 +31,8 @@ abbrev μ-loop : tie.MeasureT-loop
 μ-loop axes held place mask cells at₀ axis₀ at axis = axes - axis
 
 -- the link that was read is that of the held record
-link-held : (cells : List ℕ) (held at axis q : ℕ) → held * 27 ≤ length cells → at < held → q ≡ getD (recordAt (recordsOf cells) at .links) axis 0 → getD (recordAt (heldIn cells held) at .links) axis 0 ≡ q
-link-held cells held at axis q room h e = ap (λ r. getD (r .links) axis 0) (held-record cells held room at h) ∙ sym e
+link-held : (cells : List ℕ) (held at axis q : ℕ) → held * 27 ≤ length cells → at < held → q ≡ getD (recordAt (recordsOf cells) at .links) axis none → getD (recordAt (heldIn cells held) at .links) axis none ≡ q
+link-held cells held at axis q room h e = ap (λ r. getD (r .links) axis none) (held-record cells held room at h) ∙ sym e
 
 loop-holds : tie.Need-loop-holds Inv-loop μ-loop
 loop-holds c = (omega arith, omega arith, raising-start (levels (now (c .before .args .cells)) (c .before .args .held) (c .before .args .place)) (c .before .args .mask))
@@ -55,7 +56,7 @@ returns c =
     let cells = now (s .args .cells) in
     let rs = heldIn cells (s .args .held) in
     let n = held-length cells (s .args .held) (s .pre .1) in
-    let e : getD (recordAt rs (l .at) .links) (l .axis) 0 ≡ c .before .link-at .result = link-held cells (s .args .held) (l .at) (l .axis) (c .before .link-at .result) (s .pre .1) (l .inv .1) (c .before .link-at .ensures) in
+    let e : getD (recordAt rs (l .at) .links) (l .axis) none ≡ c .before .link-at .result = link-held cells (s .args .held) (l .at) (l .axis) (c .before .link-at .result) (s .pre .1) (l .inv .1) (c .before .link-at .ensures) in
     sym (ap (lookupIn rs) (l .inv .2)
     ∙ step-none (s .pre .0) (l .at) (omega arith) (s .args .mask) (l .axis) (omega (arith, s .pre .0 .axes)) (c .before .before .if1 .taken) (c .before .link-at .result) e (omega (arith, c .if2 .taken)))
 
@@ -75,7 +76,7 @@ loop-again c =
     ⊎-elim
     (λ w.
     let q = w .1 .result in
-    let e : getD (recordAt rs (l .at) .links) (l .axis) 0 ≡ q = link-held cells (s .args .held) (l .at) (l .axis) q (s .pre .1) (l .inv .1) (w .1 .ensures) in
+    let e : getD (recordAt rs (l .at) .links) (l .axis) none ≡ q = link-held cells (s .args .held) (l .at) (l .axis) q (s .pre .1) (l .inv .1) (w .1 .ensures) in
     rw (w .3) (
       omega arith,
       w .2 .left,
