@@ -88,7 +88,7 @@ calls-compared: exported
 # Lists of calls over lent record structs against the reference's, by an unproved program outside the repository (tests/records); some seconds.
 records-compared: exported
 	@$(CARGO) build $(RELEASE) -p harness
-	@tests/records/run $(SEED)
+	@tests/records/run 1
 
 # The callers' side: the header in C, and as C++ where there is a compiler for it; then a job run by calls in C and in Rust, whose report
 # is that of the same job as a file.

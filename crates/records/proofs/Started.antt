@@ -15,7 +15,7 @@ use lib.Seq.{take-at, length-take-le}
 use Rattle.area.specs.declared.IndexRecord.{IndexRecord}
 use Rattle.area.specs.declared.JobRecord.{JobRecord}
 use Rattle.area.specs.declared.Settings.{Settings}
-use Rattle.area.specs.Entry.{Entry, indicesOf}
+use Rattle.area.specs.Entry.{Entry}
 use Rattle.area.specs.Records.{recordsOf}
 use Rattle.area.specs.Encoding.{recordsFor, encodedFrom, runWith, storeWith, jobWith, written}
 use Rattle.machine.specs.Causes.{firstCause, startCauses}

@@ -9,7 +9,7 @@ use reference::area::{Area, IndexRecord, JobRecord, WORDS};
 use reference::call::{self, Answer, Call};
 use reference::calls;
 use reference::choice::{Block, Chooser};
-use reference::grid::{self, BUDGET_LIMIT, HELD_LIMIT, MOST_AXES};
+use reference::grid::{self, BUDGET_LIMIT, HELD_LIMIT, MOST_AXES, READING_LIMIT};
 use reference::rng::Rng;
 use std::collections::BTreeMap;
 
@@ -44,8 +44,8 @@ impl Default for Lists {
 
 impl Lists {
     /// A list that begins in storage full of anything, where every call but
-    /// start is refused: a start on too few records, one on just enough, a point
-    /// past the root's block, and calls of all kinds.
+    /// start is refused: a start on too few records, one on just enough, calls
+    /// that the root refuses, and calls of all kinds.
     pub fn from_garbage(&mut self, seed: u64, count: usize) {
         let mut chooser = Chooser::new(Rng::new(seed));
         let mut area = garbage(&mut chooser.rng);
@@ -58,7 +58,15 @@ impl Lists {
         for lent in [HELD_LIMIT - 1, HELD_LIMIT] {
             self.call(&start, lent, READINGS);
         }
-        self.call(&Call::Point { n: 1, buffer: MOST_AXES }, RECORDS, READINGS);
+        let refused = [
+            Call::Point { n: 1, buffer: MOST_AXES },
+            Call::Promote,
+            Call::Deliver { readings: vec![1, 2], indicator: 1 },
+            Call::Deliver { readings: vec![READING_LIMIT + 1], indicator: 1 },
+        ];
+        for call in refused {
+            self.call(&call, RECORDS, READINGS);
+        }
         self.carry_on(&mut chooser, count);
     }
 

@@ -2,7 +2,7 @@
 -- call, and come back (`Shared.antt`); the call is made on them as cells; and they go to `put_back` at their own lifetime, share and ghost
 -- name, for good (`gave-slice`). That the call on the front of the records is the call on all of them is `Lent.antt`.
 -- Assumes nothing.
-use mathlib.Core.Path.{_≡_, refl, ap, sym, _∙_, subst}
+use mathlib.Core.Path.{_≡_, refl, ap, sym, subst}
 use Prim.Native.Nat.{ℕ, _≤_}
 use mathlib.Core.List.{List, [], _∷_}
 use native.Mathlib.Nat.{le-trans}
