@@ -116,6 +116,8 @@ trapezoidal-facts =
       difference = Trapezoidal.difference;
       eight-axes = Trapezoidal.eight-axes;
       job-axes = Trapezoidal.job-axes;
+      tensor = Trapezoidal.tensor;
+      tensor-job-axes = Trapezoidal.tensor-job-axes;
     }
 
 pub smolyak-facts : SmolyakFacts

@@ -1,8 +1,9 @@
--- The scaled difference is the tensor product of differences of trapezoidal rules, up to the units.
+-- The scaled difference is the tensor product of differences of trapezoidal rules, and the full tensor rule that of the rules, up to the units.
 -- The idea: along one axis 256 times a rule is the trapezoidal rule in the level's unit, and a factor passes through the rules of the axes
 -- in front.
 -- Assumes nothing.
 use mathlib.Core.Path.{_≡_, refl, sym, ap, ap₂, _∙_, fun-ext, subst}
+use mathlib.Core.Bool.{true}
 use mathlib.Core.List.{List, [], _∷_}
 use Prim.Native.Nat.{ℕ, zero, suc, _+_, _*_, _-_, _^_, _≤_}
 use native.Mathlib.Nat.{pow-succ', le-refl}
@@ -14,15 +15,16 @@ use Rattle.sums.proofs.Ring.{ring, one-*ℤ, *ℤ-assoc, *ℤ-left}
 use Rattle.rule.specs.Points.{points}
 use Rattle.rule.specs.Rules.{unit, wholeRule, unitStep, differenceRule, trapezoidal}
 use Rattle.rule.proofs.Rules.{centre, source}
-use Rattle.grid.specs.Index.{Within, Index}
+use Rattle.grid.specs.Index.{Within, levelsWithin, Index}
 use Rattle.grid.specs.Difference.{Readings, units, scaledDifference}
+use Rattle.grid.specs.Tensor.{tensorRule}
 use Rattle.grid.specs.Terms.{Agree, tensorProduct, sampled, pad, padded, centred}
 use Rattle.grid.specs.Trapezoidal.{trapezoidalRule, trapezoidalDifference}
 use Rattle.grid.proofs.Levels.{Levels, levels-back, within-levels, unit-mono, units-le}
 use Rattle.grid.proofs.Scales.{filled}
-use Rattle.grid.proofs.Differences.{difference-only}
-use Rattle.grid.proofs.Sampled.{difference-sampled}
-use Rattle.grid.proofs.LevelOne.{size-same, point-same, difference-same}
+use Rattle.grid.proofs.Differences.{difference-only, tensor-only}
+use Rattle.grid.proofs.Sampled.{difference-sampled, tensor-sampled}
+use Rattle.grid.proofs.LevelOne.{size-same, point-same, difference-same, tensor-same}
 use Rattle.grid.proofs.Axes.{job-levels, higher-same, whole-none}
 
 -- ---- along one axis
@@ -92,52 +94,72 @@ difference-mul k a f =
 regroup : (c m x : ℤ) → (c *ℤ m) *ℤ x ≡ m *ℤ (c *ℤ x)
 regroup c m x = simp ring
 
--- one axis in front of a product of the others
-front : (k n u : ℕ) (g h : ℕ → ℤ) → k ≤ 8 → ((p : ℕ) → pos (256 ^ n) *ℤ g p ≡ pos (2 ^ u) *ℤ h p)
-    → pos (256 ^ suc n) *ℤ differenceRule k g ≡ pos (2 ^ (unit k + u)) *ℤ trapezoidalDifference k h
-front k n u g h b e =
-    ap (λ x. pos x *ℤ differenceRule k g) (pow-succ' 256 n)
-    ∙ regroup (pos 256) (pos (256 ^ n)) (differenceRule k g)
-    ∙ ap (λ x. pos (256 ^ n) *ℤ x) (axis k b g)
-    ∙ *ℤ-left (pos (256 ^ n)) (pos (2 ^ unit k)) (trapezoidalDifference k g)
-    ∙ ap (λ x. pos (2 ^ unit k) *ℤ x)
-    (sym (difference-mul k (pos (256 ^ n)) g) ∙ ap (trapezoidalDifference k) (fun-ext e) ∙ difference-mul k (pos (2 ^ u)) h)
-    ∙ sym (*ℤ-assoc (pos (2 ^ unit k)) (pos (2 ^ u)) (trapezoidalDifference k h))
-    ∙ ap (λ x. pos x *ℤ trapezoidalDifference k h) (sym (pow-add 2 (unit k) u))
+-- for rules Q of the axes, in the units of their levels, that are rules T divided by 256
+module _ (Q T : ℕ → (ℕ → ℤ) → ℤ) (tie : (k : ℕ) → k ≤ 8 → (f : ℕ → ℤ) → pos 256 *ℤ Q k f ≡ pos (2 ^ unit k) *ℤ T k f)
+    (mul : (k : ℕ) (a : ℤ) (f : ℕ → ℤ) → T k (λ p. a *ℤ f p) ≡ a *ℤ T k f) where
+  -- one axis in front of a product of the others
+  front : (k n u : ℕ) (g h : ℕ → ℤ) → k ≤ 8 → ((p : ℕ) → pos (256 ^ n) *ℤ g p ≡ pos (2 ^ u) *ℤ h p)
+      → pos (256 ^ suc n) *ℤ Q k g ≡ pos (2 ^ (unit k + u)) *ℤ T k h
+  front k n u g h b e =
+      ap (λ x. pos x *ℤ Q k g) (pow-succ' 256 n)
+      ∙ regroup (pos 256) (pos (256 ^ n)) (Q k g)
+      ∙ ap (λ x. pos (256 ^ n) *ℤ x) (tie k b g)
+      ∙ *ℤ-left (pos (256 ^ n)) (pos (2 ^ unit k)) (T k g)
+      ∙ ap (λ x. pos (2 ^ unit k) *ℤ x) (sym (mul k (pos (256 ^ n)) g) ∙ ap (T k) (fun-ext e) ∙ mul k (pos (2 ^ u)) h)
+      ∙ sym (*ℤ-assoc (pos (2 ^ unit k)) (pos (2 ^ u)) (T k h))
+      ∙ ap (λ x. pos x *ℤ T k h) (sym (pow-add 2 (unit k) u))
 
-product-is : (k : List ℕ) (f : List ℕ → ℤ) → Levels 8 k
-    → pos (256 ^ length k) *ℤ tensorProduct differenceRule k f ≡ pos (2 ^ units k) *ℤ tensorProduct trapezoidalDifference k f
-unfolding tensorProduct units
-product-is [] f w = refl
-product-is (k ∷ ks) f w =
-    front k (length ks) (units ks) (λ p. tensorProduct differenceRule ks (λ ps. f (p ∷ ps)))
-    (λ p. tensorProduct trapezoidalDifference ks (λ ps. f (p ∷ ps))) (w .1) (λ p. product-is ks (λ ps. f (p ∷ ps)) (w .2))
+  product-is : (k : List ℕ) (f : List ℕ → ℤ) → Levels 8 k → pos (256 ^ length k) *ℤ tensorProduct Q k f ≡ pos (2 ^ units k) *ℤ tensorProduct T k f
+  unfolding tensorProduct units
+  product-is [] f w = refl
+  product-is (k ∷ ks) f w =
+      front k (length ks) (units ks) (λ p. tensorProduct Q ks (λ ps. f (p ∷ ps))) (λ p. tensorProduct T ks (λ ps. f (p ∷ ps))) (w .1)
+      (λ p. product-is ks (λ ps. f (p ∷ ps)) (w .2))
 
--- ---- the scaled difference
+  -- at the scale 2^20
+  scaled-is : (k : List ℕ) (f : List ℕ → ℤ) → length k ≤ 8 → Within k
+      → pos (256 ^ length k) *ℤ (pos (2 ^ (20 - units k)) *ℤ tensorProduct Q k f) ≡ pos (2 ^ 20) *ℤ tensorProduct T k f
+  scaled-is k f l w =
+      *ℤ-left (pos (256 ^ length k)) s (tensorProduct Q k f)
+      ∙ ap (λ x. s *ℤ x) (product-is k f (within-levels k w))
+      ∙ sym (*ℤ-assoc s (pos (2 ^ units k)) (tensorProduct T k f))
+      ∙ ap (λ x. pos x *ℤ tensorProduct T k f) (filled (units k) (omega (arith, units-le k, w .small)))
+    where
+      s : ℤ
+      s = pos (2 ^ (20 - units k))
 
-pub sampled-is : (k : List ℕ) (f : List ℕ → ℤ) → length k ≤ 8 → Within k
+-- ---- the scaled difference and the full tensor rule
+
+levels-fit : (k : List ℕ) → Within k → levelsWithin k ≡ true
+levels-fit k w = levels-back k (within-levels k w)
+
+sampled-is : (k : List ℕ) (f : List ℕ → ℤ) → length k ≤ 8 → Within k
     → pos (256 ^ length k) *ℤ scaledDifference k (sampled f) ≡ pos (2 ^ 20) *ℤ tensorProduct trapezoidalDifference k f
 unfolding scaledDifference
 sampled-is k f l w =
-    ap (λ x. c *ℤ (s *ℤ x)) (difference-sampled k f (levels-back k (within-levels k w)))
-    ∙ *ℤ-left c s (tensorProduct differenceRule k f)
-    ∙ ap (λ x. s *ℤ x) (product-is k f (within-levels k w))
-    ∙ sym (*ℤ-assoc s (pos (2 ^ units k)) (tensorProduct trapezoidalDifference k f))
-    ∙ ap (λ x. pos x *ℤ tensorProduct trapezoidalDifference k f) (filled (units k) (omega (arith, units-le k, w .small)))
-  where
-    c : ℤ
-    c = pos (256 ^ length k)
+    ap (λ x. pos (256 ^ length k) *ℤ (pos (2 ^ (20 - units k)) *ℤ x)) (difference-sampled k f (levels-fit k w))
+    ∙ scaled-is differenceRule trapezoidalDifference axis difference-mul k f l w
 
-    s : ℤ
-    s = pos (2 ^ (20 - units k))
+tensor-sampled-is : (k : List ℕ) (f : List ℕ → ℤ) → length k ≤ 8 → Within k
+    → pos (256 ^ length k) *ℤ tensorRule k (sampled f) ≡ pos (2 ^ 20) *ℤ tensorProduct trapezoidalRule k f
+unfolding tensorRule
+tensor-sampled-is k f l w =
+    ap (λ x. pos (256 ^ length k) *ℤ (pos (2 ^ (20 - units k)) *ℤ x)) (tensor-sampled k f (levels-fit k w))
+    ∙ scaled-is wholeRule trapezoidalRule whole-is rule-mul k f l w
 
 pub difference : (k : List ℕ) (R : Readings) (f : List ℕ → ℤ) → length k ≤ 8 → Within k → Agree k R (sampled f)
     → pos (256 ^ length k) *ℤ scaledDifference k R ≡ pos (2 ^ 20) *ℤ tensorProduct trapezoidalDifference k f
 difference k R f l w a = ap (λ x. pos (256 ^ length k) *ℤ x) (difference-only k R (sampled f) a) ∙ sampled-is k f l w
 
+pub tensor : (k : List ℕ) (R : Readings) (f : List ℕ → ℤ) → length k ≤ 8 → Within k → Agree k R (sampled f)
+    → pos (256 ^ length k) *ℤ tensorRule k R ≡ pos (2 ^ 20) *ℤ tensorProduct trapezoidalRule k f
+tensor k R f l w a = ap (λ x. pos (256 ^ length k) *ℤ x) (tensor-only k R (sampled f) a) ∙ tensor-sampled-is k f l w
+
 pub eight-axes : (k : List ℕ) (R : Readings) (f : List ℕ → ℤ) → length k ≡ 8 → Within k → Agree k R (sampled f)
     → pos (256 ^ 8) *ℤ scaledDifference k R ≡ pos (2 ^ 20) *ℤ tensorProduct trapezoidalDifference k f
 eight-axes k R f e w a = ap (λ n. pos (256 ^ n) *ℤ scaledDifference k R) {x = 8} (sym e) ∙ difference k R f (omega arith) w a
+
+-- ---- over the job's axes
 
 -- the readings with level 1 appended are those of the integrand with the axes behind at the centre
 agree-padded : (k : List ℕ) (m : ℕ) (R : Readings) (f : List ℕ → ℤ) → Agree (pad m k) R (sampled f) → Agree k (padded m R) (sampled (centred m f))
@@ -145,18 +167,29 @@ unfolding padded sampled centred
 agree-padded k m R f a l n h q =
     a (pad m l) n (higher-same l k m h) (omega (arith, size-same l m)) ∙ ap f (point-same l m n)
 
-padded-is : (d m : ℕ) (k : List ℕ) (R : Readings) (f : List ℕ → ℤ) → length k ≡ d → d ≤ 8 → Within k → Agree (pad m k) R (sampled f)
-    → pos (256 ^ d) *ℤ scaledDifference (pad m k) R ≡ pos (2 ^ 20) *ℤ tensorProduct trapezoidalDifference k (centred m f)
-padded-is d m k R f e b w a =
-    ap₂ (λ n x. pos (256 ^ n) *ℤ x) (sym e) (difference-same k m R)
-    ∙ difference k (padded m R) (centred m f) (omega arith) w (agree-padded k m R f a)
+-- for whatever S of an index and readings is so tied, and is the same with level 1 appended
+module _ (S : List ℕ → Readings → ℤ) (T : ℕ → (ℕ → ℤ) → ℤ) (same : (k : List ℕ) (m : ℕ) (R : Readings) → S (pad m k) R ≡ S k (padded m R))
+    (tie : (k : List ℕ) (R : Readings) (f : List ℕ → ℤ) → length k ≤ 8 → Within k → Agree k R (sampled f)
+    → pos (256 ^ length k) *ℤ S k R ≡ pos (2 ^ 20) *ℤ tensorProduct T k f) where
+  padded-is : (d m : ℕ) (k : List ℕ) (R : Readings) (f : List ℕ → ℤ) → length k ≡ d → d ≤ 8 → Within k → Agree (pad m k) R (sampled f)
+      → pos (256 ^ d) *ℤ S (pad m k) R ≡ pos (2 ^ 20) *ℤ tensorProduct T k (centred m f)
+  padded-is d m k R f e b w a =
+      ap₂ (λ n x. pos (256 ^ n) *ℤ x) (sym e) (same k m R) ∙ tie k (padded m R) (centred m f) (omega arith) w (agree-padded k m R f a)
+
+  on-axes : (d : ℕ) (k : List ℕ) (R : Readings) (f : List ℕ → ℤ) → d ≤ 8 → Index d k → Agree k R (sampled f)
+      → pos (256 ^ d) *ℤ S k R ≡ pos (2 ^ 20) *ℤ tensorProduct T (take d k) (centred (8 - d) f)
+  on-axes d k R f b v a = step (job-levels d k b v)
+    where
+      step : (k ≡ pad (8 - d) (take d k)) × (length (take d k) ≡ d) × Within (take d k)
+          → pos (256 ^ d) *ℤ S k R ≡ pos (2 ^ 20) *ℤ tensorProduct T (take d k) (centred (8 - d) f)
+      step (e, l, w) =
+          ap (λ (x : List ℕ). pos (256 ^ d) *ℤ S x R) e
+          ∙ padded-is d (8 - d) (take d k) R f l b w (subst (λ (x : List ℕ). Agree x R (sampled f)) e a)
 
 pub job-axes : (d : ℕ) (k : List ℕ) (R : Readings) (f : List ℕ → ℤ) → d ≤ 8 → Index d k → Agree k R (sampled f)
     → pos (256 ^ d) *ℤ scaledDifference k R ≡ pos (2 ^ 20) *ℤ tensorProduct trapezoidalDifference (take d k) (centred (8 - d) f)
-job-axes d k R f b v a = step (job-levels d k b v)
-  where
-    step : (k ≡ pad (8 - d) (take d k)) × (length (take d k) ≡ d) × Within (take d k)
-        → pos (256 ^ d) *ℤ scaledDifference k R ≡ pos (2 ^ 20) *ℤ tensorProduct trapezoidalDifference (take d k) (centred (8 - d) f)
-    step (e, l, w) =
-        ap (λ (x : List ℕ). pos (256 ^ d) *ℤ scaledDifference x R) e
-        ∙ padded-is d (8 - d) (take d k) R f l b w (subst (λ (x : List ℕ). Agree x R (sampled f)) e a)
+job-axes = on-axes scaledDifference trapezoidalDifference difference-same difference
+
+pub tensor-job-axes : (d : ℕ) (k : List ℕ) (R : Readings) (f : List ℕ → ℤ) → d ≤ 8 → Index d k → Agree k R (sampled f)
+    → pos (256 ^ d) *ℤ tensorRule k R ≡ pos (2 ^ 20) *ℤ tensorProduct trapezoidalRule (take d k) (centred (8 - d) f)
+tensor-job-axes = on-axes tensorRule trapezoidalRule tensor-same tensor

@@ -3,7 +3,8 @@
 -- How the units go. On the interval from −1 to 1 the source has Q₁ f = 2 f(0), Q_k f the trapezoidal rule over the points of level k from 2
 -- up, Q₀ = 0 and Δ_k = Q_k − Q_{k−1}. `trapezoidal` gives 128 times its rule, so below T_k = 128 Q_k and D_k = 128 Δ_k, and over d axes
 -- (D ⊗ … ⊗ D) f = 128^d (Δ ⊗ … ⊗ Δ) f. Hence 256^d times the scaled difference is 2^20 (D ⊗ … ⊗ D) f exactly if the scaled difference is 2^20
--- times the source's (Δ ⊗ … ⊗ Δ) f, divided by 2^d, which is the volume of the cube.
+-- times the source's (Δ ⊗ … ⊗ Δ) f, divided by 2^d, which is the volume of the cube. The full tensor rule stands likewise to
+-- (T ⊗ … ⊗ T) f = 128^d (Q ⊗ … ⊗ Q) f.
 use mathlib.Core.Path.{_≡_}
 use mathlib.Core.List.{List}
 use Prim.Native.Nat.{ℕ, zero, suc, _-_, _^_, _≤_}
@@ -13,6 +14,7 @@ use Rattle.rule.specs.Points.{points}
 use Rattle.rule.specs.Rules.{unit, differenceRule, trapezoidal}
 use Rattle.grid.specs.Index.{Within, Index}
 use Rattle.grid.specs.Difference.{Readings, scaledDifference}
+use Rattle.grid.specs.Tensor.{tensorRule}
 use Rattle.grid.specs.Terms.{Agree, tensorProduct, sampled, centred}
 
 -- T_k f. Level 0 has no point. Level 1: the interval's length, which is 256 in units of 1/128, times the value at the centre. From level 2 up
@@ -40,3 +42,9 @@ pub record TrapezoidalFacts : Type 0 where
   -- and over the job's d axes, where the axes beyond stand at the centre
   pub job-axes : (d : ℕ) (k : List ℕ) (R : Readings) (f : List ℕ → ℤ) → d ≤ 8 → Index d k → Agree k R (sampled f)
       → pos (256 ^ d) *ℤ scaledDifference k R ≡ pos (2 ^ 20) *ℤ tensorProduct trapezoidalDifference (take d k) (centred (8 - d) f)
+  -- the full tensor rule of an index of d levels: 256^d times it is 2^20 times (T ⊗ … ⊗ T) f
+  pub tensor : (k : List ℕ) (R : Readings) (f : List ℕ → ℤ) → length k ≤ 8 → Within k → Agree k R (sampled f)
+      → pos (256 ^ length k) *ℤ tensorRule k R ≡ pos (2 ^ 20) *ℤ tensorProduct trapezoidalRule k f
+  -- and over the job's d axes
+  pub tensor-job-axes : (d : ℕ) (k : List ℕ) (R : Readings) (f : List ℕ → ℤ) → d ≤ 8 → Index d k → Agree k R (sampled f)
+      → pos (256 ^ d) *ℤ tensorRule k R ≡ pos (2 ^ 20) *ℤ tensorProduct trapezoidalRule (take d k) (centred (8 - d) f)
