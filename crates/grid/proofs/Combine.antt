@@ -30,7 +30,7 @@ use Rattle.grid.proofs.Scales.{scaled, nabla-rule, rule-low, big, big-p
 -- ---- for any function T of the index that is 0 where a level is 0
 
 -- downward closed, said of the list that a level stands in
-Closed : List (List ℕ) → Type 0
+abbrev pub Closed : List (List ℕ) → Type 0
 Closed J = (p : List ℕ) (m : ℕ) (l : List ℕ) → List·Memᴰ (p ++ (suc (suc m) ∷ l)) J → List·Memᴰ (p ++ (suc m ∷ l)) J
 
 -- the adjoint difference vanishes above a zero
@@ -48,7 +48,6 @@ module _ (n d : ℕ) (J : List (List ℕ)) (T : List ℕ → ℤ)
     (good : (j : List ℕ) → List·Memᴰ j J → (length j ≡ d) × Levels n j)
     (unique : NoDup J) (closed : Closed J) (low : (p l : List ℕ) → T (p ++ (0 ∷ l)) ≡ pos 0) where
   characteristic-closed : (p : List ℕ) (m : ℕ) (l : List ℕ) → characteristic J (p ++ (suc m ∷ l)) ≡ pos 0 → characteristic J (p ++ (suc (suc m) ∷ l)) ≡ pos 0
-  unfolding Closed
   characteristic-closed p m l z = step (member J (p ++ (suc (suc m) ∷ l)))
     where
       step : List·Memᴰ (p ++ (suc (suc m) ∷ l)) J ⊎ (List·Memᴰ (p ++ (suc (suc m) ∷ l)) J → ⊥) → characteristic J (p ++ (suc (suc m) ∷ l)) ≡ pos 0
@@ -134,6 +133,24 @@ at-root (x ∷ I) m u good = step (List·Memᴰ·cases-cons m) (λ q. at-root I 
         (no-root I (λ q. u .0 (Memᴰ·cast (sym e) q)) (λ j r. good j (List·Memᴰ·tail r)))
     step (inr q) ih = ap₂ _+ℤ_ (not-root x (good x (List·Memᴰ·head refl)) (λ e. u .0 (Memᴰ·cast e q))) (ih q)
 
+-- ---- the differences and the full tensor rules, for any number of axes
+
+module _ (n d : ℕ) (low : n ≤ 20) (J : List (List ℕ)) (good : (j : List ℕ) → List·Memᴰ j J → (length j ≡ suc d) × Levels n j)
+    (unique : NoDup J) (closed : Closed J) (small : (k : List ℕ) → List·Memᴰ k J → units k ≤ 20) where
+  pub identity-on : (R : Readings) → scaledMean J R ≡ crossTotal J R
+  unfolding scaledMean crossTotal
+  identity-on R =
+      mul-cancel (big d) (sumOf J (λ k. scaledDifference k R)) (sumOf J (λ k. coefficient J k *ℤ tensorRule k R)) (big-pos d)
+      (sym (sumOf-mul J (pos (big d)) (λ k. scaledDifference k R))
+      ∙ sumOf-cong-in J (λ k. pos (big d) *ℤ scaledDifference k R) (λ k. nabla k (λ m. rule (scaled wholeWeight) m (blockSum R)))
+      (λ k m. sym (nabla-rule n low k (blockSum R) (good k m .1) ∙ rule-difference R n d low k (at-most n k (good k m .1)) (good k m .0) (small k m)))
+      ∙ combination n (suc d) J (λ m. rule (scaled wholeWeight) m (blockSum R)) good unique closed (λ p l. rule-low (scaled wholeWeight) p l (blockSum R))
+      ∙ sumOf-cong-in J (λ k. coefficient J k *ℤ rule (scaled wholeWeight) k (blockSum R)) (λ k. pos (big d) *ℤ (coefficient J k *ℤ tensorRule k R))
+      (λ k m.
+      ap (λ x. coefficient J k *ℤ x) (rule-tensor R n d low k (at-most n k (good k m .1)) (good k m .0) (small k m))
+      ∙ *ℤ-left (coefficient J k) (pos (big d)) (tensorRule k R))
+      ∙ sumOf-mul J (pos (big d)) (λ k. coefficient J k *ℤ tensorRule k R))
+
 -- ---- a set of indices as the statement has it
 
 module _ (J : List (List ℕ)) (set-is : DownSet J) where
@@ -142,7 +159,7 @@ module _ (J : List (List ℕ)) (set-is : DownSet J) where
   indices j m = (set-is .eight j m, within-levels j (set-is .ceilings j m))
 
   closed : Closed J
-  unfolding Closed backward
+  unfolding backward
   closed p m l q =
       subst (λ x. List·Memᴰ x J) (lowered p m l)
       (set-is .closed (p ++ (suc (suc m) ∷ l)) (length p) q
@@ -167,18 +184,6 @@ module _ (J : List (List ℕ)) (set-is : DownSet J) where
       ∙ at-root J m (set-is .once) indices
 
   pub identity : (R : Readings) → scaledMean J R ≡ crossTotal J R
-  unfolding scaledMean crossTotal Good
+  unfolding Good
   identity R =
-      mul-cancel (big 7) (sumOf J (λ k. scaledDifference k R)) (sumOf J (λ k. coefficient J k *ℤ tensorRule k R)) (big-pos 7)
-      (sym (sumOf-mul J (pos (big 7)) (λ k. scaledDifference k R))
-      ∙ sumOf-cong-in J (λ k. pos (big 7) *ℤ scaledDifference k R) (λ k. nabla k (λ m. rule (scaled wholeWeight) m (blockSum R)))
-      (λ k m. sym (nabla-rule 8 (omega arith) k (blockSum R) (indices k m .1) ∙ rule-difference R 8 7 (omega arith) k (at-most 8 k (indices k m .1)) (indices k m .0) (small k m)))
-      ∙ combination 8 8 J (λ m. rule (scaled wholeWeight) m (blockSum R)) indices (set-is .once) closed (λ p l. rule-low (scaled wholeWeight) p l (blockSum R))
-      ∙ sumOf-cong-in J (λ k. coefficient J k *ℤ rule (scaled wholeWeight) k (blockSum R)) (λ k. pos (big 7) *ℤ (coefficient J k *ℤ tensorRule k R))
-      (λ k m.
-      ap (λ x. coefficient J k *ℤ x) (rule-tensor R 8 7 (omega arith) k (at-most 8 k (indices k m .1)) (indices k m .0) (small k m))
-      ∙ *ℤ-left (coefficient J k) (pos (big 7)) (tensorRule k R))
-      ∙ sumOf-mul J (pos (big 7)) (λ k. coefficient J k *ℤ tensorRule k R))
-    where
-      small : (k : List ℕ) → List·Memᴰ k J → units k ≤ 20
-      small k m = units-small k (set-is .eight k m) (set-is .ceilings k m)
+      identity-on 8 7 (omega arith) J indices (set-is .once) closed (λ k m. units-small k (set-is .eight k m) (set-is .ceilings k m)) R

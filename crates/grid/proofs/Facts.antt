@@ -127,4 +127,7 @@ smolyak-facts =
       coefficient-is = λ d q J k low more s m. Smolyak.coefficient-is d q J low s k m;
       coefficient-zero = λ d q J k low more s m few. Smolyak.coefficient-zero d q J low s k m more few;
       within-ceilings = λ d q J k few s m. Smolyak.within-ceilings d q J s k m few;
+      sum = λ d q J R low more s. Smolyak.sum d q J R low s;
+      sum-from = λ d q J R low more s. Smolyak.sum-from d q J R low s more;
+      sum-of-differences = λ d q J R low few s. Smolyak.sum-of-differences d q J R low few s;
     }

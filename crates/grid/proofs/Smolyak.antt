@@ -1,27 +1,35 @@
--- Over the simplex of document 004 the combination coefficient is (−1)^(q−|k|) · C(d−1, q−|k|).
+-- Over the simplex of document 004 the combination coefficient is (−1)^(q−|k|) · C(d−1, q−|k|), and the cross total is its formula of A(q, d).
 -- The idea: whether a raised index is in the simplex depends on the sum of its levels alone, so the coefficient is the d-th difference of the
 -- step at q, one difference for each axis: the first is 1 at q alone, and each further one is a row of Pascal's triangle with signs.
 -- Assumes nothing.
 use mathlib.Core.Path.{_≡_, refl, sym, ap, ap₂, _∙_}
 use mathlib.Core.Logic.{_⊎_, inl, inr, ⊎-elim}
 use mathlib.Core.Bool.{Bool, true, false, cond}
-use mathlib.Core.List.{List, [], _∷_, List·Memᴰ, List·Memᴰ·head, List·Memᴰ·tail, List·Memᴰ·not-nil, List·Memᴰ·cases-cons}
+use mathlib.Core.List.{List, [], _∷_, _++_, List·Memᴰ, List·Memᴰ·head, List·Memᴰ·tail, List·Memᴰ·not-nil, List·Memᴰ·cases-cons}
 use Prim.Native.Nat.{ℕ, zero, suc, _+_, _-_, _<_, _≤_}
-use native.Mathlib.Nat.{add-suc, suc-add}
+use native.Mathlib.Nat.{add-suc, suc-add, le-trans}
 use native.Mathlib.Decide.{decLe}
 use native.Mathlib.Omega.{arith}
 use borrow.Author.Tests.{leb-true, leb-false, le-leb, lt-leb}
 use lib.Dec.{leb}
-use lib.ListN.{length, replicate, length-replicate, getD-replicate}
-use lib.IntN.{ℤ, pos, negℤ, _+ℤ_, _-ℤ_, _*ℤ_, *ℤ-zero}
+use lib.ListN.{length, replicate, length-append, length-replicate, getD-replicate}
+use lib.IntN.{ℤ, pos, negℤ, _+ℤ_, _-ℤ_, _*ℤ_, +ℤ-idl, *ℤ-zero, zero-*ℤ}
+use Rattle.sums.specs.Sums.{sumOf}
 use Rattle.sums.proofs.Ring.{ring}
+use Rattle.sums.proofs.Sums.{sumOf-cong-in}
+use Rattle.rule.specs.Rules.{unit}
 use Rattle.grid.specs.Index.{level, excess, Within, NowhereHigher, lower}
+use Rattle.grid.specs.Difference.{Readings, units, scaledMean}
 use Rattle.grid.specs.Coefficient.{coefficient}
+use Rattle.grid.specs.Tensor.{tensorRule}
+use Rattle.grid.specs.Cross.{crossTotal}
 use Rattle.grid.specs.Terms.{NoDup}
-use Rattle.grid.specs.Smolyak.{levelSum, binomial, minusOneTo, Simplex, upToSum, simplexOf}
+use Rattle.grid.specs.Smolyak.{levelSum, binomial, minusOneTo, Simplex, upToSum, simplexOf, fromSum}
+use Rattle.grid.proofs.Levels.{within-levels}
 use Rattle.grid.proofs.Lower.{lower-sure, lower-back, lower-once}
 use Rattle.grid.proofs.Parts.{delta}
 use Rattle.grid.proofs.Members.{characteristic, characteristic-in, characteristic-out, coefficient-delta}
+use Rattle.grid.proofs.Combine.{Closed, identity-on}
 
 -- ---- levels from 1 up
 
@@ -125,6 +133,9 @@ steps-in (suc n) (suc j) s =
 
 -- ---- the simplex
 
+one-less : (d : ℕ) → 1 ≤ d → d ≡ suc (d - 1)
+one-less d h = omega arith
+
 module _ (d q : ℕ) (J : List (List ℕ)) (some : 1 ≤ d) (whole : Simplex d q J) where
   characteristic-is : (l : List ℕ) → length l ≡ d → Low l → characteristic J l ≡ upTo q (levelSum l)
   characteristic-is l e w = step (decLe (levelSum l) q)
@@ -145,9 +156,6 @@ module _ (d q : ℕ) (J : List (List ℕ)) (some : 1 ≤ d) (whole : Simplex d q
       ∙ ap₂ (λ n s. steps n (upTo s) (levelSum k)) (whole .axes k m ∙ one-less d some) (rest (levelSum k) q (whole .small k m))
       ∙ steps-in (d - 1) (q - levelSum k) (levelSum k)
     where
-      one-less : (d : ℕ) → 1 ≤ d → d ≡ suc (d - 1)
-      one-less d h = omega arith
-
       rest : (s q : ℕ) → s ≤ q → q ≡ s + (q - s)
       rest s q h = omega arith
 
@@ -158,18 +166,97 @@ module _ (d q : ℕ) (J : List (List ℕ)) (some : 1 ≤ d) (whole : Simplex d q
       ∙ *ℤ-zero (minusOneTo (q - levelSum k))
 
 module _ (d q : ℕ) (J : List (List ℕ)) (whole : Simplex d q J) where
+  small-excess : (k : List ℕ) → List·Memᴰ k J → q ≤ d + 7 → excess k ≤ 7
+  small-excess k m h =
+      omega (arith, sum-excess k (low-from k (λ a b. whole .low k a m (omega (arith, whole .axes k m)))), whole .axes k m, whole .small k m)
+
   pub within-ceilings : (k : List ℕ) → List·Memᴰ k J → q ≤ d + 7 → Within k
   within-ceilings k m h =
       record {
         low = λ a b. whole .low k a m (omega (arith, whole .axes k m));
-        high = λ a b. omega (arith, level-excess k a b, few);
-        small = omega (arith, few);
+        high = λ a b. omega (arith, level-excess k a b, small-excess k m h);
+        small = omega (arith, small-excess k m h);
       }
+
+-- ---- the formula of A(q, d)
+
+-- terms that are 0 may be left out
+sum-left-out : (s : ℕ) (J : List (List ℕ)) (f : List ℕ → ℤ) → ((k : List ℕ) → List·Memᴰ k J → levelSum k < s → f k ≡ pos 0) → sumOf J f ≡ sumOf (fromSum s J) f
+unfolding sumOf fromSum
+sum-left-out s [] f h = refl
+sum-left-out s (x ∷ J) f h = step (leb s (levelSum x)) refl (sum-left-out s J f (λ k m. h k (List·Memᴰ·tail m)))
+  where
+    step : (t : Bool) → leb s (levelSum x) ≡ t → sumOf J f ≡ sumOf (fromSum s J) f
+        → f x +ℤ sumOf J f ≡ sumOf (cond t (x ∷ fromSum s J) (fromSum s J)) f
+    step true e ih = ap (λ y. f x +ℤ y) ih
+    step false e ih =
+        ap₂ _+ℤ_ (h x (List·Memᴰ·head refl) (omega (arith, leb-false s (levelSum x) e))) ih ∙ +ℤ-idl (sumOf (fromSum s J) f)
+
+module _ (d q : ℕ) (J : List (List ℕ)) (R : Readings) (some : 1 ≤ d) (whole : Simplex d q J) where
+  -- a term of the source's formula
+  term : List ℕ → ℤ
+  term k = minusOneTo (q - levelSum k) *ℤ pos (binomial (d - 1) (q - levelSum k)) *ℤ tensorRule k R
+
+  term-is : (k : List ℕ) → List·Memᴰ k J → coefficient J k *ℤ tensorRule k R ≡ term k
+  unfolding term
+  term-is k m = ap (λ x. x *ℤ tensorRule k R) (coefficient-is d q J some whole k m)
+
+  pub sum : crossTotal J R ≡ sumOf J (λ k. minusOneTo (q - levelSum k) *ℤ pos (binomial (d - 1) (q - levelSum k)) *ℤ tensorRule k R)
+  unfolding crossTotal term
+  sum = sumOf-cong-in J (λ k. coefficient J k *ℤ tensorRule k R) term term-is
+
+  pub sum-from : d ≤ q
+      → crossTotal J R ≡ sumOf (fromSum (q - d + 1) J) (λ k. minusOneTo (q - levelSum k) *ℤ pos (binomial (d - 1) (q - levelSum k)) *ℤ tensorRule k R)
+  unfolding term
+  sum-from more = sum ∙ sum-left-out (q - d + 1) J term none
     where
-      few : excess k ≤ 7
-      few =
-          omega
-          (arith, sum-excess k (low-from k (λ a b. whole .low k a m (omega (arith, whole .axes k m)))), whole .axes k m, whole .small k m)
+      none : (k : List ℕ) → List·Memᴰ k J → levelSum k < q - d + 1 → term k ≡ pos 0
+      none k m h =
+          sym (term-is k m) ∙ ap (λ x. x *ℤ tensorRule k R) (coefficient-zero d q J some whole k m more h) ∙ zero-*ℤ (tensorRule k R)
+
+-- ---- and its definition, the sum of the differences
+
+-- each axis above level 1 has a part in the excess, so the units are at most twice that
+unit-twice : (x : ℕ) → unit x ≤ (x - 1) + (x - 1)
+unfolding unit
+unit-twice zero = omega arith
+unit-twice (suc zero) = omega arith
+unit-twice (suc (suc x)) = omega arith
+
+units-twice : (k : List ℕ) → units k ≤ excess k + excess k
+unfolding units excess
+units-twice [] = omega arith
+units-twice (x ∷ xs) = omega (arith, units-twice xs, unit-twice x)
+
+low-in : (p : List ℕ) (m : ℕ) (l : List ℕ) → Low (p ++ (suc (suc m) ∷ l)) → Low (p ++ (suc m ∷ l))
+low-in [] m l w = (omega arith, w .1)
+low-in (x ∷ p) m l w = (w .0, low-in p m l (w .1))
+
+sum-in : (p : List ℕ) (m : ℕ) (l : List ℕ) → levelSum (p ++ (suc m ∷ l)) ≤ levelSum (p ++ (suc (suc m) ∷ l))
+unfolding levelSum
+sum-in [] m l = omega arith
+sum-in (x ∷ p) m l = omega (arith, sum-in p m l)
+
+length-in : (p : List ℕ) (x y : ℕ) (l : List ℕ) → length (p ++ (x ∷ l)) ≡ length (p ++ (y ∷ l))
+length-in p x y l = length-append p (x ∷ l) ∙ sym (length-append p (y ∷ l))
+
+module _ (d q : ℕ) (J : List (List ℕ)) (R : Readings) (some : 1 ≤ d) (few : q ≤ d + 7) (whole : Simplex d q J) where
+  closed : Closed J
+  closed p m l n =
+      whole .all (p ++ (suc m ∷ l)) e
+      (λ a h. low-at (p ++ (suc m ∷ l)) (low-in p m l (levels-low d q J some whole (p ++ (suc (suc m) ∷ l)) n)) a (omega (arith, e)))
+      (le-trans (sum-in p m l) (whole .small (p ++ (suc (suc m) ∷ l)) n))
+    where
+      e : length (p ++ (suc m ∷ l)) ≡ d
+      e = length-in p (suc m) (suc (suc m)) l ∙ whole .axes (p ++ (suc (suc m) ∷ l)) n
+
+  within : (k : List ℕ) → List·Memᴰ k J → Within k
+  within k m = within-ceilings d q J whole k m few
+
+  pub sum-of-differences : scaledMean J R ≡ crossTotal J R
+  sum-of-differences =
+      identity-on 8 (d - 1) (omega arith) J (λ k m. (whole .axes k m ∙ one-less d some, within-levels k (within k m))) (whole .once) closed
+      (λ k m. omega (arith, units-twice k, small-excess d q J whole k m few)) R
 
 -- ---- there is a simplex for every d and q
 

@@ -1,5 +1,5 @@
--- The combination coefficients beside document 004, section 2, "Smolyak's construction": over its simplex they are the source's, so that
--- they widen it to any delivered set.
+-- The combination coefficients beside document 004, section 2, "Smolyak's construction": over its simplex they and the cross total are the
+-- source's, so that they widen it to any delivered set.
 use mathlib.Core.Path.{_≡_}
 use mathlib.Core.Bool.{cond}
 use mathlib.Core.List.{List, [], _∷_, List·Memᴰ}
@@ -7,8 +7,12 @@ use Prim.Native.Nat.{ℕ, zero, suc, _+_, _-_, _<_, _≤_}
 use lib.Dec.{leb}
 use lib.IntN.{ℤ, pos, negℤ, _*ℤ_}
 use lib.ListN.{length, replicate}
+use Rattle.sums.specs.Sums.{sumOf}
 use Rattle.grid.specs.Index.{level, Within, lower}
+use Rattle.grid.specs.Difference.{Readings, scaledMean}
 use Rattle.grid.specs.Coefficient.{coefficient}
+use Rattle.grid.specs.Tensor.{tensorRule}
+use Rattle.grid.specs.Cross.{crossTotal}
 use Rattle.grid.specs.Terms.{NoDup}
 
 -- |k|, the sum of the levels.
@@ -45,6 +49,11 @@ upToSum q (k ∷ ks) = cond (leb (levelSum k) q) (k ∷ upToSum q ks) (upToSum q
 unfoldable pub simplexOf : ℕ → ℕ → List (List ℕ)
 simplexOf d q = upToSum q (lower (replicate d q))
 
+-- Those of a list whose sum is at least s.
+unfoldable pub fromSum : ℕ → List (List ℕ) → List (List ℕ)
+fromSum s [] = []
+fromSum s (k ∷ ks) = cond (leb s (levelSum k)) (k ∷ fromSum s ks) (fromSum s ks)
+
 -- With d axes and q from d up, as the source has it. The subsets are of the d axes; with level 1 appended the coefficients are the same
 -- (`LevelOneFacts.coefficient-same`).
 pub record SmolyakFacts : Type 0 where
@@ -58,3 +67,12 @@ pub record SmolyakFacts : Type 0 where
       → levelSum k < q - d + 1 → coefficient J k ≡ pos 0
   -- up to an excess of 7, which is q − d, all of J is within the ceilings; from 8 on the list with a level of 9 is not
   pub within-ceilings : (d q : ℕ) (J : List (List ℕ)) (k : List ℕ) → q ≤ d + 7 → Simplex d q J → List·Memᴰ k J → Within k
+  -- the cross total is the source's formula of A(q, d), over all of J, with the full tensor rule of k in place of U^{k1} ⊗ … ⊗ U^{kd}; within
+  -- the ceilings they are the same up to the units (`TrapezoidalFacts.tensor`)
+  pub sum : (d q : ℕ) (J : List (List ℕ)) (R : Readings) → 1 ≤ d → d ≤ q → Simplex d q J
+      → crossTotal J R ≡ sumOf J (λ k. minusOneTo (q - levelSum k) *ℤ pos (binomial (d - 1) (q - levelSum k)) *ℤ tensorRule k R)
+  -- and over q − d + 1 ≤ |k| ≤ q alone, as the source writes it, since the others contribute 0
+  pub sum-from : (d q : ℕ) (J : List (List ℕ)) (R : Readings) → 1 ≤ d → d ≤ q → Simplex d q J
+      → crossTotal J R ≡ sumOf (fromSum (q - d + 1) J) (λ k. minusOneTo (q - levelSum k) *ℤ pos (binomial (d - 1) (q - levelSum k)) *ℤ tensorRule k R)
+  -- A(q, d) is defined by the source's (1), the sum of the differences over J; up to an excess of 7 that is the cross total
+  pub sum-of-differences : (d q : ℕ) (J : List (List ℕ)) (R : Readings) → 1 ≤ d → q ≤ d + 7 → Simplex d q J → scaledMean J R ≡ crossTotal J R
