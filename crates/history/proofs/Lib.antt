@@ -15,6 +15,7 @@ pub mod Excluded
 pub mod Spent
 pub mod Answered
 pub mod Simulation
+pub mod TrapezoidalMean
 pub mod Published
 pub mod Moments
 pub mod WellFormed

@@ -39,6 +39,7 @@ use Rattle.history.proofs.Demand.{third-demand, log-there, state-fine}
 use Rattle.history.proofs.Accepts.{supply-answer}
 use Rattle.history.proofs.Runs.{AfterTurns, after-turns, start-clear, start-step}
 use Rattle.history.proofs.Simulation.{follows-at}
+use Rattle.history.proofs.TrapezoidalMean.{trapezoidal-difference, trapezoidal-mean, trapezoidal-combination}
 use Rattle.history.proofs.Answered.{AllTaken, one-taken, both-taken, turn-taken}
 
 -- ---- the mean after every list
@@ -49,6 +50,9 @@ mean-follows m f =
       difference = λ P r k n. sum-facts .difference m P (f .sound) r k n;
       sum = λ P r. sym (mean-facts .cross m (f .sound)) ∙ sum-facts .sum m P (f .sound) r;
       some = sum-facts .some m (f .sound);
+      trapezoidal-difference = trapezoidal-difference m (f .sound);
+      trapezoidal-mean = trapezoidal-mean m (f .sound);
+      trapezoidal-combination = trapezoidal-combination m (f .sound);
     }
 
 pub means-follow : MeansFollow

@@ -1,16 +1,20 @@
 -- The second demand: the calls follow the published algorithm, Fig. 1 of the source (crate `published`, specs/Figure.antt). That each single
 -- step is the rule's is in `CallFacts` (crate `calls`) and `StepFacts` (crate `machine`), that a turn is Fig. 1's in `PublishedFacts`, that
--- differences are the trapezoidal rule's in `SumFacts` (crate `published`), `DifferenceFacts` (crate `grid`) and `RuleFacts` (crate `rule`).
+-- the mean is Fig. 1's sum in `SumFacts` (crate `published`), that differences and full tensor rules are the trapezoidal rule's in
+-- `TrapezoidalFacts` (crate `grid`) and `RuleFacts` (crate `rule`).
 use mathlib.Core.Path.{_≡_}
 use mathlib.Core.Logic.{_⊎_}
 use mathlib.Core.Bool.{true}
 use mathlib.Core.List.{List, [], _∷_, _++_, map, List·Memᴰ}
-use Prim.Native.Nat.{ℕ, zero, suc, _+_, _*_, _<_, _≤_}
-use lib.IntN.{_+ℤ_}
+use Prim.Native.Nat.{ℕ, zero, suc, _+_, _*_, _-_, _^_, _<_, _≤_}
+use lib.IntN.{pos, _+ℤ_, _*ℤ_}
+use lib.ListN.{take}
 use Rattle.sums.specs.Sums.{sumOf}
 use Rattle.grid.specs.Block.{block}
-use Rattle.grid.specs.Terms.{NoDup}
+use Rattle.grid.specs.Terms.{NoDup, tensorProduct, centred}
 use Rattle.grid.specs.Difference.{scaledDifference}
+use Rattle.grid.specs.Coefficient.{coefficient}
+use Rattle.grid.specs.Trapezoidal.{trapezoidalRule, trapezoidalDifference}
 use Rattle.area.specs.declared.Settings.{Settings}
 use Rattle.area.specs.Settings.{SettingsFit, leastStore}
 use Rattle.area.specs.Log.{Log}
@@ -38,11 +42,26 @@ use Rattle.history.specs.Found.{Found}
 
 -- After every list of the third demand, and whatever integrand the delivered readings come from, each difference is Fig. 1's increment, and
 -- the mean is its r: the sum of the increments over the old and the active. Some integrand there always is, since a point is new in one
--- block only.
+-- block only. The same stands then over the trapezoidal rule on the job's d axes, f being the integrand with the axes beyond at the centre. The
+-- units are those of grid/specs/Trapezoidal.antt (its head): D is 128 times the source's Δ, T 128 times its Q, and a mean is divided by 2^d.
 pub record MeanFollows (l : Log) : Type 0 where
   pub difference : (P : Problem) → SampledFrom P (l .entries) → (k : List ℕ) → List·Memᴰ k (deliveredOf (l .entries)) → scaledDifference k (readingIn (l .entries)) ≡ increment P k
   pub sum : (P : Problem) → SampledFrom P (l .entries) → crossOf (l .entries) ≡ sumOf (deliveredOf (l .entries)) (increment P)
   pub some : (P : Problem) × (P .axes ≡ l .settings .axes) × ReadingValued P × SampledFrom P (l .entries)
+  -- 256^d times each difference is 2^20 times (D_{k1} ⊗ … ⊗ D_{kd}) f
+  pub trapezoidal-difference : (P : Problem) → SampledFrom P (l .entries) → (k : List ℕ) → List·Memᴰ k (deliveredOf (l .entries))
+      → pos (256 ^ l .settings .axes) *ℤ scaledDifference k (readingIn (l .entries))
+      ≡ pos (2 ^ 20) *ℤ tensorProduct trapezoidalDifference (take (l .settings .axes) k) (centred (8 - l .settings .axes) (P .integrand))
+  -- 256^d times the mean is 2^20 times the sum of these over the old and the active
+  pub trapezoidal-mean : (P : Problem) → SampledFrom P (l .entries)
+      → pos (256 ^ l .settings .axes) *ℤ crossOf (l .entries)
+      ≡ pos (2 ^ 20) *ℤ sumOf (deliveredOf (l .entries))
+      (λ k. tensorProduct trapezoidalDifference (take (l .settings .axes) k) (centred (8 - l .settings .axes) (P .integrand)))
+  -- and 2^20 times the sum of (T_{k1} ⊗ … ⊗ T_{kd}) f over them, each times its combination coefficient
+  pub trapezoidal-combination : (P : Problem) → SampledFrom P (l .entries)
+      → pos (256 ^ l .settings .axes) *ℤ crossOf (l .entries)
+      ≡ pos (2 ^ 20) *ℤ sumOf (deliveredOf (l .entries))
+      (λ k. coefficient (deliveredOf (l .entries)) k *ℤ tensorProduct trapezoidalRule (take (l .settings .axes) k) (centred (8 - l .settings .axes) (P .integrand)))
 
 abbrev pub MeansFollow : Type 0
 MeansFollow = (w : Storage) (first : LentCall) (later : List LentCall) (g : Settings) → AllLent w (first ∷ later)

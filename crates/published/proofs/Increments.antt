@@ -96,7 +96,7 @@ module _ (P : Problem) {m : Machine} (v : SoundMachine m)
       ∙ block-value f l n q
 
   module _ (k : List ℕ) (p : ℕ) (at : Has es k p) (delivered : 1 ≤ entryAt es p .state) (index : Index (m .log .settings .axes) k) where
-    agrees : Agree k (readingIn es) (sampled f)
+    pub agrees : Agree k (readingIn es) (sampled f)
     agrees l n w q = step (entered-below v k l (p, at) w)
       where
         step : (l ≡ k) ⊎ EnteredOld es l → readingIn es l n ≡ sampled f l n

@@ -13,13 +13,14 @@ use Rattle.sums.specs.Sums.{sumOf}
 use Rattle.sums.proofs.Sums.{sumOf-cong-in}
 use Rattle.grid.specs.Index.{Index}
 use Rattle.grid.specs.Difference.{scaledDifference, scaledMean}
+use Rattle.grid.specs.Terms.{Agree, sampled}
 use Rattle.area.specs.Entry.{Entry, deliveredOf, readingIn}
 use Rattle.area.specs.Log.{Machine}
 use Rattle.encoding.specs.Entries.{entryAt, Has, SoundMachine}
 use Rattle.machine.specs.Means.{meanOf}
 use Rattle.published.specs.Figure.{Problem, increment}
 use Rattle.published.specs.Sums.{SampledFrom, SumFacts}
-use Rattle.published.proofs.Increments.{increment-is}
+use Rattle.published.proofs.Increments.{agrees, increment-is}
 use Rattle.published.proofs.Sampling.{sampling}
 
 -- a place that has the index, delivered
@@ -40,23 +41,36 @@ delivered-place (e ∷ es) k m = step (leb 1 (e .state)) refl m (delivered-place
         ⊎-elim (λ q. (0, record { place = omega arith; same = sym q }, leb-true 1 (e .state) i)) (λ q. later (ih q)) (List·Memᴰ·cases-cons m)
     step false i m ih = later (ih m)
 
-module _ {m : Machine} (P : Problem) (v : SoundMachine m) (read : SampledFrom P (m .log .entries)) where
+module _ {m : Machine} (v : SoundMachine m) where
   abbrev es : List Entry
   es = m .log .entries
 
-  difference : (k : List ℕ) → List·Memᴰ k (deliveredOf es) → scaledDifference k (readingIn es) ≡ increment P k
-  difference k n =
+  index : (k : List ℕ) → List·Memᴰ k (deliveredOf es) → Index (m .log .settings .axes) k
+  index k n =
       let x = delivered-place es k n in
-      increment-is P v read k (x .0) (x .1) (x .2) (subst (Index (m .log .settings .axes)) (x .1 .same) (v .index (x .0) (x .1 .place)))
+      subst (Index (m .log .settings .axes)) (x .1 .same) (v .index (x .0) (x .1 .place))
 
-  sum : meanOf es ≡ sumOf (deliveredOf es) (increment P)
-  unfolding meanOf scaledMean
-  sum = sumOf-cong-in (deliveredOf es) (λ k. scaledDifference k (readingIn es)) (increment P) difference
+  module _ (P : Problem) (read : SampledFrom P es) where
+    agree : (k : List ℕ) → List·Memᴰ k (deliveredOf es) → Agree k (readingIn es) (sampled (P .integrand))
+    agree k n =
+        let x = delivered-place es k n in
+        agrees P v read k (x .0) (x .1) (x .2) (index k n)
+
+    difference : (k : List ℕ) → List·Memᴰ k (deliveredOf es) → scaledDifference k (readingIn es) ≡ increment P k
+    difference k n =
+        let x = delivered-place es k n in
+        increment-is P v read k (x .0) (x .1) (x .2) (index k n)
+
+    sum : meanOf es ≡ sumOf (deliveredOf es) (increment P)
+    unfolding meanOf scaledMean
+    sum = sumOf-cong-in (deliveredOf es) (λ k. scaledDifference k (readingIn es)) (increment P) difference
 
 pub sum-facts : SumFacts
 sum-facts =
     record {
-      difference = λ m P v read. difference P v read;
-      sum = λ m P v read. sum P v read;
+      index = λ m v. index v;
+      agree = λ m P v read. agree v P read;
+      difference = λ m P v read. difference v P read;
+      sum = λ m P v read. sum v P read;
       some = λ m v. sampling v;
     }

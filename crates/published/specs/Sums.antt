@@ -4,8 +4,10 @@ use mathlib.Core.List.{List, map, List·Memᴰ}
 use Prim.Native.Nat.{ℕ, _<_, _≤_}
 use lib.ListN.{length}
 use Rattle.sums.specs.Sums.{sumOf}
+use Rattle.grid.specs.Index.{Index}
 use Rattle.grid.specs.Block.{block}
 use Rattle.grid.specs.Difference.{scaledDifference}
+use Rattle.grid.specs.Terms.{Agree, sampled}
 use Rattle.area.specs.Entry.{Entry, deliveredOf, readingIn}
 use Rattle.area.specs.Log.{Machine}
 use Rattle.encoding.specs.Entries.{entryAt, SoundMachine}
@@ -18,6 +20,11 @@ abbrev pub SampledFrom : Problem → List Entry → Type 0
 SampledFrom P es = (p : ℕ) → p < length es → 1 ≤ entryAt es p .state → entryAt es p .readings ≡ map (P .integrand) (block (entryAt es p .levels))
 
 pub record SumFacts : Type 0 where
+  -- a delivered index is an index of the job, and the readings of the blocks nowhere higher are the integrand's, so that its difference and
+  -- its full tensor rule are over the trapezoidal rule (`TrapezoidalFacts`, crate `grid`)
+  pub index : (m : Machine) → SoundMachine m → (k : List ℕ) → List·Memᴰ k (deliveredOf (m .log .entries)) → Index (m .log .settings .axes) k
+  pub agree : (m : Machine) (P : Problem) → SoundMachine m → SampledFrom P (m .log .entries) → (k : List ℕ) → List·Memᴰ k (deliveredOf (m .log .entries))
+      → Agree k (readingIn (m .log .entries)) (sampled (P .integrand))
   -- the difference of each delivered index is the integrand's increment
   pub difference : (m : Machine) (P : Problem) → SoundMachine m → SampledFrom P (m .log .entries) → (k : List ℕ) → List·Memᴰ k (deliveredOf (m .log .entries))
       → scaledDifference k (readingIn (m .log .entries)) ≡ increment P k
