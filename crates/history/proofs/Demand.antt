@@ -9,6 +9,7 @@ use mathlib.Core.List.{List, _∷_, List·Memᴰ, List·Memᴰ·cases-cons}
 use Prim.Native.Nat.{ℕ, _*_, _≤_}
 use native.Mathlib.Omega.{arith}
 use lib.ListN.{length}
+use lib.Seq.{take-length}
 use Rattle.area.specs.declared.Settings.{Settings}
 use Rattle.area.specs.Settings.{leastStore}
 use Rattle.area.specs.Records.{recordsOf, runOf}
@@ -97,6 +98,21 @@ module _ (w : Storage) (m : Machine) (h : Holds w m) where
     unfolding answerBy answerOf refusal row causesOf acceptedAnswer resultCauses stateOf
     cross-is = answered w x lent m h crossTotal ∙ given (row crossTotal) refl
 
+  -- lent the whole of it
+  abbrev wholly : Part
+  wholly = record { cells = length (w .cells); readings = length (w .store) }
+
+  lent-wholly : Lent w wholly
+  lent-wholly = record { cells = omega arith; readings = omega arith }
+
+  whole-area : areaLent w wholly ≡ all
+  unfolding areaLent
+  whole-area i = areaOf (w .job) (take-length (w .cells) i) (take-length (w .store) i)
+
+  counted-mean : countsOf (stateOf l) .mean ≡ crossOf (l .entries)
+  unfolding countsOf stateOf
+  counted-mean = refl
+
   pub found : Found w l
   found =
       record {
@@ -106,9 +122,13 @@ module _ (w : Storage) (m : Machine) (h : Holds w m) where
         sound = checked-there;
         neighbours = neighbours;
         links = links;
+        enough = (h .long, h .room);
         result = result-is;
         cross = cross-is;
         mean = sym (mean-facts .cross m (h .sound));
+        whole-result = ap (λ (a : Area). callOn a result .answer) (sym whole-area) ∙ result-is wholly lent-wholly (h .long) (h .room);
+        whole-cross = ap (λ (a : Area). callOn a crossTotal .answer) (sym whole-area) ∙ cross-is wholly lent-wholly (h .long) (h .room);
+        alike = counted-mean;
       }
 
 -- ---- an accepted start

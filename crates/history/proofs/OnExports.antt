@@ -34,9 +34,9 @@ use Rattle.wihupya.specs.Exports.{numberOf, countsAfter, totalAfter}
 use Rattle.wihupya.proofs.Facts.{both}
 use Rattle.history.specs.LentCalls.{Part, lengthsLent}
 use Rattle.history.specs.Logged.{stateOf, logStep, logAfter, answerBy}
-use Rattle.history.specs.Storage.{Storage, areaLent, Lent, returned, callIn, storageStep}
+use Rattle.history.specs.Storage.{Storage, areaLent, Lent, AllLent, returned, callIn, storageStep}
 use Rattle.history.specs.Found.{Found}
-use Rattle.history.specs.OnExports.{ExportStorage, readStorage, ExportCall, start, point, deliver, promote, result, crossTotal, check, callOf, Typed, LentExport, lentCall, AllTyped, AllLentExports, ExportAnswer, verdictNumber, exportAnswer, exported, wordsAfter, exportStep, exportsAfter, exportAnswers, exportAnswersBy, signedAt, ExportsFound, ExportsDemand, ThirdDemandOnExports}
+use Rattle.history.specs.OnExports.{ExportStorage, readStorage, ExportCall, start, point, deliver, promote, result, crossTotal, check, callOf, Typed, LentExport, lentCall, AllTyped, AllLentExports, ExportAnswer, verdictNumber, exportAnswer, exported, wordsAfter, exportStep, exportsAfter, exportAnswers, exportAnswersBy, wholePart, signedAt, ExportsFound, ExportsDemand, ThirdDemandOnExports}
 use Rattle.history.proofs.Holding.{Holds, Kept}
 use Rattle.history.proofs.Moves.{machineStep, step-log, MachineInvariant, combined, from-log}
 use Rattle.history.proofs.Steps.{call-answer, call-keeps}
@@ -44,6 +44,9 @@ use Rattle.history.proofs.Lists.{machineAfter, after-log}
 use Rattle.history.proofs.NeverUnsound.{one}
 use Rattle.history.proofs.Steps.{lengths, first-holds}
 use Rattle.history.proofs.Demand.{accepted-start, found}
+use Rattle.history.proofs.Published.{means-follow}
+use Rattle.history.proofs.Moments.{steps-follow}
+use Rattle.history.proofs.Spent.{spent-exactly}
 use Rattle.history.proofs.WordRanges.{InRange, reads-back, started-range, step-range}
 
 -- ---- the words after one call
@@ -128,6 +131,10 @@ lent-later : (w u : ExportStorage) → length (u .cells) ≡ length (w .cells) �
 lent-later w u e f [] l = tt
 lent-later w u e f (x ∷ xs) l = (record { cells = omega (arith, l .0 .cells, e); readings = omega (arith, l .0 .readings, f) }, lent-later w u e f xs (l .1))
 
+all-lent : (w : ExportStorage) (xs : List LentExport) → AllLentExports w xs → AllLent (readStorage w) (map lentCall xs)
+all-lent w [] l = tt
+all-lent w (x ∷ xs) l = (l .0, all-lent w xs (l .1))
+
 record Along (w : ExportStorage) (m : Machine) (xs : List LentExport) : Type 0 where
   answers : exportAnswers w xs ≡ exportAnswersBy (m .log) xs
   hand : Hand (exportsAfter w xs) (machineAfter m (map lentCall xs))
@@ -186,13 +193,24 @@ module _ (w : ExportStorage) (m : Machine) (h : Hand w m) where
     unfolding totalAfter
     cross-signed = two-words
 
+    result-mean : signedAt (exported w (record { call = result given; part = x }) .words) 2 ≡ crossOf (l .entries)
+    result-mean = ap (λ (u : List ℕ). signedAt u 2) result-words ∙ result-signed
+
+    cross-mean : signedAt (exported w (record { call = crossTotal given; part = x }) .words) 0 ≡ crossOf (l .entries)
+    cross-mean = ap (λ (u : List ℕ). signedAt u 0) cross-words ∙ cross-signed
+
+  lent-wholly : Lent (readStorage w) (wholePart w)
+  lent-wholly = record { cells = omega arith; readings = omega arith }
+
   found-there : ExportsFound w l
   found-there =
       record {
         words = h .words ∙ ap (λ (n : Machine). wordsOf (jobWith n)) (from-log m invariant);
         found = there;
-        result-mean = λ x given lent long room. ap (λ (u : List ℕ). signedAt u 2) (result-words x given lent long room) ∙ result-signed x given lent long room;
-        cross-mean = λ x given lent long room. ap (λ (u : List ℕ). signedAt u 0) (cross-words x given lent long room) ∙ cross-signed x given lent long room;
+        result-mean = result-mean;
+        cross-mean = cross-mean;
+        whole-result-mean = λ given. result-mean (wholePart w) given lent-wholly (there .enough .0) (there .enough .1);
+        whole-cross-mean = λ given. cross-mean (wholePart w) given lent-wholly (there .enough .0) (there .enough .1);
       }
 
 -- ---- 4 is never returned
@@ -323,9 +341,23 @@ module _ (w : ExportStorage) (first : LentExport) (later : List LentExport) (axe
       step (inl f) = not-four (first .call) (answer accepted) (λ q. let z : _≡_ {A = ℕ} 0 1 = cc in omega arith) (ap (λ (z : ExportAnswer). z .number) (sym f) ∙ e)
       step (inr k) = never (steps.startLog g) later y k e
 
+  -- the same calls on the job record, for the second demand
+  all : AllLent (readStorage w) (lentCall first ∷ map lentCall later)
+  all = all-lent w (first ∷ later) lent
+
   demanded : ExportsDemand w first later axes threshold budget
   unfolding exportsAfter
-  demanded = record { answers = answers; never-unsound = never-four; cells = rest .cells ∙ cells-first; store = rest .store ∙ store-first; found = after }
+  demanded =
+      record {
+        answers = answers;
+        never-unsound = never-four;
+        cells = rest .cells ∙ cells-first;
+        store = rest .store ∙ store-first;
+        found = after;
+        means = means-follow (readStorage w) (lentCall first) (map lentCall later) g all first-call taken;
+        steps = steps-follow (readStorage w) (lentCall first) (map lentCall later) g all first-call taken;
+        admissions = spent-exactly (readStorage w) (lentCall first) (map lentCall later) g all first-call taken;
+      }
 
 pub third-demand-on-exports : ThirdDemandOnExports
 third-demand-on-exports w first later axes threshold budget lent typed is returned-zero = demanded w first later axes threshold budget lent typed is returned-zero

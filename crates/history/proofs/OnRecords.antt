@@ -6,18 +6,23 @@ use mathlib.Core.List.{_∷_, map, List·Memᴰ}
 use native.Mathlib.Omega.{arith}
 use Rattle.area.specs.Records.{Run, cellsFor}
 use Rattle.area.specs.Encoding.{Area, areaOf, entriesOf}
+use Rattle.area.proofs.Cells.{cells-length}
 use Rattle.encoding.specs.Encodes.{WellFormed}
 use Rattle.area.specs.Log.{Log}
 use Rattle.machine.specs.Steps.{startLog}
 use Rattle.soundness.specs.Clauses.{checked}
-use Rattle.calls.specs.Table.{start, result, crossTotal}
+use Rattle.calls.specs.Replies.{accepted}
+use Rattle.calls.specs.Table.{start, result, crossTotal, answer}
 use Rattle.calls.specs.Calls.{callOn}
 use Rattle.records.specs.Lent.{areaOn}
 use Rattle.history.specs.Logged.{logAfter}
-use Rattle.history.specs.Storage.{Storage}
+use Rattle.history.specs.Storage.{Storage, areaLent, AllLent}
 use Rattle.history.specs.Found.{Found, LinksAgree, Demand}
 use Rattle.history.specs.OnRecords.{RecordStorage, inCells, callInCells, recordsAfter, RecordsFound, ThirdDemandOnRecords}
 use Rattle.history.proofs.Demand.{third-demand}
+use Rattle.history.proofs.Published.{means-follow}
+use Rattle.history.proofs.Moments.{steps-follow}
+use Rattle.history.proofs.Spent.{spent-exactly}
 use Rattle.history.proofs.RecordCells.{cells-run, inStorage, lent-cells, lent-area, all-lent, together}
 
 -- what is found in the cells of the records is found in the records
@@ -34,17 +39,22 @@ module _ (w : RecordStorage) (l : Log) (f : WellFormed (w .records)) (found : Fo
         sound = ap checked (sym same-area) ∙ found .sound;
         neighbours = found .neighbours;
         links = subst (LinksAgree (l .entries)) (ap (λ (u : Run). u .records) (cells-run (w .records) f)) (found .links);
+        enough = (omega (arith, cells-length (w .records) f, found .enough .0), found .enough .1);
         result = λ x lent long room. ap (λ (a : Area). callOn a result .answer) (sym (lent-area w x f lent)) ∙ found .result (inCells x) (lent-cells w x f lent) (omega (arith, long)) room;
         cross = λ x lent long room. ap (λ (a : Area). callOn a crossTotal .answer) (sym (lent-area w x f lent)) ∙ found .cross (inCells x) (lent-cells w x f lent) (omega (arith, long)) room;
         mean = found .mean;
+        whole-result = ap (λ (a : Area). callOn a result .answer) (sym same-area) ∙ found .whole-result;
+        whole-cross = ap (λ (a : Area). callOn a crossTotal .answer) (sym same-area) ∙ found .whole-cross;
+        alike = found .alike;
       }
 
 pub third-demand-on-records : ThirdDemandOnRecords
 third-demand-on-records w first later g f lent is taken =
     let both = together w (first ∷ later) f lent in
-    let demand : Demand (inStorage w) (callInCells first) (map callInCells later) g
-    = third-demand (inStorage w) (callInCells first) (map callInCells later) g (all-lent w (first ∷ later) f lent) is
-    (ap (λ (a : Area). callOn a (start g) .answer) (lent-area w (first .part) f (lent .0)) ∙ taken) in
+    let all : AllLent (inStorage w) (map callInCells (first ∷ later)) = all-lent w (first ∷ later) f lent in
+    let begun : callOn (areaLent (inStorage w) (inCells (first .part))) (start g) .answer ≡ answer accepted
+    = ap (λ (a : Area). callOn a (start g) .answer) (lent-area w (first .part) f (lent .0)) ∙ taken in
+    let demand : Demand (inStorage w) (callInCells first) (map callInCells later) g = third-demand (inStorage w) (callInCells first) (map callInCells later) g all is begun in
     record {
       answers = sym (both .answers) ∙ demand .answers;
       never-unsound = λ y m. demand .never-unsound y (subst (List·Memᴰ y) (sym (both .answers)) m);
@@ -52,4 +62,7 @@ third-demand-on-records w first later g f lent is taken =
       store = both .store;
       found = in-records (recordsAfter w (first ∷ later)) (logAfter (startLog g) (map callInCells later)) (both .well-formed)
           (subst (λ (v : Storage). Found v (logAfter (startLog g) (map callInCells later))) (both .after) (demand .found));
+      means = means-follow (inStorage w) (callInCells first) (map callInCells later) g all is begun;
+      steps = steps-follow (inStorage w) (callInCells first) (map callInCells later) g all is begun;
+      admissions = spent-exactly (inStorage w) (callInCells first) (map callInCells later) g all is begun;
     }

@@ -61,8 +61,14 @@ pub record Found (w : Storage) (l : Log) : Type 0 where
   pub sound : checked (areaOf (w .job) (w .cells) (w .store)) ≡ true
   pub neighbours : Neighbours (l .settings .axes) (l .entries)
   pub links : LinksAgree (l .entries) (recordsOf (w .cells))
-  -- result and cross total, called on storage that is long enough, answer one and the same mean: the sum of full tensor rules over the
-  -- delivered indices, each times its combination coefficient
+  -- the storage is long enough for the settings
+  pub enough : (512 * 27 ≤ length (w .cells)) × (leastStore (l .settings) ≤ length (w .store))
+  -- so result and cross total, called on the whole of it, answer one and the same mean with nothing asked: the sum of full tensor rules
+  -- over the delivered indices, each times its combination coefficient
+  pub whole-result : callOn (areaOf (w .job) (w .cells) (w .store)) result .answer ≡ answer (counts (countsOf (stateOf l)))
+  pub whole-cross : callOn (areaOf (w .job) (w .cells) (w .store)) crossTotal .answer ≡ answer (total (crossOf (l .entries)))
+  pub alike : countsOf (stateOf l) .mean ≡ crossOf (l .entries)
+  -- and so they do on any part that is long enough
   pub result : (x : Part) → Lent w x → 512 * 27 ≤ x .cells → leastStore (l .settings) ≤ x .readings
       → callOn (areaLent w x) result .answer ≡ answer (counts (countsOf (stateOf l)))
   pub cross : (x : Part) → Lent w x → 512 * 27 ≤ x .cells → leastStore (l .settings) ≤ x .readings → callOn (areaLent w x) crossTotal .answer ≡ answer (total (crossOf (l .entries)))

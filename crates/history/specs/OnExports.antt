@@ -24,6 +24,8 @@ use Rattle.history.specs.LentCalls.{Part, LentCall, lengthsLent}
 use Rattle.history.specs.Logged.{stateOf, logStep, logAfter, answerBy}
 use Rattle.history.specs.Storage.{Storage, Lent, callIn, storageStep}
 use Rattle.history.specs.Found.{Found}
+use Rattle.history.specs.Source.{MeanFollows, StepsFollow}
+use Rattle.history.specs.Spent.{Admissions}
 
 pub record ExportStorage : Type 0 where
   pub words : List ℕ
@@ -145,6 +147,10 @@ exportAnswersBy l (x ∷ xs) = exportAnswer (x .call) (answerBy (lengthsLent (x 
 
 -- ---- what is found
 
+-- All of the cells and all of the store.
+abbrev pub wholePart : ExportStorage → Part
+wholePart w = record { cells = length (w .cells); readings = length (w .store) }
+
 -- Two words as a 64-bit number with a sign.
 abbrev pub signedAt : List ℕ → ℕ → ℤ
 signedAt w i = toZ w64 (wide w i)
@@ -160,6 +166,9 @@ pub record ExportsFound (w : ExportStorage) (l : Log) : Type 0 where
       → signedAt (exported w (record { call = result given; part = x }) .words) 2 ≡ crossOf (l .entries)
   pub cross-mean : (x : Part) (given : List ℕ) → Lent (readStorage w) x → 512 * 27 ≤ x .cells → leastStore (l .settings) ≤ x .readings
       → signedAt (exported w (record { call = crossTotal given; part = x }) .words) 0 ≡ crossOf (l .entries)
+  -- the whole storage is long enough (`Found.enough`), so of it nothing is asked
+  pub whole-result-mean : (given : List ℕ) → signedAt (exported w (record { call = result given; part = wholePart w }) .words) 2 ≡ crossOf (l .entries)
+  pub whole-cross-mean : (given : List ℕ) → signedAt (exported w (record { call = crossTotal given; part = wholePart w }) .words) 0 ≡ crossOf (l .entries)
 
 -- After `first`, a start with these numbers, and `later`:
 pub record ExportsDemand (w : ExportStorage) (first : LentExport) (later : List LentExport) (axes threshold budget : ℕ) : Type 0 where
@@ -171,6 +180,10 @@ pub record ExportsDemand (w : ExportStorage) (first : LentExport) (later : List 
   pub cells : length (exportsAfter w (first ∷ later) .cells) ≡ length (w .cells)
   pub store : length (exportsAfter w (first ∷ later) .store) ≡ length (w .store)
   pub found : ExportsFound (exportsAfter w (first ∷ later)) (logAfter (startLog (settingsOf axes threshold budget)) (map lentCall later))
+  -- the second demand, of the same log: mean, steps and admissions are the published algorithm's
+  pub means : MeanFollows (logAfter (startLog (settingsOf axes threshold budget)) (map lentCall later))
+  pub steps : StepsFollow (logAfter (startLog (settingsOf axes threshold budget)) (map lentCall later))
+  pub admissions : Admissions (logAfter (startLog (settingsOf axes threshold budget)) (map lentCall later))
 
 -- The third demand over the exported calls: for all words, cells and readings, and every list of calls with arguments within their types that
 -- begins with a start that returned 0.

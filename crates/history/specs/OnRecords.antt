@@ -26,6 +26,8 @@ use Rattle.records.specs.Lent.{areaOn}
 use Rattle.history.specs.LentCalls.{Part, LentCall}
 use Rattle.history.specs.Logged.{stateOf, logAfter, answersBy}
 use Rattle.history.specs.Found.{Neighbours, LinksAgree}
+use Rattle.history.specs.Source.{MeanFollows, StepsFollow}
+use Rattle.history.specs.Spent.{Admissions}
 
 pub record RecordStorage : Type 0 where
   pub job : JobRecord
@@ -94,7 +96,14 @@ pub record RecordsFound (w : RecordStorage) (l : Log) : Type 0 where
   pub sound : checked (areaOn (w .job) (w .records) (w .store)) ≡ true
   pub neighbours : Neighbours (l .settings .axes) (l .entries)
   pub links : LinksAgree (l .entries) (w .records)
-  -- result and cross total, called on storage that is long enough, answer one and the same mean
+  -- the storage is long enough for the settings
+  pub enough : (512 ≤ length (w .records)) × (leastStore (l .settings) ≤ length (w .store))
+  -- so result and cross total, called on the whole of it, answer one and the same mean with nothing asked: the sum of full tensor rules
+  -- over the delivered indices, each times its combination coefficient
+  pub whole-result : callOn (areaOn (w .job) (w .records) (w .store)) result .answer ≡ answer (counts (countsOf (stateOf l)))
+  pub whole-cross : callOn (areaOn (w .job) (w .records) (w .store)) crossTotal .answer ≡ answer (total (crossOf (l .entries)))
+  pub alike : countsOf (stateOf l) .mean ≡ crossOf (l .entries)
+  -- and so they do on any part that is long enough
   pub result : (x : RecordPart) → LentRecords w x → 512 ≤ x .records → leastStore (l .settings) ≤ x .readings
       → callOn (recordsLent w x) result .answer ≡ answer (counts (countsOf (stateOf l)))
   pub cross : (x : RecordPart) → LentRecords w x → 512 ≤ x .records → leastStore (l .settings) ≤ x .readings → callOn (recordsLent w x) crossTotal .answer ≡ answer (total (crossOf (l .entries)))
@@ -111,6 +120,10 @@ pub record RecordsDemand (w : RecordStorage) (first : RecordCall) (later : List 
   pub records : length (recordsAfter w (first ∷ later) .records) ≡ length (w .records)
   pub store : length (recordsAfter w (first ∷ later) .store) ≡ length (w .store)
   pub found : RecordsFound (recordsAfter w (first ∷ later)) (logAfter (startLog g) (map callInCells later))
+  -- the second demand, of the same log: mean, steps and admissions are the published algorithm's
+  pub means : MeanFollows (logAfter (startLog g) (map callInCells later))
+  pub steps : StepsFollow (logAfter (startLog g) (map callInCells later))
+  pub admissions : Admissions (logAfter (startLog g) (map callInCells later))
 
 -- The third demand over lent records, whatever they hold. Every record of the struct's type has eight levels and sixteen links (crate
 -- `records`, specs/Unwritten.antt, `RecordTyped`), so that is asked of the list.
