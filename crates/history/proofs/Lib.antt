@@ -22,4 +22,5 @@ pub mod WellFormed
 pub mod RecordCells
 pub mod OnRecords
 pub mod WordRanges
+pub mod Contracts
 pub mod OnExports

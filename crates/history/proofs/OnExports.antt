@@ -47,6 +47,7 @@ use Rattle.history.proofs.Demand.{accepted-start, found}
 use Rattle.history.proofs.Published.{means-follow}
 use Rattle.history.proofs.Moments.{steps-follow}
 use Rattle.history.proofs.Spent.{spent-exactly}
+use Rattle.history.proofs.Contracts.{answers-met, storage-met}
 use Rattle.history.proofs.WordRanges.{InRange, reads-back, started-range, step-range}
 
 -- ---- the words after one call
@@ -350,6 +351,7 @@ module _ (w : ExportStorage) (first : LentExport) (later : List LentExport) (axe
   demanded =
       record {
         answers = answers;
+        contracts = λ ys made. (answers-met w (first ∷ later) ys made, storage-met w (first ∷ later) ys made);
         never-unsound = never-four;
         cells = rest .cells ∙ cells-first;
         store = rest .store ∙ store-first;

@@ -1,24 +1,28 @@
 -- Lists of exported calls (crate `wihupya`), as callers in C and Rust make them. The work area is the ten words of the job record, cells and a
 -- store; a call is lent so many cells and readings of it, and the arrays into which it writes its answer. What it returns and leaves is what
--- the contracts of `wihupya` say (its specs/Exports.antt, specs/Words.antt).
+-- the contracts of `wihupya` say (its src/lib.rt, specs/Exports.antt, specs/Words.antt): `MeetsContract`, `ContractFacts`.
 use mathlib.Core.Path.{_≡_}
 use mathlib.Core.Bool.{cond}
-use mathlib.Core.List.{List, [], _∷_, map, List·Memᴰ}
+use mathlib.Core.List.{List, [], _∷_, _++_, map, List·Memᴰ}
 use Prim.Native.Nat.{ℕ, _*_, _^_, _<_, _≤_}
 use lib.IntN.{ℤ}
-use lib.ListN.{length}
+use lib.ListN.{length, take, drop}
 use mir.Syntax.{w64}
 use mir.Val.{toZ}
 use Rattle.area.specs.declared.JobRecord.{JobRecord}
 use Rattle.area.specs.Settings.{settingsOf, leastStore}
 use Rattle.area.specs.Log.{Log}
-use Rattle.area.specs.Encoding.{jobWith}
+use Rattle.area.specs.Records.{runOf}
+use Rattle.area.specs.Encoding.{areaOf, jobWith}
+use Rattle.soundness.specs.Clauses.{checked}
 use Rattle.machine.specs.Steps.{startLog}
 use Rattle.machine.specs.Means.{crossOf}
 use Rattle.calls.specs.Replies.{Reply, refused, accepted, promotion, counts, total, verdict}
 use Rattle.calls.specs.Table as table
 use Rattle.calls.specs.Table.{Call, Answer, answer}
-use Rattle.wihupya.specs.Words.{wide, jobOf, wordsOf}
+use Rattle.calls.specs.Calls.{callOn}
+use Rattle.wihupya.specs.Words.{word, wide, jobOf, wordsOf}
+use Rattle.wihupya.specs.Exports as exports
 use Rattle.wihupya.specs.Exports.{numberOf, outcomeAfter, countsAfter, totalAfter}
 use Rattle.history.specs.LentCalls.{Part, LentCall, lengthsLent}
 use Rattle.history.specs.Logged.{stateOf, logStep, logAfter, answerBy}
@@ -145,6 +149,94 @@ unfoldable pub exportAnswersBy : Log → List LentExport → List ExportAnswer
 exportAnswersBy l [] = []
 exportAnswersBy l (x ∷ xs) = exportAnswer (x .call) (answerBy (lengthsLent (x .part)) l (callOf (x .call))) ∷ exportAnswersBy (logStep l (lentCall x)) xs
 
+-- ---- the contracts
+
+-- What the function of a call returned (check: 1 for yes and 0 for no), and what it left in the words of the job record, in the cells and
+-- the store that it was lent, in the words for its answer and in point's buffer.
+pub record ExportLeft : Type 0 where
+  pub number : ℕ
+  pub job : List ℕ
+  pub cells : List ℕ
+  pub store : List ℤ
+  pub words : List ℕ
+  pub buffer : List ℕ
+
+-- What is lent to be read alone stays.
+abbrev pub OnlyReads : (job cells : List ℕ) (store : List ℤ) → ExportLeft → Type 0
+OnlyReads job cells store y = (y .job ≡ job) × (y .cells ≡ cells) × (y .store ≡ store)
+
+-- The contract of the call's function, word for word as in `wihupya`'s src/lib.rt, at the job record's words, the cells and the store that it
+-- is lent. What a call is not lent is empty.
+abbrev pub Contract : (job cells : List ℕ) (store : List ℤ) → ExportCall → ExportLeft → Type 0
+Contract job cells store (start axes threshold budget) y =
+    (record { number = y .number; job = y .job; run = runOf (y .cells); store = store } ≡ exports.exported (callOn (areaOf (jobOf job) cells store) (table.start (settingsOf axes threshold budget))))
+    × ((y .number ≡ 0 → ⊥) → y .job ≡ job)
+    × (y .store ≡ store)
+    × (y .words ≡ [])
+    × (y .buffer ≡ [])
+Contract job cells store (point n buffer) y =
+    (y .number ≡ numberOf (callOn (areaOf (jobOf job) cells store) (table.point n buffer) .answer .reply))
+    × (y .buffer ≡ callOn (areaOf (jobOf job) cells store) (table.point n buffer) .answer .buffer)
+    × OnlyReads job cells store y
+    × (y .words ≡ [])
+Contract job cells store (deliver rs i) y =
+    (record { number = y .number; job = y .job; run = runOf (y .cells); store = y .store } ≡ exports.exported (callOn (areaOf (jobOf job) cells store) (table.deliver rs i)))
+    × ((y .number ≡ 0 → ⊥) → y .job ≡ job)
+    × (y .words ≡ [])
+    × (y .buffer ≡ [])
+Contract job cells store (promote outcome) y =
+    (record { number = y .number; job = y .job; run = runOf (y .cells); store = store } ≡ exports.exported (callOn (areaOf (jobOf job) cells store) table.promote))
+    × (y .words ≡ outcomeAfter (callOn (areaOf (jobOf job) cells store) table.promote .answer .reply) outcome)
+    × ((y .number ≡ 0 → ⊥) → y .job ≡ job)
+    × (y .store ≡ store)
+    × (y .buffer ≡ [])
+Contract job cells store (result given) y =
+    (y .number ≡ numberOf (callOn (areaOf (jobOf job) cells store) table.result .answer .reply))
+    × (y .words ≡ countsAfter (callOn (areaOf (jobOf job) cells store) table.result .answer .reply) given)
+    × OnlyReads job cells store y
+    × (y .buffer ≡ [])
+Contract job cells store (crossTotal given) y =
+    (y .number ≡ numberOf (callOn (areaOf (jobOf job) cells store) table.crossTotal .answer .reply))
+    × (y .words ≡ totalAfter (callOn (areaOf (jobOf job) cells store) table.crossTotal .answer .reply) given)
+    × OnlyReads job cells store y
+    × (y .buffer ≡ [])
+Contract job cells store check y =
+    (y .number ≡ cond (checked (areaOf (jobOf job) cells store)) 1 0)
+    × OnlyReads job cells store y
+    × (y .words ≡ [])
+    × (y .buffer ≡ [])
+
+-- At what the call is lent of the storage.
+abbrev pub MeetsContract : ExportStorage → LentExport → ExportLeft → Type 0
+MeetsContract w x y = Contract (w .words) (take (x .part .cells) (w .cells)) (take (x .part .readings) (w .store)) (x .call) y
+
+-- What it returned and wrote as an answer, and the storage with what it left back in its place.
+abbrev pub answerLeft : ExportLeft → ExportAnswer
+answerLeft y = record { number = y .number; words = y .words; buffer = y .buffer }
+
+abbrev pub putBack : ExportStorage → Part → ExportLeft → ExportStorage
+putBack w p y = record { words = y .job; cells = y .cells ++ drop (p .cells) (w .cells); store = y .store ++ drop (p .readings) (w .store) }
+
+-- A list of calls as it was made: each call finds the storage as the one before left it, and its function met its contract.
+abbrev pub AllMeet : ExportStorage → List LentExport → List ExportLeft → Type 0
+AllMeet w [] [] = Unit {0}
+AllMeet w [] (y ∷ ys) = ⊥
+AllMeet w (x ∷ xs) [] = ⊥
+AllMeet w (x ∷ xs) (y ∷ ys) = MeetsContract w x y × AllMeet (putBack w (x .part) y) xs ys
+
+unfoldable pub leftAfter : ExportStorage → List LentExport → List ExportLeft → ExportStorage
+leftAfter w [] ys = w
+leftAfter w (x ∷ xs) [] = w
+leftAfter w (x ∷ xs) (y ∷ ys) = leftAfter (putBack w (x .part) y) xs ys
+
+-- The contracts leave no choice: what a function returned and left, by its contract alone, is what the definitions above say.
+pub record ContractFacts : Type 0 where
+  pub call : (w : ExportStorage) (x : LentExport) (y : ExportLeft) → MeetsContract w x y → (answerLeft y ≡ exported w x) × (putBack w (x .part) y ≡ exportStep w x)
+  pub calls : (w : ExportStorage) (xs : List LentExport) (ys : List ExportLeft) → AllMeet w xs ys
+      → (map answerLeft ys ≡ exportAnswers w xs) × (leftAfter w xs ys ≡ exportsAfter w xs)
+  -- and they can be met, where the words are ten of 32 bits
+  pub some : (w : ExportStorage) (x : LentExport) → length (w .words) ≡ 10 → ((i : ℕ) → word (w .words) i < 2 ^ 32) → (y : ExportLeft) × MeetsContract w x y
+
 -- ---- what is found
 
 -- All of the cells and all of the store.
@@ -174,6 +266,9 @@ pub record ExportsFound (w : ExportStorage) (l : Log) : Type 0 where
 pub record ExportsDemand (w : ExportStorage) (first : LentExport) (later : List LentExport) (axes threshold budget : ℕ) : Type 0 where
   -- every returned number, every output word and every byte of a buffer is the log's answer
   pub answers : exportAnswers w (first ∷ later) ≡ exportAnswer (first .call) (answer accepted) ∷ exportAnswersBy (startLog (settingsOf axes threshold budget)) later
+  -- which are what the functions return and leave by their contracts, call by call
+  pub contracts : (ys : List ExportLeft) → AllMeet w (first ∷ later) ys
+      → (map answerLeft ys ≡ exportAnswers w (first ∷ later)) × (leftAfter w (first ∷ later) ys ≡ exportsAfter w (first ∷ later))
   -- and 4 is never returned
   pub never-unsound : (y : ExportAnswer) → List·Memᴰ y (exportAnswers w (first ∷ later)) → y .number ≡ 4 → ⊥
   -- the storage is as long as before
