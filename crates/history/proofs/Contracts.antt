@@ -17,16 +17,15 @@ use Rattle.soundness.specs.Clauses.{checked}
 use Rattle.encoding.proofs.Cells.{cells-well-formed, held-well-formed}
 use Rattle.calls.specs.Replies.{Reply, refused, accepted, promotion, counts, total, verdict}
 use Rattle.calls.specs.Table as table
-use Rattle.calls.specs.Table.{Call, Answer, row, effectOf}
+use Rattle.calls.specs.Table.{Call, row, effectOf}
 use Rattle.calls.specs.Calls.{CallResult, callOn}
 use Rattle.calls.proofs.Facts.{call-facts, looks-only}
 use Rattle.wihupya.specs.Words.{jobOf, wordsOf}
 use Rattle.wihupya.specs.Exports as exports
 use Rattle.wihupya.specs.Exports.{Exported}
 use Rattle.wihupya.proofs.Facts.{word-facts}
-use Rattle.history.specs.LentCalls.{Part}
 use Rattle.history.specs.Storage.{areaLent, returned, callIn, storageStep}
-use Rattle.history.specs.OnExports.{ExportStorage, readStorage, ExportCall, start, point, deliver, promote, result, crossTotal, check, callOf, LentExport, lentCall, ExportAnswer, verdictNumber, exportAnswer, exported, wordsAfter, exportStep, exportsAfter, exportAnswers, ExportLeft, OnlyReads, Contract, MeetsContract, answerLeft, putBack, AllMeet, leftAfter, ContractFacts}
+use Rattle.history.specs.OnExports.{ExportStorage, ExportCall, start, point, deliver, promote, result, crossTotal, check, callOf, LentExport, ExportAnswer, verdictNumber, exportAnswer, exported, wordsAfter, exportStep, exportsAfter, exportAnswers, ExportLeft, OnlyReads, Contract, MeetsContract, answerLeft, putBack, AllMeet, leftAfter, ContractFacts}
 use Rattle.history.proofs.WellFormed.{Leaves, call-leaves}
 
 -- ---- one call
@@ -235,5 +234,6 @@ contract-facts =
     record {
       call = λ w x y m. (answer-met w x y m, step-met w x y m);
       calls = λ w xs ys m. (answers-met w xs ys m, storage-met w xs ys m);
-      some = λ w x ten small. met (w .words) (take (x .part .cells) (w .cells)) (take (x .part .readings) (w .store)) (word-facts .words-round-trip (w .words) ten small) (x .call);
+      some = λ w x ten small.
+          met (w .words) (take (x .part .cells) (w .cells)) (take (x .part .readings) (w .store)) (word-facts .words-round-trip (w .words) ten small) (x .call);
     }

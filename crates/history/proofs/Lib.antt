@@ -23,4 +23,5 @@ pub mod RecordCells
 pub mod OnRecords
 pub mod WordRanges
 pub mod Contracts
+pub mod Functions
 pub mod OnExports

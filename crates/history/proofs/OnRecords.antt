@@ -54,7 +54,8 @@ third-demand-on-records w first later g f lent is taken =
     let all : AllLent (inStorage w) (map callInCells (first ∷ later)) = all-lent w (first ∷ later) f lent in
     let begun : callOn (areaLent (inStorage w) (inCells (first .part))) (start g) .answer ≡ answer accepted
     = ap (λ (a : Area). callOn a (start g) .answer) (lent-area w (first .part) f (lent .0)) ∙ taken in
-    let demand : Demand (inStorage w) (callInCells first) (map callInCells later) g = third-demand (inStorage w) (callInCells first) (map callInCells later) g all is begun in
+    let demand : Demand (inStorage w) (callInCells first) (map callInCells later) g
+    = third-demand (inStorage w) (callInCells first) (map callInCells later) g all is begun in
     record {
       answers = sym (both .answers) ∙ demand .answers;
       never-unsound = λ y m. demand .never-unsound y (subst (List·Memᴰ y) (sym (both .answers)) m);

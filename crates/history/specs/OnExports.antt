@@ -166,10 +166,11 @@ abbrev pub OnlyReads : (job cells : List ℕ) (store : List ℤ) → ExportLeft 
 OnlyReads job cells store y = (y .job ≡ job) × (y .cells ≡ cells) × (y .store ≡ store)
 
 -- The contract of the call's function, word for word as in `wihupya`'s src/lib.rt, at the job record's words, the cells and the store that it
--- is lent. What a call is not lent is empty.
+-- is lent. What a call is not lent is empty. That these are the functions' own contracts is `FunctionContracts` (Functions.antt).
 abbrev pub Contract : (job cells : List ℕ) (store : List ℤ) → ExportCall → ExportLeft → Type 0
 Contract job cells store (start axes threshold budget) y =
-    (record { number = y .number; job = y .job; run = runOf (y .cells); store = store } ≡ exports.exported (callOn (areaOf (jobOf job) cells store) (table.start (settingsOf axes threshold budget))))
+    (record { number = y .number; job = y .job; run = runOf (y .cells); store = store }
+    ≡ exports.exported (callOn (areaOf (jobOf job) cells store) (table.start (settingsOf axes threshold budget))))
     × ((y .number ≡ 0 → ⊥) → y .job ≡ job)
     × (y .store ≡ store)
     × (y .words ≡ [])
@@ -180,12 +181,14 @@ Contract job cells store (point n buffer) y =
     × OnlyReads job cells store y
     × (y .words ≡ [])
 Contract job cells store (deliver rs i) y =
-    (record { number = y .number; job = y .job; run = runOf (y .cells); store = y .store } ≡ exports.exported (callOn (areaOf (jobOf job) cells store) (table.deliver rs i)))
+    (record { number = y .number; job = y .job; run = runOf (y .cells); store = y .store }
+    ≡ exports.exported (callOn (areaOf (jobOf job) cells store) (table.deliver rs i)))
     × ((y .number ≡ 0 → ⊥) → y .job ≡ job)
     × (y .words ≡ [])
     × (y .buffer ≡ [])
 Contract job cells store (promote outcome) y =
-    (record { number = y .number; job = y .job; run = runOf (y .cells); store = store } ≡ exports.exported (callOn (areaOf (jobOf job) cells store) table.promote))
+    (record { number = y .number; job = y .job; run = runOf (y .cells); store = store }
+    ≡ exports.exported (callOn (areaOf (jobOf job) cells store) table.promote))
     × (y .words ≡ outcomeAfter (callOn (areaOf (jobOf job) cells store) table.promote .answer .reply) outcome)
     × ((y .number ≡ 0 → ⊥) → y .job ≡ job)
     × (y .store ≡ store)
