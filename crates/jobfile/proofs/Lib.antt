@@ -8,5 +8,8 @@ pub mod Formed
 pub mod Back
 pub mod Decided
 pub mod Numbers
+pub mod Places
+pub mod Named
+pub mod OneByte
 pub mod Facts
 pub mod Complement

@@ -7,6 +7,7 @@ use lib.ListN.{length, take}
 use Rattle.jobfile.specs.Bytes.{four}
 use Rattle.jobfile.specs.Form.{Fault, formed, broken, entryCount, entryByte, readingsByte, formOf}
 use Rattle.jobfile.specs.File.{totalBefore}
+use Rattle.jobfile.specs.Fields.{NamedByte}
 
 pub record FormedFile (c : List ℕ) : Type 0 where
   pub header-inside : 24 ≤ length c
@@ -27,6 +28,11 @@ pub record FormedFile (c : List ℕ) : Type 0 where
 pub record FormFacts : Type 0 where
   -- a file that is broken, in whatever part, is refused by 10
   pub malformed : (c : List ℕ) (f : Fault) → formOf c ≡ broken f → f .number ≡ 10
+  -- with the first byte of the field that breaks a rule, the file's length where it ends early, or the first byte too many; one of these there
+  -- is only where the file is broken, and then it is one byte
+  pub named-byte : (c : List ℕ) (f : Fault) → formOf c ≡ broken f → NamedByte c (f .byte)
+  pub named-back : (c : List ℕ) (b : ℕ) → NamedByte c b → (f : Fault) × (formOf c ≡ broken f) × (f .byte ≡ b)
+  pub one-byte : (c : List ℕ) (a b : ℕ) → NamedByte c a → NamedByte c b → a ≡ b
   pub formed-file : (c : List ℕ) → formOf c ≡ formed → FormedFile c
   -- and only such a file has the right form: so the order of the tests decides nothing but the byte named
   pub formed-back : (c : List ℕ) → FormedFile c → formOf c ≡ formed

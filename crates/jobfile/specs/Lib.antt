@@ -2,4 +2,5 @@
 pub mod Bytes
 pub mod Form
 pub mod File
+pub mod Fields
 pub mod Facts
