@@ -20,6 +20,7 @@ use Rattle.running.specs.declared.RunStatus.the-variants as statuses
 use Rattle.running.specs.Code.{RunAnswer, tooShort, report, refusal, nothing, writtenFor, answerIn, RunResult, runOn}
 use Rattle.running.specs.Facts.{AllowedResult, ExecutionFacts}
 use Rattle.running.proofs.Ends.{run-allowed}
+use Rattle.running.proofs.NamedBytes.{named-reading, count-byte, reading-byte, axes-refused, budget-refused}
 
 -- Every text is a report, a refusal or empty.
 room-in : (n : ℕ) (r : Result) → length (textIn n r) ≤ 512
@@ -112,7 +113,7 @@ decided-of c h =
     broken-text (take 38937 c) (f .0) (form-facts .decided c h ∙ f .1) ∙ sym (broken-text c (f .0) (f .1))
 
 pub execution-facts : ExecutionFacts
-execution-facts = record { malformed = malformed-of; well-formed = allowed-of; decided = decided-of; ends = ends-of; room = room-of; within = within-of; short-buffer = short-of; refusal-written = refusal-of; report-written = report-of }
+execution-facts = record { malformed = malformed-of; well-formed = allowed-of; axes-refused = axes-refused; budget-refused = budget-refused; count-byte = count-byte; reading-byte = reading-byte; named-reading = named-reading; decided = decided-of; ends = ends-of; room = room-of; within = within-of; short-buffer = short-of; refusal-written = refusal-of; report-written = report-of }
 
 -- What `run` counts are bytes of the buffer, whose length it kept.
 pub report-room : (bytes before after : List ℕ) (r : status.RunStatus) (count : ℕ) → record { answer = answerIn bytes r; buffer = after } ≡ runOn bytes before → length after ≡ length before

@@ -7,4 +7,5 @@ pub mod StepCases
 pub mod Whole
 pub mod Counted
 pub mod Ends
+pub mod NamedBytes
 pub mod Facts

@@ -2,16 +2,22 @@
 -- suffice for its text.
 use mathlib.Core.Path.{_≡_}
 use mathlib.Core.Logic.{_⊎_}
+use mathlib.Core.Bool.{false}
 use mathlib.Core.List.{List, _++_}
-use Prim.Native.Nat.{ℕ, _-_, _<_, _≤_}
-use lib.ListN.{length, take, drop}
+use Prim.Native.Nat.{ℕ, _+_, _*_, _-_, _<_, _≤_}
+use lib.IntN.{ℤ, pos}
+use lib.ListN.{length, getD, take, drop}
+use Rattle.grid.specs.Terms.{IsReading}
 use Rattle.area.specs.Log.{Machine}
 use Rattle.encoding.specs.Entries.{SoundMachine}
 use Rattle.machine.specs.Means.{meanOf, crossOf}
-use Rattle.jobfile.specs.Form.{Fault, formed, broken, formOf, entryCount}
+use Rattle.machine.specs.Causes.{inRange}
+use Rattle.jobfile.specs.Bytes.{four, signedFour}
+use Rattle.jobfile.specs.Form.{Fault, formed, broken, formOf, entryCount, entryByte}
+use Rattle.jobfile.specs.File.{entryOf}
 use Rattle.reporting.specs.Text.{Ending, ReportValues, reportText, refusalText}
 use Rattle.running.specs.declared.RunStatus.the-variants as statuses
-use Rattle.running.specs.Execution.{Result, refusedAt, ended, unfinished, resultOf}
+use Rattle.running.specs.Execution.{Result, refusedAt, ended, unfinished, firstOutOfRange, deliveryByte, resultOf}
 use Rattle.running.specs.Report.{reportValuesOf, textOf}
 use Rattle.running.specs.Code.{tooShort, report, refusal, answerIn, runOn}
 
@@ -35,11 +41,41 @@ AllowedResult n (refusedAt number byte) = ByStart number ⊎ ByDelivery number
 AllowedResult n (ended e m used) = RunInvariant m × (used ≤ n)
 AllowedResult n unfinished = ⊥
 
+-- ---- the byte that a refusal names
+
+-- Number n, from 0, of these readings is out of range, and the first that is.
+pub record FirstOut (rs : List ℤ) (n : ℕ) : Type 0 where
+  pub there : n < length rs
+  pub out : IsReading (getD rs n (pos 0)) → ⊥
+  pub before : (k : ℕ) → k < n → IsReading (getD rs k (pos 0))
+
+-- 8 names the reading: at this byte stands a reading of entry i that is out of range, the first that is.
+pub record NamesReading (c : List ℕ) (i byte : ℕ) : Type 0 where
+  -- its number among the entry's readings, from 0
+  pub number : ℕ
+  pub there : number < four c (entryByte i + 4)
+  pub named : byte ≡ four c (entryByte i + 8) + 4 * number
+  pub out : IsReading (signedFour c byte) → ⊥
+  pub before : (k : ℕ) → k < number → IsReading (signedFour c (four c (entryByte i + 8) + 4 * k))
+
+abbrev pub AxesFit : List ℕ → Type 0
+AxesFit c = (1 ≤ four c 0) × (four c 0 ≤ 8)
+
+abbrev pub BudgetFits : List ℕ → Type 0
+BudgetFits c = (1 ≤ four c 4) × (four c 4 ≤ 8192)
+
 pub record ExecutionFacts : Type 0 where
   -- 10 comes of a broken form, before all, with the byte that the form names
   pub malformed : (c : List ℕ) (f : Fault) → formOf c ≡ broken f → resultOf c ≡ refusedAt 10 (f .byte)
   -- and of nothing else: a file of the right form is refused by 1, 2, 7 or 8, or it ends
   pub well-formed : (c : List ℕ) → formOf c ≡ formed → AllowedResult (entryCount c) (resultOf c)
+  -- numbers 1 and 2 name bytes 0 and 4
+  pub axes-refused : (c : List ℕ) → formOf c ≡ formed → (AxesFit c → ⊥) → resultOf c ≡ refusedAt 1 0
+  pub budget-refused : (c : List ℕ) → formOf c ≡ formed → AxesFit c → (BudgetFits c → ⊥) → resultOf c ≡ refusedAt 2 4
+  -- 7 names the entry's count field, 8 the reading; that the entry is the one refused is `RefusedBy` (crate `program_calls`)
+  pub count-byte : (c : List ℕ) (i : ℕ) → deliveryByte c i 7 ≡ entryByte i + 4
+  pub reading-byte : (c : List ℕ) (i : ℕ) → inRange (entryOf c i .readings) ≡ false → NamesReading c i (deliveryByte c i 8)
+  pub named-reading : (rs : List ℤ) (k : ℕ) → k < length rs → (IsReading (getD rs k (pos 0)) → ⊥) → FirstOut rs (firstOutOfRange rs)
   -- the first 38,937 bytes decide what is printed: a program need not read more
   pub decided : (c : List ℕ) → 38937 ≤ length c → textOf (take 38937 c) ≡ textOf c
   pub ends : (c : List ℕ) → resultOf c ≡ unfinished → ⊥
