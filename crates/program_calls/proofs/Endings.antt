@@ -1,4 +1,4 @@
--- Only a run that is met prints a text whose last line is `end met`.
+-- Only a run that is met prints a text whose last line is `end met`, and so of the other endings.
 -- The idea: the byte before the last is a digit in a refusal, and the byte before that differs in the three endings.
 -- Assumes nothing.
 use mathlib.Core.Path.{_≡_, refl, ap, sym, _∙_, subst}
@@ -14,7 +14,7 @@ use Rattle.area.specs.Log.{Machine}
 use Rattle.machine.specs.Steps.{started}
 use Rattle.jobfile.specs.Form.{Form, formed, broken, formOf}
 use Rattle.reporting.specs.Decimal.{decimal, signedDecimal}
-use Rattle.reporting.specs.Text.{space, feed, line, axesWord, oldWord, activeWord, wantedWord, reservedWord, pendingWord, ceilingWord, scaledWord, unusedWord, endWord, refusedWord, atWord, met, spent, short, endingWord, ReportValues, reportText, refusalText}
+use Rattle.reporting.specs.Text.{space, feed, line, axesWord, oldWord, activeWord, wantedWord, reservedWord, pendingWord, ceilingWord, scaledWord, unusedWord, endWord, refusedWord, atWord, Ending, met, spent, short, endingWord, ReportValues, reportText, refusalText}
 use Rattle.reporting.proofs.Facts.{text-facts}
 use Rattle.running.specs.Execution.{Result, refusedAt, ended, unfinished, execution, stepLimit, startByte, startCause, resultIn, resultOf, fileSettings}
 use Rattle.running.specs.Report.{reportValuesOf, textIn}
@@ -55,29 +55,38 @@ report-ends f h =
     ++ line unusedWord (decimal (f .unused)))
     (line endWord (endingWord (f .ending))) h
 
-met-line : EndsIn 3 101 (line endWord (endingWord met))
-unfolding line endingWord
-met-line = record { long = omega arith; byte = refl }
+-- the third byte from the end, which tells the endings apart; the second is the same of all
+abbrev third : Ending → ℕ
+third met = 101
+third spent = 110
+third short = 114
 
-met-line-too : EndsIn 2 116 (line endWord (endingWord met))
-unfolding line endingWord
-met-line-too = record { long = omega arith; byte = refl }
+told : (e d : Ending) → third e ≡ third d → e ≡ d
+told e d q = sym (back e) ∙ ap ending-of q ∙ back d
+  where
+    ending-of : ℕ → Ending
+    ending-of v = cond (eqb v 101) met (cond (eqb v 110) spent short)
 
-spent-line : EndsIn 3 110 (line endWord (endingWord spent))
-unfolding line endingWord
-spent-line = record { long = omega arith; byte = refl }
+    back : (x : Ending) → ending-of (third x) ≡ x
+    back met = refl
+    back spent = refl
+    back short = refl
 
-short-line : EndsIn 3 114 (line endWord (endingWord short))
+third-there : (e : Ending) → EndsIn 3 (third e) (line endWord (endingWord e))
 unfolding line endingWord
-short-line = record { long = omega arith; byte = refl }
+third-there met = record { long = omega arith; byte = refl }
+third-there spent = record { long = omega arith; byte = refl }
+third-there short = record { long = omega arith; byte = refl }
 
-spent-report : (m : Machine) (u : ℕ) → EndsIn 3 110 (reportText (reportValuesOf spent m u))
+second-there : (e : Ending) → EndsIn 2 116 (line endWord (endingWord e))
+unfolding line endingWord
+second-there met = record { long = omega arith; byte = refl }
+second-there spent = record { long = omega arith; byte = refl }
+second-there short = record { long = omega arith; byte = refl }
+
+third-report : (e : Ending) (m : Machine) (u : ℕ) → EndsIn 3 (third e) (reportText (reportValuesOf e m u))
 unfolding reportValuesOf
-spent-report m u = report-ends (reportValuesOf spent m u) spent-line
-
-short-report : (m : Machine) (u : ℕ) → EndsIn 3 114 (reportText (reportValuesOf short m u))
-unfolding reportValuesOf
-short-report m u = report-ends (reportValuesOf short m u) short-line
+third-report e m u = report-ends (reportValuesOf e m u) (third-there e)
 
 -- ---- a refusal
 
@@ -106,20 +115,17 @@ module _ (n b : ℕ) where
       before-last (refusedWord ++ space ∷ decimal n ++ space ∷ atWord ++ space ∷ decimal b) feed
       (after (refusedWord ++ space ∷ decimal n ++ space ∷ atWord) (space ∷ decimal b) digit-there)
 
-  not-met : EndsIn 2 116 (refusalText n b) → ⊥
-  not-met h = omega (arith, one-byte h refusal-ends, text-facts .digits b (length (decimal b) - 1) (omega (arith, text-facts .some b)) .1)
+  no-letter : EndsIn 2 116 (refusalText n b) → ⊥
+  no-letter h = omega (arith, one-byte h refusal-ends, text-facts .digits b (length (decimal b) - 1) (omega (arith, text-facts .some b)) .1)
 
 -- ---- what a text tells of the result
 
-pub only-met : (n : ℕ) (r : Result) (before : List ℕ) → textIn n r ≡ before ++ line endWord (endingWord met) → (m : Machine) × (used : ℕ) × (r ≡ ended met m used)
+pub only-ended : (e : Ending) (n : ℕ) (r : Result) (before : List ℕ) → textIn n r ≡ before ++ line endWord (endingWord e) → (m : Machine) × (used : ℕ) × (r ≡ ended e m used)
 unfolding textIn
-only-met n (refusedAt number byte) before e = absurd (not-met number byte (subst (EndsIn 2 116) (sym e) (after before _ met-line-too)))
-only-met n (ended met m used) before e = (m, used, refl)
-only-met n (ended spent m used) before e =
-    absurd (omega (arith, one-byte (subst (EndsIn 3 101) (sym e) (after before _ met-line)) (spent-report m (n - used))))
-only-met n (ended short m used) before e =
-    absurd (omega (arith, one-byte (subst (EndsIn 3 101) (sym e) (after before _ met-line)) (short-report m (n - used))))
-only-met n unfinished before e = absurd (omega (arith, subst (EndsIn 2 116) (sym e) (after before _ met-line-too) .long))
+only-ended e n (refusedAt number byte) before q = absurd (no-letter number byte (subst (EndsIn 2 116) (sym q) (after before _ (second-there e))))
+only-ended e n (ended d m used) before q =
+    (m, used, ap (λ x. ended x m used) (told d e (one-byte (third-report d m (n - used)) (subst (EndsIn 3 (third e)) (sym q) (after before _ (third-there e))))))
+only-ended e n unfinished before q = absurd (omega (arith, subst (EndsIn 2 116) (sym q) (after before _ (second-there e)) .long))
 
 -- ---- a file that start refuses
 
@@ -129,24 +135,24 @@ refused-start c right e =
     ap (λ x. resultIn x c) right
     ∙ ap (λ t. cond t (execution c stepLimit (started (fileSettings c)) 0) (refusedAt (startCause c) (startByte (startCause c)))) e
 
--- ---- a file whose execution ends met
+-- ---- a file whose execution ends
 
-module _ (c : List ℕ) (m : Machine) (used : ℕ) (is : resultOf c ≡ ended met m used) where
-  apart : (n b : ℕ) → refusedAt n b ≡ ended met m used → ⊥
-  apart n b e = let z : _≡_ {A = ℕ} 0 1 = cc in omega arith
+module _ (c : List ℕ) (e : Ending) (m : Machine) (used : ℕ) (is : resultOf c ≡ ended e m used) where
+  apart : (n b : ℕ) → refusedAt n b ≡ ended e m used → ⊥
+  apart n b q = let z : _≡_ {A = ℕ} 0 1 = cc in omega arith
 
   -- it has the right form
   pub right-form : formOf c ≡ formed
   right-form = by (formOf c) refl
     where
       by : (t : Form) → formOf c ≡ t → formOf c ≡ formed
-      by formed e = e
-      by (broken f) e = absurd (apart 10 (f .byte) (sym (execution-facts .malformed c f e) ∙ is))
+      by formed q = q
+      by (broken f) q = absurd (apart 10 (f .byte) (sym (execution-facts .malformed c f q) ∙ is))
 
   -- and start accepts it
   pub start-accepts-it : startCause c ≡ 0
   start-accepts-it = by (eqb (startCause c) 0) refl
     where
       by : (t : Bool) → eqb (startCause c) 0 ≡ t → startCause c ≡ 0
-      by true e = eqb-true (startCause c) 0 e
-      by false e = absurd (apart (startCause c) (startByte (startCause c)) (sym (refused-start c right-form e) ∙ is))
+      by true q = eqb-true (startCause c) 0 q
+      by false q = absurd (apart (startCause c) (startByte (startCause c)) (sym (refused-start c right-form q) ∙ is))

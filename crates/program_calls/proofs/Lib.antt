@@ -2,4 +2,5 @@
 pub mod Answers
 pub mod Steps
 pub mod Endings
+pub mod Loops
 pub mod Facts

@@ -8,7 +8,7 @@ use mathlib.Core.Bool.{Bool, true, false, cond}
 use mathlib.Core.List.{List, [], _∷_}
 use Prim.Native.Nat.{ℕ, zero, suc, _+_}
 use native.Mathlib.Omega.{arith}
-use borrow.Author.Tests.{eqb-true, eqb-false, leb-true}
+use borrow.Author.Tests.{eqb-true, eqb-false, leb-true, leb-false}
 use lib.Dec.{leb, eqb}
 use lib.IntN.{ℤ}
 use Rattle.area.specs.Log.{Log, Machine}
@@ -27,7 +27,10 @@ use Rattle.jobfile.specs.Form.{entryCount}
 use Rattle.jobfile.specs.File.{entryOf}
 use Rattle.reporting.specs.Text.{Ending, met, spent, short}
 use Rattle.running.specs.Execution.{Result, refusedAt, ended, unfinished, deliveryCause, deliveryByte, byOutcome, execution, fileSettings}
+use Rattle.running.specs.Facts.{NamesReading}
 use Rattle.running.proofs.Ends.{delivery-numbers}
+use Rattle.running.proofs.NamedBytes.{range-only}
+use Rattle.running.proofs.Facts.{execution-facts}
 use Rattle.program_calls.specs.Calls.{ownPart, ownLent, lent, entryCall, goesOnAfter, goesOn, followedBy, callsFrom, nextEntry, deliveriesFrom}
 use Rattle.program_calls.specs.Facts.{Taken, LastAnswer, EndingAnswers, EndsBy, RefusedBy, ResultBy}
 use Rattle.program_calls.proofs.Answers.{deliver-cause, deliver-taken, deliver-refused, promote-clear, promote-answer, goes-on, stops, only, after-taken}
@@ -44,7 +47,18 @@ module _ (c : List ℕ) (l : Log) (i : ℕ) (x : Call) (xs : List Call) (t : Tak
   one-more : (r : Result) → ResultBy c (logStep l (lent x)) (nextEntry i x) xs r → ResultBy c l i (x ∷ xs) r
   unfolding lendAll answersBy logAfter deliveriesFrom
   one-more (refusedAt number byte) o =
-      record { cause = o .cause; answers = after-taken _ _ _ t (o .answers); entry = o .entry; last = o .last; named = o .named }
+      record {
+        cause = o .cause;
+        answers = after-taken _ _ _ t (o .answers);
+        entry = o .entry;
+        there = o .there;
+        last = o .last;
+        before = x ∷ o .before;
+        delivery = ap (λ ys. x ∷ ys) (o .delivery);
+        named = o .named;
+        count-field = o .count-field;
+        reading = o .reading;
+      }
   one-more (ended e m used) o = record { state = o .state; settings = o .settings; answers = ending-too e m used (o .answers); entries = o .entries }
   one-more unfinished o = tt
 
@@ -91,10 +105,10 @@ module _ (c : List ℕ) where
             moved-fine m f ownLent (deliver (entryOf c i .readings) (entryOf c i .indicator)) (deliver-cause (m .log) (entryOf c i .readings) (entryOf c i .indicator) ∙ none)
 
     -- its delivery is refused
-    refusing : anyWanted (l .entries) ≡ true → eqb (deliveryCause c m i) 0 ≡ false
+    refusing : anyWanted (l .entries) ≡ true → leb (entryCount c) i ≡ false → eqb (deliveryCause c m i) 0 ≡ false
         → ResultBy c l i (followedBy l (entryCall c i) next) (refusedAt (deliveryCause c m i) (deliveryByte c i (deliveryCause c m i)))
     unfolding goesOn
-    refusing some e =
+    refusing some left e =
         subst (λ xs. RefusedBy c l i xs (deliveryCause c m i) (deliveryByte c i (deliveryCause c m i)))
         (sym (stops l (entryCall c i) (answer (refused (deliveryCause c m i))) next said refl)) last-one
       where
@@ -108,8 +122,13 @@ module _ (c : List ℕ) where
               cause = delivery-numbers m (entryOf c i .readings) (f .sound) some e;
               answers = only _ _ said;
               entry = i;
+              there = leb-false (entryCount c) i left;
               last = omega arith;
+              before = [];
+              delivery = refl;
               named = refl;
+              count-field = λ q. ap (deliveryByte c i) q ∙ execution-facts .count-byte c i;
+              reading = λ q. subst (NamesReading c i) (ap (deliveryByte c i) (sym q)) (execution-facts .reading-byte c i (range-only (m .log) (entryOf c i .readings) q));
             }
 
     with-wanted : anyWanted (l .entries) ≡ true → (t : Bool) → leb (entryCount c) i ≡ t
@@ -123,7 +142,7 @@ module _ (c : List ℕ) where
             → ResultBy c (m .log) i (followedBy (m .log) (entryCall c i) (callsFrom c n (logStep (m .log) (lent (entryCall c i))) (i + 1)))
             (cond t (execution c n (steps.deliver m (entryOf c i .readings) (entryOf c i .indicator)) (i + 1)) (refusedAt (deliveryCause c m i) (deliveryByte c i (deliveryCause c m i))))
         step true q = delivering (eqb-true (deliveryCause c m i) 0 q)
-        step false q = refusing some q
+        step false q = refusing some e q
 
     -- ---- nothing is wanted
     module _ (free : anyWanted (l .entries) ≡ false) where

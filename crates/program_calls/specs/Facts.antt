@@ -1,10 +1,13 @@
 -- The program is a list of calls: the execution of a job file of the right form that start accepts is a list of the third demand, its log is
--- the one that is printed from, and where it prints `end met` the loop of Fig. 1 has ended with the result that is printed as `scaled`.
+-- the one that is printed from, and where it prints `end met` the loop of Fig. 1 has ended with the result that is printed as `scaled`; where
+-- it prints `end spent` the loop's next turn would pass the limits, and where `end short` a block is wanted still.
 use mathlib.Core.Path.{_≡_}
 use mathlib.Core.Logic.{_⊎_}
 use mathlib.Core.Bool.{true, false}
 use mathlib.Core.List.{List, [], _∷_, _++_}
-use Prim.Native.Nat.{ℕ, suc, _-_, _<_, _≤_}
+use Prim.Native.Nat.{ℕ, suc, _+_, _-_, _<_, _≤_}
+use lib.IntN.{_+ℤ_}
+use Rattle.sums.specs.Sums.{sumOf}
 use Rattle.area.specs.Log.{Log, Machine}
 use Rattle.machine.specs.Log.{anyWanted}
 use Rattle.machine.specs.Promote as rule
@@ -12,18 +15,18 @@ use Rattle.machine.specs.Steps.{startLog}
 use Rattle.machine.specs.Counts.{countOf}
 use Rattle.calls.specs.Replies.{refused, accepted, promotion}
 use Rattle.calls.specs.Table.{Call, Answer, answer}
-use Rattle.published.specs.Figure.{Problem, loopCondition, turns}
-use Rattle.published.specs.Turns.{SettingsMatch, ReadingValued, Supplied}
+use Rattle.published.specs.Figure.{Problem, increment, loopCondition, turns}
+use Rattle.published.specs.Turns.{wantedOf, SettingsMatch, ReadingValued, Supplied, SuppliedSoFar, ExceedsLimits}
 use Rattle.history.specs.Logged.{stateOf, logAfter, answerBy, answersBy}
 use Rattle.history.specs.Storage.{Storage, Lent}
 use Rattle.history.specs.Found.{Demand}
-use Rattle.history.specs.Source.{MeanFollows, Follows, StepsFollow, lendAll}
-use Rattle.jobfile.specs.Form.{formed, formOf, entryCount}
+use Rattle.history.specs.Source.{MeanFollows, Follows, FollowsSoFar, StepsFollow, lendAll}
+use Rattle.jobfile.specs.Form.{formed, formOf, entryCount, entryByte}
 use Rattle.reporting.specs.Text.{line, endWord, Ending, met, spent, short, endingWord, reportText, refusalText}
 use Rattle.running.specs.Execution.{Result, refusedAt, ended, unfinished, deliveryByte, startByte, startCause, resultOf, fileSettings}
 use Rattle.running.specs.Report.{reportValuesOf, textOf}
-use Rattle.running.specs.Facts.{ByDelivery}
-use Rattle.program_calls.specs.Calls.{ownPart, ownLent, lent, startCall, laterCalls, programLog, deliveriesFrom}
+use Rattle.running.specs.Facts.{ByDelivery, NamesReading}
+use Rattle.program_calls.specs.Calls.{ownPart, ownLent, lent, startCall, entryCall, laterCalls, programLog, deliveriesFrom}
 
 -- ---- the answers
 
@@ -68,8 +71,15 @@ pub record RefusedBy (c : List ℕ) (l : Log) (i : ℕ) (xs : List Call) (number
   pub answers : LastAnswer (answer (refused number)) (answersBy l (lendAll ownPart xs))
   -- it is the delivery of this entry, whose count field or reading the byte names
   pub entry : ℕ
+  pub there : entry < entryCount c
   pub last : deliveriesFrom i xs ≡ suc entry
+  pub before : List Call
+  pub delivery : xs ≡ before ++ entryCall c entry ∷ []
   pub named : byte ≡ deliveryByte c entry number
+  -- 7 the count field
+  pub count-field : number ≡ 7 → byte ≡ entryByte entry + 4
+  -- 8 the first reading of this entry that is out of range
+  pub reading : number ≡ 8 → NamesReading c entry byte
 
 -- What the execution comes to, as what the calls come to. That it is never unfinished is `ExecutionFacts.ends` (crate `running`).
 abbrev pub ResultBy : List ℕ → Log → (i : ℕ) → List Call → Result → Type 0
@@ -88,6 +98,24 @@ pub record LoopEnded (P : Problem) (c : List ℕ) (m : Machine) (used n : ℕ) :
   pub over : loopCondition P (turns P n) ≡ false
   -- and what is printed as `scaled` is its r
   pub scaled : reportValuesOf met m (entryCount c - used) .scaled ≡ turns P n .result
+
+-- The run is *spent* at the state m: n turns are made, and after the next one 𝒪 and 𝒜 would be past the limits.
+pub record LoopSpent (P : Problem) (c : List ℕ) (m : Machine) (used n : ℕ) : Type 0 where
+  -- Fig. 1 has the log's state
+  pub follows : Follows P (programLog c) n
+  -- its test held before each turn, and holds after them still
+  pub went-on : (k : ℕ) → k < n → loopCondition P (turns P k) ≡ true
+  pub not-over : loopCondition P (turns P n) ≡ true
+  pub exceeds : ExceedsLimits (fileSettings c .budget) (turns P (suc n))
+  -- and what is printed as `scaled` is its r so far
+  pub scaled : reportValuesOf spent m (entryCount c - used) .scaled ≡ turns P n .result
+
+-- The run is *short* at the state m: n turns are begun, and of the last, or of the lines before the loop, a block is wanted still.
+pub record LoopShort (P : Problem) (c : List ℕ) (m : Machine) (used n : ℕ) : Type 0 where
+  -- Fig. 1 has the log's state but for what is wanted
+  pub follows : FollowsSoFar P (programLog c) n
+  -- and what is printed as `scaled` is its r without the increments of the wanted
+  pub scaled : reportValuesOf short m (entryCount c - used) .scaled +ℤ sumOf (wantedOf (programLog c .entries)) (increment P) ≡ turns P n .result
 
 -- ---- the program
 
@@ -124,10 +152,40 @@ pub record EndMet (c : List ℕ) : Type 0 where
   pub loop : (P : Problem) → SettingsMatch (fileSettings c) P → Supplied P (programLog c .entries) → LoopEnded P c state used (countOf 2 (programLog c .entries))
   pub problem : (P : Problem) × SettingsMatch (fileSettings c) P × ReadingValued P × Supplied P (programLog c .entries)
 
+-- Of every list of bytes whose text has `end spent` as its last line:
+pub record EndSpent (c : List ℕ) : Type 0 where
+  -- it is a file of the right form that start accepts, and its execution ends *spent*
+  pub right : formOf c ≡ formed
+  pub starts : startCause c ≡ 0
+  pub state : Machine
+  pub used : ℕ
+  pub result : resultOf c ≡ ended spent state used
+  -- the loop of Fig. 1 has not ended, and its next turn would pass the limits, for every problem that gives the file's readings and indicators;
+  -- there is one
+  pub loop : (P : Problem) → SettingsMatch (fileSettings c) P → Supplied P (programLog c .entries) → LoopSpent P c state used (countOf 2 (programLog c .entries))
+  pub problem : (P : Problem) × SettingsMatch (fileSettings c) P × ReadingValued P × Supplied P (programLog c .entries)
+
+-- Of every list of bytes whose text has `end short` as its last line:
+pub record EndShort (c : List ℕ) : Type 0 where
+  -- it is a file of the right form that start accepts, and its execution ends *short*
+  pub right : formOf c ≡ formed
+  pub starts : startCause c ≡ 0
+  pub state : Machine
+  pub used : ℕ
+  pub result : resultOf c ≡ ended short state used
+  -- entries exhausted, block wanted
+  pub exhausted : used ≡ entryCount c
+  pub wanted : anyWanted (programLog c .entries) ≡ true
+  -- the log follows Fig. 1 but for what is wanted, for every problem that gives the readings and indicators delivered; there is one
+  pub loop : (P : Problem) → SettingsMatch (fileSettings c) P → SuppliedSoFar P (programLog c .entries) → LoopShort P c state used (countOf 2 (programLog c .entries))
+  pub problem : (P : Problem) × SettingsMatch (fileSettings c) P × ReadingValued P × SuppliedSoFar P (programLog c .entries)
+
 pub record ProgramFacts : Type 0 where
   pub calls : (c : List ℕ) → formOf c ≡ formed → startCause c ≡ 0 → ProgramIsCalls c
   -- a file that start refuses: that is its only call, and it is refused by the number that is printed
   pub start-refused : (c : List ℕ) → formOf c ≡ formed → (startCause c ≡ 0 → ⊥) → (l : Log)
       → (answerBy ownLent l (startCall c) ≡ answer (refused (startCause c))) × (textOf c ≡ refusalText (startCause c) (startByte (startCause c)))
-  -- where it prints `end met`
+  -- where it prints `end met`, `end spent` and `end short`
   pub end-met : (c before : List ℕ) → textOf c ≡ before ++ line endWord (endingWord met) → EndMet c
+  pub end-spent : (c before : List ℕ) → textOf c ≡ before ++ line endWord (endingWord spent) → EndSpent c
+  pub end-short : (c before : List ℕ) → textOf c ≡ before ++ line endWord (endingWord short) → EndShort c

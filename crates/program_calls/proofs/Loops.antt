@@ -1,0 +1,130 @@
+-- Where a run ends, beside the loop of Fig. 1.
+-- The idea: the state that is printed is the one that the log after the calls stands for, and that log follows Fig. 1; what promote answers at
+-- it says whether the loop's test holds, and whether the next turn passes the limits.
+-- Assumes nothing.
+use mathlib.Core.Path.{_≡_, refl, ap, sym, _∙_, subst}
+use mathlib.Core.Bool.{Bool, true, false}
+use mathlib.Core.List.{List}
+use Prim.Native.Nat.{ℕ, suc, _-_}
+use native.Mathlib.Omega.{arith}
+use lib.IntN.{_+ℤ_}
+use Rattle.sums.specs.Sums.{sumOf}
+use Rattle.area.specs.declared.Settings.{Settings}
+use Rattle.area.specs.Settings.{SettingsFit}
+use Rattle.area.specs.Log.{Log, Machine}
+use Rattle.machine.specs.Log.{anyWanted}
+use Rattle.machine.specs.Promote as rule
+use Rattle.machine.specs.Steps.{startLog}
+use Rattle.machine.specs.Counts.{countOf, countsOf}
+use Rattle.machine.specs.Means.{crossOf}
+use Rattle.calls.specs.Replies.{promotion}
+use Rattle.calls.specs.Table.{promote, answer}
+use Rattle.published.specs.Figure.{Problem, increment, loopCondition, turns}
+use Rattle.published.specs.Turns.{wantedOf, SettingsMatch, ReadingValued, Supplied, SuppliedSoFar, ExceedsLimits}
+use Rattle.history.specs.Logged.{stateOf, answerBy}
+use Rattle.history.specs.Source.{Follows, FollowsSoFar, StepsFollow}
+use Rattle.jobfile.specs.Form.{entryCount}
+use Rattle.reporting.specs.Text.{Ending, met, spent, short}
+use Rattle.running.specs.Execution.{fileSettings}
+use Rattle.running.specs.Report.{reportValuesOf}
+use Rattle.program_calls.specs.Calls.{ownLent, laterCalls, programLog}
+use Rattle.program_calls.specs.Facts.{EndsBy, LoopEnded, LoopSpent, LoopShort}
+use Rattle.program_calls.proofs.Answers.{promote-answer}
+
+module _ (c : List ℕ) (fit : SettingsFit (fileSettings c)) (follows : StepsFollow (programLog c)) where
+  -- as many turns as old indices
+  abbrev made : ℕ
+  made = countOf 2 (programLog c .entries)
+
+  abbrev Ends : Ending → Machine → ℕ → Type 0
+  Ends e m used = EndsBy c (startLog (fileSettings c)) 0 (laterCalls c) e m used
+
+  module _ (e : Ending) (m : Machine) (used : ℕ) (ends : Ends e m used) where
+    pub state-is : m ≡ stateOf (programLog c)
+    state-is = unfold programLog in ends .state
+
+    log-same : m .log ≡ programLog c
+    log-same = ap (λ (x : Machine). x .log) state-is ∙ unfold stateOf in refl
+
+    settings-are : programLog c .settings ≡ fileSettings c
+    settings-are = ap (λ (o : Log). o .settings) (sym log-same) ∙ ends .settings
+
+    posed-here : (P : Problem) → SettingsMatch (fileSettings c) P → SettingsMatch (programLog c .settings) P
+    posed-here P posed = subst (λ s. SettingsMatch s P) (sym settings-are) posed
+
+    -- what is printed as `scaled` is the log's mean
+    scaled-is : reportValuesOf e m (entryCount c - used) .scaled ≡ crossOf (programLog c .entries)
+    scaled-is = unfold reportValuesOf countsOf in ap (λ (x : Machine). x .mean) state-is ∙ unfold stateOf in refl
+
+    -- ---- with nothing wanted, where promote has this outcome
+    module _ (o : rule.Outcome) (none : anyWanted (m .log .entries) ≡ false) (is : rule.promote (m .log) .outcome ≡ o) where
+      free : anyWanted (programLog c .entries) ≡ false
+      free = subst (λ (x : Log). anyWanted (x .entries) ≡ false) log-same none
+
+      outcome : rule.promote (programLog c) .outcome ≡ o
+      outcome = subst (λ (x : Log). rule.promote x .outcome ≡ o) log-same is
+
+      again : answerBy ownLent (programLog c) promote ≡ answer (promotion o)
+      again = promote-answer (programLog c) (subst SettingsFit (sym settings-are) fit) free ∙ ap (λ x. answer (promotion x)) outcome
+
+      there : (P : Problem) → SettingsMatch (fileSettings c) P → Supplied P (programLog c .entries) → Follows P (programLog c) made
+      there P posed supplied = follows .every P (posed-here P posed) supplied
+
+      posed-problem : (P : Problem) × SettingsMatch (fileSettings c) P × ReadingValued P × Supplied P (programLog c .entries)
+      posed-problem =
+          let x = follows .some (λ q. let clash : true ≡ false = sym q ∙ free in let z : _≡_ {A = ℕ} 0 1 = cc in omega arith) in
+          (x .0, subst (λ s. SettingsMatch s (x .0)) settings-are (x .1), x .2, x .3)
+
+  -- ---- met
+  module _ (m : Machine) (used : ℕ) (ends : Ends met m used) where
+    pub loop-ended : (P : Problem) → SettingsMatch (fileSettings c) P → Supplied P (programLog c .entries) → LoopEnded P c m used made
+    loop-ended P posed supplied =
+        record { follows = here; went-on = here .went-on; over = over-by (loopCondition P (turns P made)) refl; scaled = scaled-is met m used ends ∙ here .result }
+      where
+        here : Follows P (programLog c) made
+        here = there met m used ends rule.met (ends .answers .1) (ends .answers .2) P posed supplied
+
+        over-by : (t : Bool) → loopCondition P (turns P made) ≡ t → loopCondition P (turns P made) ≡ false
+        over-by true q = absurd (here .goes-on ownLent q (again met m used ends rule.met (ends .answers .1) (ends .answers .2)))
+        over-by false q = q
+
+    pub met-problem : (P : Problem) × SettingsMatch (fileSettings c) P × ReadingValued P × Supplied P (programLog c .entries)
+    met-problem = posed-problem met m used ends rule.met (ends .answers .1) (ends .answers .2)
+
+  -- ---- spent
+  module _ (m : Machine) (used : ℕ) (ends : Ends spent m used) where
+    pub loop-spent : (P : Problem) → SettingsMatch (fileSettings c) P → Supplied P (programLog c .entries) → LoopSpent P c m used made
+    loop-spent P posed supplied =
+        record {
+          follows = here;
+          went-on = here .went-on;
+          not-over = why .0;
+          exceeds = subst (λ (s : Settings). ExceedsLimits (s .budget) (turns P (suc made))) (settings-are spent m used ends) (why .1);
+          scaled = scaled-is spent m used ends ∙ here .result;
+        }
+      where
+        here : Follows P (programLog c) made
+        here = there spent m used ends rule.spent (ends .answers .1) (ends .answers .2) P posed supplied
+
+        why : (loopCondition P (turns P made) ≡ true) × ExceedsLimits (programLog c .settings .budget) (turns P (suc made))
+        why = here .spent-only ownLent (again spent m used ends rule.spent (ends .answers .1) (ends .answers .2))
+
+    pub spent-problem : (P : Problem) × SettingsMatch (fileSettings c) P × ReadingValued P × Supplied P (programLog c .entries)
+    spent-problem = posed-problem spent m used ends rule.spent (ends .answers .1) (ends .answers .2)
+
+  -- ---- short
+  module _ (m : Machine) (used : ℕ) (ends : Ends short m used) where
+    pub still-wanted : anyWanted (programLog c .entries) ≡ true
+    still-wanted = subst (λ (x : Log). anyWanted (x .entries) ≡ true) (log-same short m used ends) (ends .answers .1)
+
+    pub loop-short : (P : Problem) → SettingsMatch (fileSettings c) P → SuppliedSoFar P (programLog c .entries) → LoopShort P c m used made
+    loop-short P posed supplied =
+        record { follows = here; scaled = ap (λ z. z +ℤ sumOf (wantedOf (programLog c .entries)) (increment P)) (scaled-is short m used ends) ∙ here .result }
+      where
+        here : FollowsSoFar P (programLog c) made
+        here = follows .every-moment P (posed-here short m used ends P posed) supplied
+
+    pub short-problem : (P : Problem) × SettingsMatch (fileSettings c) P × ReadingValued P × SuppliedSoFar P (programLog c .entries)
+    short-problem =
+        let x = follows .some-moment in
+        (x .0, subst (λ s. SettingsMatch s (x .0)) (settings-are short m used ends) (x .1), x .2, x .3)
