@@ -1,19 +1,23 @@
 -- What soundness gives, proved. Assumes nothing.
-use mathlib.Core.Path.{_≡_, sym, ap, subst}
+use mathlib.Core.Path.{_≡_, sym, ap, _∙_, subst}
 use mathlib.Core.List.{List, List·Memᴰ}
 use Prim.Native.Nat.{ℕ, _<_, _≤_}
 use native.Mathlib.Omega.{arith}
-use lib.ListN.{length}
+use lib.IntN.{ℤ}
+use lib.ListN.{length, length-take}
 use lib.Seq.{getD-take, length-take-le}
 use Rattle.area.specs.declared.IndexRecord.{IndexRecord}
-use Rattle.area.specs.Records.{blank}
+use Rattle.area.specs.declared.JobRecord.{JobRecord}
+use Rattle.area.specs.Records.{recordsOf, blank}
 use Rattle.area.specs.Settings.{leastStore}
-use Rattle.area.specs.Encoding.{Area, heldOf}
+use Rattle.area.specs.Encoding.{Area, areaOf, heldOf}
+use Rattle.area.proofs.Records.{length-recordsOf, eight-levels}
 use Rattle.quadrature.specs.Readings.{recordAt}
 use Rattle.quadrature.specs.Ready.{Ready, AllReady}
 use Rattle.quadrature.specs.Linked.{deliveredIn}
 use Rattle.quadrature.proofs.Delivered.{delivered-sure}
 use Rattle.quadrature.proofs.Encoded.{held-ready}
+use Rattle.soundness.specs.Held.{levelsAt}
 use Rattle.soundness.specs.Sound.{Sound}
 use Rattle.soundness.specs.Facts.{LinkCheckFacts, SoundFacts}
 use Rattle.soundness.proofs.Forth.{structure}
@@ -43,6 +47,13 @@ module _ (a : Area) (sound : Sound a) (room : leastStore (a .job .settings) ≤ 
   all-ready : AllReady (a .job .settings .axes) (a .job .held) (a .run .records) (a .store)
   all-ready = record { few = omega (arith, held-count, sound .structure .count .1); room = sound .held-lent; ready = ready-at }
 
+-- 27 cells hold eight levels
+held-eight : (j : JobRecord) (cells : List ℕ) (s : List ℤ) (p : ℕ) → p < length (heldOf (areaOf j cells s)) → length (levelsAt (heldOf (areaOf j cells s)) p) ≡ 8
+held-eight j cells s p h =
+    let l = length-take (j .held) (recordsOf cells) in
+    ap (λ (r : IndexRecord). length (r .levels)) (getD-take (j .held) (recordsOf cells) p blank (omega (arith, l, h)))
+    ∙ eight-levels cells p (omega (arith, l, h, length-recordsOf cells))
+
 pub link-check-facts : LinkCheckFacts
 link-check-facts =
     record {
@@ -50,6 +61,7 @@ link-check-facts =
       accepts = link-checked;
       tested = λ d few rs formed. reads-structure d rs few formed;
       whole = reads-area;
+      on-cells = λ j cells s. reads-area (areaOf j cells s) (held-eight j cells s);
     }
 
 pub sound-facts : SoundFacts

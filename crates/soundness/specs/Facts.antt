@@ -2,11 +2,13 @@
 use mathlib.Core.Path.{_≡_}
 use mathlib.Core.List.{List, List·Memᴰ}
 use Prim.Native.Nat.{ℕ, _<_, _≤_}
+use lib.IntN.{ℤ}
 use lib.ListN.{length}
 use Rattle.grid.specs.Terms.{DownSet}
 use Rattle.area.specs.declared.IndexRecord.{IndexRecord}
+use Rattle.area.specs.declared.JobRecord.{JobRecord}
 use Rattle.area.specs.Settings.{leastStore}
-use Rattle.area.specs.Encoding.{Area, heldOf}
+use Rattle.area.specs.Encoding.{Area, areaOf, heldOf}
 use Rattle.quadrature.specs.Ready.{Ready, AllReady}
 use Rattle.quadrature.specs.Linked.{deliveredIn, Linked}
 use Rattle.soundness.specs.Held.{levelsAt}
@@ -19,10 +21,13 @@ use Rattle.soundness.specs.Totals.{areaTest}
 pub record LinkCheckFacts : Type 0 where
   pub accepted : (d : ℕ) → d ≤ 8 → (rs : List IndexRecord) → LinkChecked d rs → Structure d rs
   pub accepts : (d : ℕ) → d ≤ 8 → (rs : List IndexRecord) → Structure d rs → LinkChecked d rs
-  -- and as a test, on records of eight levels, it says yes exactly then
+  -- and as a test, on records of eight levels, it says yes exactly then: an index has eight levels (`Index.eight`), and the test, which is handed
+  -- arrays of eight, does not count them
   pub tested : (d : ℕ) → d ≤ 8 → (rs : List IndexRecord) → ((p : ℕ) → p < length rs → length (levelsAt rs p) ≡ 8) → Exactly (linkCheckTest d rs) (Structure d rs)
-  -- and the whole test says yes exactly if the area is sound and lies in storage that is long enough
+  -- and the whole test, where the held records have eight levels, says yes exactly if the area is sound and lies in storage that is long enough
   pub whole : (a : Area) → ((p : ℕ) → p < length (heldOf a) → length (levelsAt (heldOf a) p) ≡ 8) → Exactly (areaTest a) (LongEnough a × Sound a)
+  -- over lent cells every record has eight levels, so there nothing is asked
+  pub on-cells : (j : JobRecord) (cells : List ℕ) (s : List ℤ) → Exactly (areaTest (areaOf j cells s)) (LongEnough (areaOf j cells s) × Sound (areaOf j cells s))
 
 -- In a sound area; where readings are asked for, the store is long enough:
 pub record SoundFacts : Type 0 where
