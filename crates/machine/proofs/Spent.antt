@@ -163,16 +163,18 @@ not-held : (m : Machine) (p : ℕ) (k : List ℕ) → SoundMachine m → p < len
     → Admitted (m .log .settings .axes) (m .log .entries) p k → Entered (m .log .entries) k → ⊥
 not-held m p k v inside active w h = not-entered v p inside active (w .axis) (w .among) (subst (Entered (m .log .entries)) (w .neighbour) h)
 
+-- ---- in a sound state every entry has a level for each axis
+
+pub sound-place : (m : Machine) (p : ℕ) → SoundMachine m → p < length (m .log .entries) → IndexPlace (m .log) p
+sound-place m p v h = record { inside = h; levels = omega (arith, v .index p h .eight, v .settings .axes .1) }
+
 pub admitted-facts : AdmittedFacts
 admitted-facts =
     record {
+      sound-place = sound-place;
       listed = λ l p at. (map (forward (entryAt (l .entries) p .levels)) (admittedAxes (l .settings .axes) (makeOld (l .entries) p) (entryAt (l .entries) p .levels)), new-lists l p at);
       spent = λ l p ks at these. is-spent l p at ks these;
       spent-only = λ l p ks at these. only-spent l p at ks these;
       promoted = λ l p ks at these. is-promoted l p at ks these;
       none-held = not-held;
     }
-
--- in a sound state every entry has a level for each axis
-pub sound-place : (m : Machine) (p : ℕ) → SoundMachine m → p < length (m .log .entries) → IndexPlace (m .log) p
-sound-place m p v h = record { inside = h; levels = omega (arith, v .index p h .eight, v .settings .axes .1) }

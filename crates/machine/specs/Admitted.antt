@@ -50,6 +50,8 @@ pub record IndexPlace (l : Log) (p : ℕ) : Type 0 where
 
 -- Of refining any place, whatever selected it.
 pub record AdmittedFacts : Type 0 where
+  -- in a sound state every place of an entry is one, so there the premise `IndexPlace` below asks nothing
+  pub sound-place : (m : Machine) (p : ℕ) → SoundMachine m → p < length (m .log .entries) → IndexPlace (m .log) p
   -- the admitted can be listed
   pub listed : (l : Log) (p : ℕ) → IndexPlace l p → (ks : List (List ℕ)) × ListsAdmitted l p ks
   -- *spent* exactly if they would bring the held above 512 or the reserved above the budget
