@@ -2,6 +2,7 @@
 -- The idea: what holds of every area, at the area that is lent; cells read as records are well-formed, and so are records of the struct's type.
 -- Assumes nothing.
 use Rattle.area.specs.Encoding.{areaOf}
+use Rattle.quadrature.specs.Readings.{recordAt}
 use Rattle.encoding.proofs.Facts.{encoding-facts}
 use Rattle.calls.proofs.Facts.{call-facts}
 use Rattle.records.specs.Lent.{areaOn}
@@ -17,4 +18,5 @@ unwritten =
       records-past = λ j rs s c. call-facts .past (areaOn j rs s) c;
       records-store = λ j rs s c n w f. call-facts .store (areaOn j rs s) c n (well-formed-take (j .held) rs w) f;
       typed-records = well-formed;
+      typed-run = λ rs these p h. well-formed (recordAt rs p) (these p h .0) (these p h .1);
     }
