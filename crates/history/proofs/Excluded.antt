@@ -21,7 +21,8 @@ use Rattle.grid.specs.Boundary.{pair}
 use Rattle.area.specs.Entry.{deliveredOf, readingsOf, readingIn, reservedBy, pendingOf}
 use Rattle.soundness.specs.Test.{allFrom}
 use Rattle.area.specs.Settings.{axesFit, budgetFit, readingsFor, readingCount, leastStore}
-use Rattle.area.specs.Log.{Log, withEntries}
+use Rattle.area.specs.Log.{Log, Machine, withEntries}
+use Rattle.encoding.specs.Entries.{SoundMachine}
 use Rattle.machine.specs.Log.{wanted, firstWanted, anyWanted, wantedIndex}
 use Rattle.machine.specs.Promote as rule
 use Rattle.machine.specs.Admitted.{Exceeds, IndexPlace}
@@ -55,6 +56,10 @@ spent-above l e = not-met-above l (λ m. not-met (sym m ∙ e))
   where
     not-met : rule.met ≡ rule.spent → ⊥
     not-met m = let y : _≡_ {A = ℕ} 0 1 = cc in omega arith
+
+-- in a sound state above the threshold the selected place is an entry's, which has a level for each axis
+pub selects-index : (m : Machine) → SoundMachine m → m .log .settings .threshold < pendingOf (m .log .entries) → SelectsIndex (m .log)
+selects-index m v h = admitted-facts .sound-place m (rule.selected (m .log .entries)) v (step-facts .selects (m .log) (above-not-met (m .log) h) .0) .levels
 
 -- the selected place
 module _ (l : Log) (ks : List (List ℕ)) (levels : SelectsIndex l) (these : ListsNext l ks) where
@@ -123,6 +128,7 @@ excluded =
       promoted = promoted-if;
       spent = spent-if;
       spent-only = only-if;
+      selects-index = selects-index;
       four-held = unfold rule.promote rule.promoteAt rule.refine rule.makeOld rule.madeOld rule.selected rule.firstActive rule.largest rule.isMet rule.fits rule.admittedAxes rule.passing rule.admits rule.backwardOld rule.isOld within levelsWithin excess forward backward allFrom sameLevels pair pendingOf reservedBy blockSize newCount wanted in refl;
       one-old = unfold rule.admits rule.backwardOld rule.isOld within levelsWithin excess forward backward allFrom sameLevels pair in refl;
       both-old = unfold rule.admits rule.backwardOld rule.isOld within levelsWithin excess forward backward allFrom sameLevels pair in refl;

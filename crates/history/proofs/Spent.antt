@@ -18,8 +18,6 @@ use Rattle.machine.specs.Admitted.{Exceeds}
 use Rattle.machine.specs.Steps as steps
 use Rattle.machine.specs.Causes.{Lengths}
 use Rattle.machine.proofs.Wanted.{reads-wanted}
-use Rattle.machine.proofs.Facts.{step-facts}
-use Rattle.machine.proofs.Limits.{above-not-met}
 use Rattle.machine.proofs.Spent.{sound-place, admitted-facts}
 use Rattle.calls.specs.Replies.{promotion}
 use Rattle.calls.specs.Table.{promote, answer}
@@ -30,15 +28,12 @@ use Rattle.history.specs.Excluded.{SelectsIndex, ListsNext}
 use Rattle.history.proofs.Lists.{machineAfter}
 use Rattle.history.proofs.Demand.{log-there, state-fine}
 use Rattle.history.proofs.Accepts.{promote-answer}
-use Rattle.history.proofs.Excluded.{spent-above, spent-if, promoted-if, only-if}
+use Rattle.history.proofs.Excluded.{spent-above, selects-index, spent-if, promoted-if, only-if}
 use Rattle.history.proofs.Simulation.{answered}
 
 module _ (m : Machine) (v : SoundMachine m) where
   abbrev l : Log
   l = m .log
-
-  abbrev p : ℕ
-  p = rule.selected (m .log .entries)
 
   free : (anyWanted (m .log .entries) ≡ true → ⊥) → length (m .log .entries) ≤ firstWanted (m .log .entries)
   free none = step (decLt (firstWanted (m .log .entries)) (length (m .log .entries)))
@@ -51,9 +46,8 @@ module _ (m : Machine) (v : SoundMachine m) where
       → answerBy z l promote ≡ answer (promotion o)
   answers z h k none e = promote-answer z l (tests.enough z (l .settings) h k) (free none) ∙ ap (λ o. answer (promotion o)) e
 
-  -- above the threshold the selected place is an entry's, which has a level for each axis
   levels : l .settings .threshold < pendingOf (l .entries) → SelectsIndex l
-  levels h = sound-place m p v (step-facts .selects l (above-not-met l h) .0) .levels
+  levels = selects-index m v
 
   spent-answer : (z : Lengths) (ks : List (List ℕ)) → ListsNext l ks → answerBy z l promote ≡ answer (promotion rule.spent)
       → (l .settings .threshold < pendingOf (l .entries)) × Exceeds l ks

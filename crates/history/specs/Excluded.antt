@@ -13,9 +13,9 @@ use Rattle.grid.specs.Boundary.{pair}
 use Rattle.area.specs.declared.Settings.{Settings}
 use Rattle.area.specs.Settings.{settingsOf, SettingsFit, readingCount, leastStore}
 use Rattle.area.specs.Entry.{Entry, deliveredOf, reservedBy, pendingOf}
-use Rattle.area.specs.Log.{Log, withEntries}
+use Rattle.area.specs.Log.{Log, Machine, withEntries}
 use Rattle.area.specs.Encoding.{Area, entriesOf}
-use Rattle.encoding.specs.Entries.{entryAt}
+use Rattle.encoding.specs.Entries.{entryAt, SoundMachine}
 use Rattle.machine.specs.Log.{anyWanted, wantedIndex}
 use Rattle.machine.specs.Promote as rule
 use Rattle.machine.specs.Admitted.{ListsAdmitted, Exceeds}
@@ -90,6 +90,8 @@ pub record Excluded : Type 0 where
   pub spent-only : (l : Log) (ks : List (List ℕ)) → SelectsIndex l → ListsNext l ks → rule.promote l .outcome ≡ rule.spent → (l .settings .threshold < pendingOf (l .entries)) × Exceeds l ks
   -- and promoted otherwise
   pub promoted : (l : Log) (ks : List (List ℕ)) → SelectsIndex l → ListsNext l ks → l .settings .threshold < pendingOf (l .entries) → (Exceeds l ks → ⊥) → rule.promote l .outcome ≡ rule.promoted
+  -- `SelectsIndex` asks nothing of a sound state above the threshold: there the selected index has a level for each axis
+  pub selects-index : (m : Machine) → SoundMachine m → m .log .settings .threshold < pendingOf (m .log .entries) → SelectsIndex (m .log)
   -- with four held, and six within 512 and the budget, it is promoted
   pub four-held : rule.promote fourHeld .outcome ≡ rule.promoted
   -- (2,2) is not admitted when only (2,1) is old, and is when (1,2) is old too
