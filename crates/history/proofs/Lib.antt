@@ -12,6 +12,7 @@ pub mod Demand
 pub mod Accepts
 pub mod Runs
 pub mod Excluded
+pub mod Altered
 pub mod Spent
 pub mod Answered
 pub mod Simulation

@@ -1,6 +1,7 @@
 -- Lists of calls on one work area. Read in this order: a call and what it is lent; the log, worked from the calls' arguments; the storage
 -- after the calls; what the third demand says is found; when promote is spent; the published algorithm as a list of calls; both demands over
--- lent records, and over the exported calls, whose contracts are the exported functions' own; and what the statements shut out.
+-- lent records, and over the exported calls, whose contracts are the exported functions' own; what the statements shut out; and that an
+-- altered area can be sound with another mean.
 -- The cross total goes by these names: `crossTotal` of indices and readings (`grid`), `crossOf` of entries (`machine`), `crossTotal` the
 -- call (`calls`), `total` its answer.
 pub mod LentCalls
@@ -13,3 +14,4 @@ pub mod OnRecords
 pub mod OnExports
 pub mod Functions
 pub mod Excluded
+pub mod Altered
