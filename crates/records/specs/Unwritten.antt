@@ -2,7 +2,7 @@
 -- delivered. Over lent cells and over lent record structs, whatever they hold.
 use mathlib.Core.Path.{_≡_}
 use mathlib.Core.List.{List, [], _∷_}
-use Prim.Native.Nat.{ℕ, _<_}
+use Prim.Native.Nat.{ℕ, _^_, _<_}
 use lib.IntN.{ℤ, pos}
 use lib.ListN.{length, getD}
 use mir.Val.{Val}
@@ -23,6 +23,11 @@ use Rattle.records.specs.Lent.{areaOn}
 abbrev pub RecordTyped : Type 0
 RecordTyped = (r : IndexRecord) (v : Val) → Is typed.the-row r (v ∷ []) → (length (r .levels) ≡ 8) × (length (r .links) ≡ 16)
 
+-- Numbers of 32 bits.
+abbrev pub AllWords : List ℕ → Type 0
+AllWords [] = Unit {0}
+AllWords (n ∷ ns) = (n < 2 ^ 32) × AllWords ns
+
 -- Every record of a list is a value of the struct's type, as in a run that a caller lends.
 abbrev pub TypedRun : List IndexRecord → Type 0
 TypedRun rs = (p : ℕ) → p < length rs → (v : Val) × Is typed.the-row (recordAt rs p) (v ∷ [])
@@ -39,3 +44,6 @@ pub record Unwritten : Type 0 where
   -- whose records are well-formed: each value of the struct's type is, and so every run of them, so that `WellFormed` asks nothing of a caller
   pub typed-records : RecordTyped
   pub typed-run : (rs : List IndexRecord) → TypedRun rs → WellFormed rs
+  -- and the type asks no more than this: eight levels, sixteen links, all of 32 bits
+  pub typed-value : (r : IndexRecord) → length (r .levels) ≡ 8 → length (r .links) ≡ 16
+      → AllWords (r .levels) → r .state < 2 ^ 32 → r .indicator < 2 ^ 32 → r .first < 2 ^ 32 → AllWords (r .links) → (v : Val) × Is typed.the-row r (v ∷ [])
