@@ -2,12 +2,13 @@
 //! can be made, performed and predicted.
 
 use crate::area::Area;
-use crate::calls::{self, Cause, Promotion, Totals};
+use crate::calls::{self, Cause, PointCounts, Promotion, Totals};
 
 #[derive(Clone, Debug, PartialEq, Eq)]
 pub enum Call {
     Start { axes: u32, threshold: u64, budget: u32 },
     Point { n: u64, buffer: usize },
+    Points { n: u64, buffer: usize },
     Deliver { readings: Vec<i32>, indicator: u32 },
     Promote,
     Result,
@@ -20,6 +21,11 @@ pub enum Answer {
     Started,
     /// Point's d positions.
     Point(Vec<u8>),
+    /// The counts, and d positions for each point written.
+    Points {
+        counts: PointCounts,
+        positions: Vec<u8>,
+    },
     Delivered,
     Promotion(Promotion),
     Totals(Totals),
@@ -40,6 +46,7 @@ impl Call {
         match self {
             Call::Start { .. } => "start",
             Call::Point { .. } => "point",
+            Call::Points { .. } => "points",
             Call::Deliver { .. } => "deliver",
             Call::Promote => "promote",
             Call::Result => "result",
@@ -47,10 +54,18 @@ impl Call {
             Call::Check => "check",
         }
     }
+
+    /// The length of the buffer that point and points are lent.
+    pub fn buffer_length(&self) -> Option<usize> {
+        match self {
+            Call::Point { buffer, .. } | Call::Points { buffer, .. } => Some(*buffer),
+            _ => None,
+        }
+    }
 }
 
-/// Performs a call on an area. A point call gets the buffer, which must be as
-/// long as the call says; it comes back as the call left it.
+/// Performs a call on an area. A call of point or points gets the buffer, which
+/// must be as long as the call says; it comes back as the call left it.
 pub fn perform(area: &mut Area, call: &Call, buffer: &mut [u8]) -> Answer {
     match call {
         Call::Start { axes, threshold, budget } => {
@@ -61,6 +76,15 @@ pub fn perform(area: &mut Area, call: &Call, buffer: &mut [u8]) -> Answer {
             let axes = area.job.axes as usize;
             let outcome = calls::point(area, *n, buffer);
             answer(outcome, |()| Answer::Point(buffer[..axes].to_vec()))
+        }
+        Call::Points { n, buffer: length } => {
+            assert_eq!(buffer.len(), *length);
+            let axes = area.job.axes as usize;
+            let outcome = calls::points(area, *n, buffer);
+            answer(outcome, |counts| {
+                let positions = buffer[..counts.written as usize * axes].to_vec();
+                Answer::Points { counts, positions }
+            })
         }
         Call::Deliver { readings, indicator } => {
             answer(calls::deliver(area, readings, *indicator), |()| Answer::Delivered)

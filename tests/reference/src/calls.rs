@@ -1,4 +1,4 @@
-//! The seven calls on a lent area. The storage lent is as long as the area's
+//! The eight calls on a lent area. The storage lent is as long as the area's
 //! lists of records and readings.
 //!
 //! Causes are tested in the order of the scope document's table, each in its
@@ -6,7 +6,7 @@
 //! on any content.
 
 use crate::area::{Area, IndexRecord, JobRecord, ACTIVE, OLD, WANTED};
-use crate::grid::{self, Levels, BUDGET_LIMIT, HELD_LIMIT, MOST_AXES, ROOT};
+use crate::grid::{self, Levels, Point, BUDGET_LIMIT, HELD_LIMIT, MOST_AXES, ROOT};
 use crate::soundness;
 use crate::sums::{self, Readings};
 
@@ -36,6 +36,15 @@ pub enum Promotion {
     Met,
     Spent,
     Promoted,
+}
+
+/// What points answers.
+#[derive(Clone, Copy, Debug, PartialEq, Eq)]
+pub struct PointCounts {
+    /// How many points it wrote.
+    pub written: u32,
+    /// How many points the block has.
+    pub block: u32,
 }
 
 /// What result gives.
@@ -98,21 +107,42 @@ pub fn start(area: &mut Area, axes: u32, threshold: u64, budget: u32) -> Result<
     Ok(())
 }
 
-/// Point: writes the d positions of the n-th point of the first wanted block
-/// into the buffer, later bytes untouched.
-pub fn point(area: &Area, n: u64, buffer: &mut [u8]) -> Result<(), Cause> {
+/// Causes 3, 4, 5 and 9 for the two calls that write points: points is refused
+/// exactly as point is. Gives the first wanted block, whose n-th point there is.
+fn block_asked(area: &Area, n: u64, buffer: &[u8]) -> Result<Vec<Point>, Cause> {
     if storage_short(area, area.job.budget) || (buffer.len() as u64) < u64::from(area.job.axes) {
         return Err(Cause::StorageShort);
     }
     refuse_storage_or_area(area)?;
     let place = first_wanted(area).ok_or(Cause::NoBlockWanted)?;
-    let axes = area.job.axes as usize;
-    let block = grid::block(axes, &area.records[place].levels);
+    let block = grid::block(area.job.axes as usize, &area.records[place].levels);
     if n >= block.len() as u64 {
         return Err(Cause::PointNumberTooLarge);
     }
+    Ok(block)
+}
+
+/// Point: writes the d positions of the n-th point of the first wanted block
+/// into the buffer, later bytes untouched.
+pub fn point(area: &Area, n: u64, buffer: &mut [u8]) -> Result<(), Cause> {
+    let block = block_asked(area, n, buffer)?;
+    let axes = area.job.axes as usize;
     buffer[..axes].copy_from_slice(&block[n as usize][..axes]);
     Ok(())
+}
+
+/// Points: from the n-th point of the first wanted block on, writes as many
+/// whole points as are left in the block and fit in the buffer, d bytes each,
+/// in the block's order, later bytes untouched.
+pub fn points(area: &Area, n: u64, buffer: &mut [u8]) -> Result<PointCounts, Cause> {
+    let block = block_asked(area, n, buffer)?;
+    let axes = area.job.axes as usize;
+    let mut written = 0;
+    for (room, point) in buffer.chunks_exact_mut(axes).zip(&block[n as usize..]) {
+        room.copy_from_slice(&point[..axes]);
+        written += 1;
+    }
+    Ok(PointCounts { written, block: block.len() as u32 })
 }
 
 /// Deliver: the first wanted index becomes active, its readings are stored,

@@ -9,6 +9,9 @@ use crate::grid::{self, Levels, BUDGET_LIMIT, READING_LIMIT};
 use crate::rng::Rng;
 use crate::style::{self, IndicatorStyle, ReadingStyle};
 
+/// The longest buffer lent to points; the largest block takes 16,384 bytes.
+pub const LONGEST_BUFFER: usize = 20_000;
+
 /// What the present job is meant to become.
 pub struct Parameters {
     pub axes: u32,
@@ -115,6 +118,45 @@ impl Chooser {
             false => self.rng.between(8, 12) as usize,
         };
         Call::Point { n, buffer }
+    }
+
+    /// The wanted block's axes; where none is wanted or an altered area has no
+    /// axes, those that are meant.
+    fn axes_of(&self, wanted: Option<Block>) -> usize {
+        let block = wanted.filter(|block| block.axes > 0);
+        block.map_or(self.parameters.axes as usize, |block| block.axes)
+    }
+
+    /// From any point on, with room for one point or more: for just one, for the
+    /// whole block or what is left of it, for a byte less or more than that, for
+    /// some points and a part of one, or for anything.
+    pub fn points(&mut self, wanted: Option<Block>) -> Call {
+        let (axes, size) = (self.axes_of(wanted), size_of(wanted));
+        let n = match self.rng.below(10) {
+            0..=3 => 0,
+            4 | 5 => size - 1,
+            _ => self.rng.place(size),
+        };
+        let whole = axes * self.rng.pick(&[size, size - n]);
+        let buffer = match self.rng.below(10) {
+            0 => axes,
+            1 => whole,
+            2 => whole - 1,
+            3 => whole + 1,
+            4..=7 => axes * (1 + self.rng.place(size)) + self.rng.place(axes),
+            _ => self.rng.place(LONGEST_BUFFER + 1),
+        };
+        Call::Points { n: n as u64, buffer: buffer.max(axes) }
+    }
+
+    pub fn damaged_points(&mut self, wanted: Option<Block>) -> Call {
+        let (axes, size) = (self.axes_of(wanted), size_of(wanted) as u64);
+        let n = self.rng.pick(&[size, size + 1, 2 * size, 1 << 32, u64::MAX, 0]);
+        let buffer = match self.rng.percent(40) {
+            true => self.rng.place(axes),
+            false => self.rng.place(LONGEST_BUFFER + 1),
+        };
+        Call::Points { n, buffer }
     }
 
     /// The call that carries the job on: the wanted block, or a promote.

@@ -4,10 +4,11 @@
 
 use crate::area::{Area, IndexRecord, JobRecord, WORDS};
 use crate::call::{self, Answer, Call, Lengths};
-use crate::calls::{self, Promotion};
+use crate::calls::{self, PointCounts, Promotion};
 use crate::choice::{Block, Chooser};
 use crate::demand;
 use crate::grid::{self, BUDGET_LIMIT};
+use crate::laws;
 use crate::log::{Log, Plan};
 use crate::rng::Rng;
 use std::collections::BTreeMap;
@@ -77,14 +78,14 @@ impl Driver {
         // Lend the storage at these lengths; the rest isn't there to be touched.
         let records_kept = self.area.records.split_off(lengths.records);
         let store_kept = self.area.store.split_off(lengths.store);
-        let buffer_length = match call {
-            Call::Point { buffer, .. } => buffer,
-            _ => 0,
-        };
-        let buffer_before: Vec<u8> =
-            (0..buffer_length).map(|_| self.chooser.rng.number() as u8).collect();
+        let buffer_before: Vec<u8> = (0..call.buffer_length().unwrap_or(0))
+            .map(|_| self.chooser.rng.number() as u8)
+            .collect();
         let mut buffer = buffer_before.clone();
         let answer = call::perform(&mut self.area, &call, &mut buffer);
+        if let Call::Points { n, .. } = call {
+            laws::assert_points(&self.area, n, &buffer_before);
+        }
         self.area.records.extend(records_kept);
         self.area.store.extend(store_kept);
 
@@ -95,11 +96,11 @@ impl Driver {
         self.note_answer(&call, &answer);
     }
 
-    /// The buffer's first d bytes are the point's positions; all else in it,
-    /// and all of it on a refusal, is as it was.
+    /// The buffer begins with the positions of the points written; all else in
+    /// it, and all of it on a refusal, is as it was.
     fn assert_buffer(&self, answer: &Answer, before: &[u8], after: &[u8]) {
         let written = match answer {
-            Answer::Point(positions) => positions.as_slice(),
+            Answer::Point(positions) | Answer::Points { positions, .. } => positions.as_slice(),
             _ => &[],
         };
         assert_eq!(&after[..written.len()], written);
@@ -204,12 +205,38 @@ impl Driver {
             }
             Answer::Promotion(Promotion::Met | Promotion::Spent) => self.ended = true,
             Answer::Totals(totals) => self.highest("ceiling count", u64::from(totals.ceiling)),
+            Answer::Points { counts, .. } => self.note_points(call, *counts),
             _ => {}
         }
         if self.log.job.is_some() {
             self.highest("held", u64::from(self.area.job.held));
             self.highest("reserved", u64::from(self.area.job.reserved));
         }
+    }
+
+    /// What ended the writing, and where it began.
+    fn note_points(&mut self, call: &Call, counts: PointCounts) {
+        let Call::Points { n, buffer } = *call else {
+            unreachable!("only points answers so");
+        };
+        let PointCounts { written, block } = counts;
+        let axes = self.area.job.axes as usize;
+        let last = n + u64::from(written) == u64::from(block);
+        let over = buffer - written as usize * axes;
+        let so = [
+            ("wrote a block whole", written == block),
+            ("wrote the rest of a block", last && n > 0),
+            ("wrote one point of several left", !last && written == 1),
+            ("left points for want of room", !last),
+            ("left points with room for a part of one", !last && over > 0),
+            ("wrote just what there was room for", last && over == 0),
+            ("wrote all with room for a part of one", last && over > 0 && over < axes),
+            ("wrote all with room for more", last && over >= axes),
+        ];
+        for (what, _) in so.into_iter().filter(|(_, seen)| *seen) {
+            self.count(format!("points {what}"));
+        }
+        self.highest("points written", u64::from(written));
     }
 
     /// The lengths to lend: mostly all there is, at times just enough or less.
@@ -246,14 +273,16 @@ impl Driver {
             return chooser.carry_on(wanted);
         }
         match chooser.rng.below(100) {
-            0..=11 => chooser.point(wanted),
-            12..=19 => chooser.damaged_point(wanted),
-            20..=31 => chooser.damaged_deliver(wanted),
-            32..=39 => chooser.carry_on(wanted),
-            40..=49 => Call::Promote,
-            50..=64 => Call::Result,
-            65..=76 => Call::CrossTotal,
-            77..=88 => Call::Check,
+            0..=7 => chooser.point(wanted),
+            8..=12 => chooser.damaged_point(wanted),
+            13..=22 => chooser.points(wanted),
+            23..=28 => chooser.damaged_points(wanted),
+            29..=38 => chooser.damaged_deliver(wanted),
+            39..=46 => chooser.carry_on(wanted),
+            47..=55 => Call::Promote,
+            56..=67 => Call::Result,
+            68..=78 => Call::CrossTotal,
+            79..=88 => Call::Check,
             89..=95 => chooser.damaged_start(),
             96 if chooser.parameters.steps < 95 => {
                 chooser.draw_parameters();

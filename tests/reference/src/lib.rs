@@ -1,15 +1,17 @@
 //! An independent reference for the sparse-grid integrator.
 //!
-//! Everything here is written from the scope document alone and follows its
-//! sentences as literally as possible. It is a test and not a delivery: where
-//! a choice lay between clear and fast, it is clear.
+//! Everything here is written from the scope document alone, the call points
+//! from the text that asks for it, and follows their sentences as literally as
+//! possible. It is a test and not a delivery: where a choice lay between clear
+//! and fast, it is clear.
 //!
 //! From the inside out:
 //! - [`rule`] and [`trapezoid`]: the rule along one axis, twice;
 //! - [`grid`] and [`sums`]: indices, blocks, differences, tensor rules;
 //! - [`area`] and [`soundness`]: the lent storage and what makes it sound;
-//! - [`calls`]: the seven calls;
+//! - [`calls`]: the eight calls;
 //! - [`call`] and [`log`]: a list of calls and the log that predicts answers;
+//! - [`laws`]: what point says of points;
 //! - [`jobfile`], [`jobtext`], [`program`], [`replay`]: job files and reports;
 //! - [`rng`], [`style`], [`generate`], [`damage`], [`survey`]: job files by seed;
 //! - [`cases`], [`vectors`]: job files by name, and many in one;
@@ -33,6 +35,7 @@ pub mod generate;
 pub mod grid;
 pub mod jobfile;
 pub mod jobtext;
+pub mod laws;
 pub mod log;
 pub mod program;
 pub mod pump;

@@ -6,7 +6,7 @@
 //! log's entries; only indices and sums are shared with the calls.
 
 use crate::call::{Answer, Call, Lengths};
-use crate::calls::{Cause, Promotion, Totals};
+use crate::calls::{Cause, PointCounts, Promotion, Totals};
 use crate::grid::{self, Levels, ROOT};
 use crate::rule;
 use crate::sums::{self, Readings};
@@ -138,6 +138,28 @@ impl Job {
         positions
     }
 
+    /// The index of the block that point and points ask about and its size, or
+    /// what refuses them by the log.
+    fn block_asked(&self, n: u64) -> Result<(Levels, u64), Cause> {
+        let wanted = self.first_wanted().ok_or(Cause::NoBlockWanted)?;
+        let levels = self.entries[wanted].levels;
+        let size = grid::block_size(&levels) as u64;
+        if n >= size {
+            return Err(Cause::PointNumberTooLarge);
+        }
+        Ok((levels, size))
+    }
+
+    /// The points from the n-th on, as many as are left and as a buffer of this
+    /// length has whole room for, worked out before the first is.
+    fn points(&self, n: u64, buffer: usize) -> Result<Answer, Cause> {
+        let (levels, size) = self.block_asked(n)?;
+        let written = (size - n).min((buffer / self.axes) as u64);
+        let positions = (n..n + written).flat_map(|number| self.point(&levels, number)).collect();
+        let counts = PointCounts { written: written as u32, block: size as u32 };
+        Ok(Answer::Points { counts, positions })
+    }
+
     /// Promote's rule worked on the log, when no block is wanted.
     pub fn plan(&self) -> Plan {
         if self.pending() <= self.threshold {
@@ -216,7 +238,7 @@ impl Log {
         }
         let job = self.job.as_mut().expect("a start was accepted before");
         let short = lengths.records < 512 || (lengths.store as u64) < u64::from(job.budget);
-        let buffer_short = matches!(call, Call::Point { buffer, .. } if *buffer < job.axes);
+        let buffer_short = call.buffer_length().is_some_and(|length| length < job.axes);
         if *call == Call::Check {
             return Ok(Answer::Sound(!short));
         }
@@ -226,13 +248,10 @@ impl Log {
         match call {
             Call::Start { .. } | Call::Check => unreachable!("judged above"),
             Call::Point { n, .. } => {
-                let wanted = job.first_wanted().ok_or(Cause::NoBlockWanted)?;
-                let levels = job.entries[wanted].levels;
-                if *n >= grid::block_size(&levels) as u64 {
-                    return Err(Cause::PointNumberTooLarge);
-                }
+                let (levels, _) = job.block_asked(*n)?;
                 Ok(Answer::Point(job.point(&levels, *n)))
             }
+            Call::Points { n, buffer } => job.points(*n, *buffer),
             Call::Deliver { readings, indicator } => {
                 let wanted = job.first_wanted().ok_or(Cause::NoBlockWanted)?;
                 let entry = &mut job.entries[wanted];

@@ -48,6 +48,7 @@ fn assert_all_refuse(area: &Area, cause: Cause) {
     let mut copy = area.clone();
     let mut buffer = [7u8; 12];
     assert_eq!(calls::point(area, 0, &mut buffer), Err(cause), "point");
+    assert_eq!(calls::points(area, 0, &mut buffer), Err(cause), "points");
     assert_eq!(buffer, [7; 12]);
     assert_eq!(calls::deliver(&mut copy, &[0], 0), Err(cause), "deliver");
     assert_eq!(calls::promote(&mut copy), Err(cause), "promote");

@@ -5,6 +5,17 @@ use reference::drive::drive;
 use reference::generate::{generate, Kind};
 use reference::survey;
 
+/// What points comes to as the block or the buffer ends first.
+const POINTS: [&str; 7] = [
+    "wrote a block whole",
+    "wrote the rest of a block",
+    "wrote one point of several left",
+    "left points with room for a part of one",
+    "wrote just what there was room for",
+    "wrote all with room for a part of one",
+    "wrote all with room for more",
+];
+
 #[test]
 fn random_lists_of_calls() {
     let mut seen = std::collections::BTreeMap::new();
@@ -19,6 +30,12 @@ fn random_lists_of_calls() {
     assert!(!seen.contains_key("refusal 4"), "cause 4 never comes from the area");
     for answer in ["met", "promoted", "promoted with nothing admitted", "spent by the budget"] {
         assert!(seen.contains_key(&format!("promote {answer}")), "{answer}: {seen:?}");
+    }
+    for number in [3, 5, 9] {
+        assert!(seen[&format!("refused {number} by points")] > 20, "refused {number}: {seen:?}");
+    }
+    for answer in POINTS {
+        assert!(seen[&format!("points {answer}")] > 20, "{answer}: {seen:?}");
     }
 }
 

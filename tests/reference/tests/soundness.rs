@@ -3,6 +3,7 @@
 use reference::alter;
 use reference::area::{Area, IndexRecord, ACTIVE, OLD};
 use reference::calls;
+use reference::laws;
 use reference::rng::Rng;
 use reference::sample;
 use reference::soundness::*;
@@ -135,6 +136,7 @@ fn everything_is_total_on_garbage() {
         let mut buffer = [0u8; 8];
         let _ = calls::check(&area);
         let _ = calls::point(&area, 0, &mut buffer);
+        laws::assert_points(&area, 0, &[0; 20]);
         let _ = calls::result(&area);
         let _ = calls::cross_total(&area);
         let promoted = calls::promote(&mut area).is_err();
