@@ -1,3 +1,4 @@
 -- The laws, lowest first.
+pub mod Fronts
 pub mod Wanted
 pub mod Delivering

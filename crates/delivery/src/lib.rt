@@ -1,6 +1,7 @@
-// Start, point and deliver as the calls do them once nothing refuses: deliver asks for a valid area, the others for room and ranges.
+// Start, point, points and deliver as the calls do them once nothing refuses: deliver asks for a valid area, the others for room and ranges.
 // The public calls are those of the crate `calls`.
 ghost use mathlib.Core.Path.{_≡_};
+ghost use mathlib.Core.Logic.{_⊎_};
 ghost use mathlib.Core.Bool.{true};
 ghost use mathlib.Core.List.{_++_};
 ghost use Prim.Native.Nat.{_+_, _*_, _<_, _≤_};
@@ -8,12 +9,13 @@ ghost use lib.IntN.{pos};
 ghost use lib.ListN.{length, take, drop};
 ghost use lib.Seq.{sets};
 ghost use Rattle.grid.specs.Index.{Within};
-ghost use Rattle.grid.specs.Block.{blockSize, pointOf};
+ghost use Rattle.grid.specs.Block.{block, blockSize, pointOf};
 ghost use Rattle.area.specs.Settings.{readingCount};
 ghost use Rattle.area.specs.Records.{recordsOf, runOf, stored, heldIn};
 ghost use Rattle.area.specs.Encoding.{areaOf, entriesOf};
 ghost use Rattle.quadrature.specs.Readings.{recordAt};
 ghost use Rattle.machine.specs.Log.{firstWanted, wantedIndex};
+ghost use Rattle.machine.specs.Points.{pointsFitting, positionsOf, writtenOver};
 ghost use Rattle.machine.specs.Areas.{deliverOn};
 ghost use Rattle.machine.specs.Causes.{inRange};
 ghost use Rattle.writing.specs.Changes.{rootRecord};
@@ -58,14 +60,14 @@ pub fn first_wanted(held: usize, cells: &[u32]) -> usize
     held
 }
 
-// Writes the first positions of a point; later bytes stay.
-fn put_point(axes: usize, point: [u8; 8], buffer: &mut [u8])
-    requires { ⌜ (axes ≤ 8) × (axes ≤ length (now buffer)) ⌝ }
-    ensures { λ r. ⌜ now (buffer .exit) ≡ take axes point ++ drop axes (now (buffer .entry)) ⌝ }
+// Writes the first positions of a point from a byte on; the other bytes stay.
+fn put_point(axes: usize, point: [u8; 8], from: usize, buffer: &mut [u8])
+    requires { ⌜ (axes ≤ 8) × (from + axes ≤ length (now buffer)) ⌝ }
+    ensures { λ r. ⌜ now (buffer .exit) ≡ sets (now (buffer .entry)) from (take axes point) ⌝ }
 {
     let mut axis: usize = 0;
     while axis < axes {
-        buffer[axis] = point[axis];
+        buffer[from + axis] = point[axis];
         axis += 1;
     }
 }
@@ -79,8 +81,52 @@ pub fn point(axes: usize, place: usize, n: usize, cells: &[u32], buffer: &mut [u
     put_point(
         axes,
         grid::point_of(area::levels_at(cells, place), n),
+        0,
         buffer,
     );
+}
+
+// Writes so many points of a block, from its n-th on, one after the other; later bytes stay.
+fn put_points(axes: usize, levels: [u32; 8], n: usize, count: usize, buffer: &mut [u8])
+    requires { ⌜ (axes ≤ 8) × (count * axes ≤ length (now buffer)) × Within levels × (n + count ≤ blockSize levels) ⌝ }
+    ensures { λ r. ⌜ now (buffer .exit) ≡ sets (now (buffer .entry)) 0 (positionsOf axes (take count (drop n (block levels)))) ⌝ }
+{
+    let mut written: usize = 0;
+    while written < count {
+        let point = grid::point_of(levels, n + written);
+        put_point(axes, point, written * axes, buffer);
+        written += 1;
+    }
+}
+
+// The lesser of two counts.
+fn lesser(a: usize, b: usize) -> usize
+    ensures { λ r. ⌜ (r ≤ a) × (r ≤ b) × ((r ≡ a) ⊎ (r ≡ b)) ⌝ }
+{
+    if a < b { a } else { b }
+}
+
+// How many points a call wrote, and how many the block has.
+pub struct PointCounts {
+    pub written: u32,
+    pub size: u32,
+}
+
+// Writes the points of the block at a place, from the n-th on: as many as are left and have room.
+pub fn points(axes: usize, place: usize, n: usize, cells: &[u32], buffer: &mut [u8]) -> PointCounts
+    requires { ⌜ (place * 27 + 27 ≤ length (now cells)) × (1 ≤ axes) × (axes ≤ 8) ⌝ }
+    requires { ⌜ Within (recordAt (recordsOf (now cells)) place .levels) × (n < blockSize (recordAt (recordsOf (now cells)) place .levels)) ⌝ }
+    ensures counts { λ r. ⌜ (r .written ≡ length (pointsFitting axes (recordAt (recordsOf (now (cells .entry))) place .levels) n (length (now (buffer .entry))))) × (r .size ≡ blockSize (recordAt (recordsOf (now (cells .entry))) place .levels)) ⌝ }
+    ensures bytes { λ r. ⌜ now (buffer .exit) ≡ writtenOver (positionsOf axes (pointsFitting axes (recordAt (recordsOf (now (cells .entry))) place .levels) n (length (now (buffer .entry))))) (now (buffer .entry)) ⌝ }
+{
+    let levels = area::levels_at(cells, place);
+    let size = grid::block_size(levels);
+    let count = lesser(buffer.len() / axes, size - n);
+    put_points(axes, levels, n, count, buffer);
+    PointCounts {
+        written: count as u32,
+        size: size as u32,
+    }
 }
 
 // Stores readings from `first` on; the others stay.

@@ -8,6 +8,7 @@ pub mod Appends
 pub mod Readings
 pub mod Clauses
 pub mod Ranges
+pub mod Points
 pub mod Started
 pub mod Delivered
 pub mod Admitted

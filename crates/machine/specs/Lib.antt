@@ -4,6 +4,7 @@ pub mod Log
 pub mod Promote
 pub mod Admitted
 pub mod Steps
+pub mod Points
 pub mod Areas
 pub mod Causes
 pub mod Counts

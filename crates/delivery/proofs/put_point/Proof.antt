@@ -1,27 +1,29 @@
--- `delivery::put_point` meets its contract: the positions passed are written, and no later byte has changed. Assumes nothing.
+-- `delivery::put_point` meets its contract: the positions passed are written, and no other byte has changed. Assumes nothing.
 use borrow.Author.Needs.{needs}
 use mathlib.Core.Path.{_≡_, refl}
-use mathlib.Core.List.{_++_}
 use Prim.Native.Nat.{_-_, _≤_}
-use native.Mathlib.Nat.{zero-add}
 use native.Mathlib.Omega.{arith}
 use denote.Ref.{now}
-use lib.ListN.{length, take, drop, length-set}
-use Rattle.area.proofs.Slices.{gather-suc}
+use lib.ListN.{length, take, length-set}
+use lib.Seq.{sets}
+use Rattle.sums.proofs.Lists.{sets-step}
 use Rattle.delivery.proofs.put_point.Statement.{statement}
 use Rattle.delivery.proofs.put_point.Tie as tie
 
 abbrev Inv-loop : tie.InvT-loop
-Inv-loop axes buffer₀ point axis₀ buffer axis = (axis ≤ axes) × (length buffer ≡ length buffer₀) × (buffer ≡ take axis point ++ drop axis buffer₀)
+Inv-loop axes from buffer₀ point axis₀ buffer axis = (axis ≤ axes) × (length buffer ≡ length buffer₀) × (buffer ≡ sets buffer₀ from (take axis point))
 
 abbrev μ-loop : tie.MeasureT-loop
-μ-loop axes buffer₀ point axis₀ buffer axis = axes - axis
+μ-loop axes from buffer₀ point axis₀ buffer axis = axes - axis
 
 loop-holds : tie.Need-loop-holds Inv-loop μ-loop
 loop-holds c = (omega arith, refl, refl)
 
 array-read-buffer : tie.Need-array-read-buffer Inv-loop μ-loop
 array-read-buffer c = omega arith
+
+add-buffer : tie.Need-add-buffer Inv-loop μ-loop
+add-buffer c = omega arith
 
 slice-write-buffer : tie.Need-slice-write-buffer Inv-loop μ-loop
 slice-write-buffer c = omega arith
@@ -37,8 +39,7 @@ loop-again c =
     let s = c .before .before in
     let l = c .before .loop in
     let hl : length (s .args .t2) ≡ 8 = search needs in
-    let next = gather-suc (now (s .args .buffer)) (s .args .t2) 0 (l .axis) 0 (omega arith) (omega arith) in
-    (omega arith, simp length-set (l .inv .1), rw (l .inv .2) (rw (zero-add (l .axis)) at next))
+    (omega arith, simp length-set (l .inv .1), rw (l .inv .2) (sets-step (now (s .args .buffer)) (s .args .from) (s .args .t2) (l .axis) 0 (omega arith)))
 
 same-length : tie.Need-same-length Inv-loop μ-loop
 same-length c = c .before .loop .inv .1
@@ -56,6 +57,7 @@ put-point-spec =
     μ-loop
     loop-holds
     array-read-buffer
+    add-buffer
     slice-write-buffer
     add-axis
     loop-less
