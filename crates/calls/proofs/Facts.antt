@@ -22,7 +22,7 @@ use Rattle.machine.specs.Causes.{firstCause, startCauses, pointCauses, deliverC
 use Rattle.machine.specs.Areas.{startOn, deliverOn, promoteOn}
 use Rattle.writing.specs.ValidArea.{ValidArea}
 use Rattle.calls.specs.Replies.{refused, accepted, promotion, lengthsOf}
-use Rattle.calls.specs.Table.{Call, Answer, changed, unchanged, start, point, deliver, promote, result, crossTotal, check, answer, row, causesOf, effectOf, passesCheck, acceptedAnswer, refusedAnswer, refusal, stateAfter}
+use Rattle.calls.specs.Table.{Call, Answer, changed, unchanged, start, point, points, deliver, promote, result, crossTotal, check, answer, row, causesOf, effectOf, passesCheck, acceptedAnswer, refusedAnswer, refusal, stateAfter}
 use Rattle.calls.specs.Calls.{CallResult, areaAfter, refusalOn, callOn}
 use Rattle.calls.specs.Facts.{PastUnchanged, numbersOf, InBlock, NotRefused, CallFacts}
 use Rattle.calls.proofs.Buffers.{laid-first, laid-length, laid-later}
@@ -133,6 +133,7 @@ module _ (a : Area) (well-formed : WellFormed (heldOf a)) where
   by-call : (c : Call) → refusalOn a c ≡ 0 → (c ≡ check → ⊥) → ValidArea (areaAfter a (effectOf (machineOf a) (row c)))
   by-call (start g) none h = unfold effectOf row areaAfter in next-valid a (started g) (next-there a g none)
   by-call (point n buffer) none h = job-leaves-valid (point n buffer) (unfold row in tt) none
+  by-call (points n buffer) none h = job-leaves-valid (points n buffer) (unfold row in tt) none
   by-call (deliver rs i) none h = job-leaves-valid (deliver rs i) (unfold row in tt) none
   by-call promote none h = job-leaves-valid promote (unfold row in tt) none
   by-call result none h = job-leaves-valid result (unfold row in tt) none
@@ -228,6 +229,7 @@ module _ (a : Area) (n : ℕ) (well-formed : WellFormed (heldOf a)) where
   unfolding effectOf row
   store (start g) f = ap (λ (s : List ℤ). getD s n (pos 0)) (start-store a g)
   store (point k buffer) f = looked (point k buffer) refl
+  store (points k buffer) f = looked (points k buffer) refl
   store (deliver rs i) f = deliver-store a rs i well-formed n (outside (decLt n (first a rs i well-formed)) (decLt n (first a rs i well-formed + length rs)))
     where
       outside : Dec (n < first a rs i well-formed) → Dec (n < first a rs i well-formed + length rs) → (n < first a rs i well-formed) ⊎ (first a rs i well-formed + length rs ≤ n)

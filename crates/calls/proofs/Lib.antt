@@ -3,6 +3,7 @@ pub mod Tests
 pub mod Causes
 pub mod Validity
 pub mod Accepted
+pub mod Pointing
 pub mod Ranges
 pub mod Outcomes
 pub mod CauseCases

@@ -8,7 +8,7 @@ use native.Mathlib.Omega.{arith}
 use Rattle.area.specs.Log.{Log, Machine}
 use Rattle.machine.specs.Causes.{Cause, Lengths, firstCause, startCauses}
 use Rattle.calls.specs.Replies.{refused}
-use Rattle.calls.specs.Table.{Call, start, point, deliver, promote, result, crossTotal, check, row, causesOf, acceptedAnswer, refusal}
+use Rattle.calls.specs.Table.{Call, start, point, points, deliver, promote, result, crossTotal, check, row, causesOf, acceptedAnswer, refusal}
 use Rattle.calls.specs.Facts.{numbersOf}
 
 abbrev numbers : List Cause → List ℕ
@@ -30,6 +30,7 @@ row-numbers : (z : Lengths) (sound : Bool) (l : Log) (c : Call) → numbers (cau
 unfolding causesOf row numbersOf startCauses
 row-numbers z sound l (start g) = refl
 row-numbers z sound l (point n buffer) = refl
+row-numbers z sound l (points n buffer) = refl
 row-numbers z sound l (deliver rs i) = refl
 row-numbers z sound l promote = refl
 row-numbers z sound l result = refl
@@ -45,6 +46,7 @@ pub accepted-reply : (fit : Bool) (m : Machine) (c : Call) (n : ℕ) → accepte
 unfolding acceptedAnswer row
 accepted-reply fit m (start g) n e = let y : _≡_ {A = ℕ} 0 1 = cc in omega arith
 accepted-reply fit m (point k buffer) n e = let y : _≡_ {A = ℕ} 0 1 = cc in omega arith
+accepted-reply fit m (points k buffer) n e = let y : _≡_ {A = ℕ} 0 1 = cc in omega arith
 accepted-reply fit m (deliver rs i) n e = let y : _≡_ {A = ℕ} 0 1 = cc in omega arith
 accepted-reply fit m promote n e = let y : _≡_ {A = ℕ} 0 1 = cc in omega arith
 accepted-reply fit m result n e = let y : _≡_ {A = ℕ} 0 1 = cc in omega arith

@@ -7,7 +7,7 @@ use native.Mathlib.Omega.{arith}
 use lib.IntN.{ℤ}
 use lib.ListN.{length, take, drop}
 use Rattle.area.specs.declared.Settings.{Settings}
-use Rattle.grid.specs.Block.{pointOf}
+use Rattle.grid.specs.Block.{blockSize, pointOf}
 use Rattle.area.specs.Log.{Machine}
 use Rattle.area.specs.Encoding.{Area, entriesOf, machineOf, written}
 use Rattle.soundness.specs.Clauses.{isSound}
@@ -15,12 +15,13 @@ use Rattle.machine.specs.Log.{wantedIndex}
 use Rattle.machine.specs.Promote as rule
 use Rattle.machine.specs.Promote.{Outcome, met, spent, promoted}
 use Rattle.machine.specs.Steps.{promoteStep}
+use Rattle.machine.specs.Points.{pointsFitting, positionsOf, writtenOver}
 use Rattle.machine.specs.Causes.{firstCause, startCauses, pointCauses, deliverCauses, promoteCauses, resultCauses}
 use Rattle.machine.specs.Areas.{startOn, deliverOn, changedBy, promoteOn}
 use Rattle.machine.specs.Counts.{countsOf}
 use Rattle.machine.specs.Means.{crossOf}
-use Rattle.calls.specs.Replies.{refused, accepted, promotion, counts, total, lengthsOf}
-use Rattle.calls.specs.Table.{start, point, deliver, promote, result, crossTotal, answer, promotionEffect, row, causesOf, effectOf, acceptedAnswer, refusedAnswer, refusal, changed}
+use Rattle.calls.specs.Replies.{refused, accepted, wrote, promotion, counts, total, lengthsOf}
+use Rattle.calls.specs.Table.{start, point, points, deliver, promote, result, crossTotal, answer, promotionEffect, row, causesOf, effectOf, acceptedAnswer, refusedAnswer, refusal, changed}
 use Rattle.calls.specs.Calls.{CallResult, areaAfter, callOn}
 use Rattle.calls.proofs.Outcomes.{same-log}
 use Rattle.calls.proofs.CauseCases.{call-accepts, call-refuses}
@@ -85,6 +86,19 @@ module _ (a : Area) (n : ℕ) (buffer : List ℕ) (m : ℕ) (is : m ≡ firstCau
       → record { reply = accepted; buffer = take (a .job .settings .axes) (pointOf (wantedIndex (entriesOf a)) n) ++ drop (a .job .settings .axes) buffer } ≡ callOn a (point n buffer) .answer
   unfolding row causesOf effectOf refusal acceptedAnswer pointCauses machineOf
   point-accepts e = ap (λ (x : CallResult). x .answer) (call-accepts a (point n buffer) m is e)
+
+module _ (a : Area) (n : ℕ) (buffer : List ℕ) (m : ℕ) (is : m ≡ firstCause (pointCauses (lengthsOf a) (isSound a) (machineOf a .log) n (length buffer))) where
+  abbrev asked : List (List ℕ)
+  asked = pointsFitting (a .job .settings .axes) (wantedIndex (entriesOf a)) n (length buffer)
+
+  pub points-refuses : (m ≡ 0 → ⊥) → record { reply = refused m; buffer = buffer } ≡ callOn a (points n buffer) .answer
+  unfolding row causesOf refusal refusedAnswer pointCauses
+  points-refuses f = ap (λ (x : CallResult). x .answer) (call-refuses a (points n buffer) m is f)
+
+  pub points-accepts : m ≡ 0
+      → record { reply = wrote (length asked) (blockSize (wantedIndex (entriesOf a))); buffer = writtenOver (positionsOf (a .job .settings .axes) asked) buffer } ≡ callOn a (points n buffer) .answer
+  unfolding row causesOf effectOf refusal acceptedAnswer pointCauses machineOf
+  points-accepts e = ap (λ (x : CallResult). x .answer) (call-accepts a (points n buffer) m is e)
 
 module _ (a : Area) (m : ℕ) (is : m ≡ firstCause (resultCauses (lengthsOf a) (isSound a) (machineOf a .log))) where
   pub result-refuses : (m ≡ 0 → ⊥) → answer (refused m) ≡ callOn a result .answer

@@ -20,7 +20,7 @@ use Rattle.machine.specs.Counts.{Counts}
 use Rattle.machine.specs.Means.{meanOf}
 use Rattle.writing.specs.ValidArea.{ValidArea}
 use Rattle.calls.specs.Replies.{refused, accepted, promotion, counts, total, verdict, lengthsOf}
-use Rattle.calls.specs.Table.{Call, start, point, deliver, promote, result, crossTotal, check, answer, row, refusedAnswer, stateAfter}
+use Rattle.calls.specs.Table.{Call, start, point, points, deliver, promote, result, crossTotal, check, answer, row, refusedAnswer, stateAfter}
 use Rattle.calls.specs.Calls.{callOn}
 
 -- Records past the last then held, and the cells past the last record, are as they were.
@@ -32,6 +32,7 @@ pub record PastUnchanged (a b : Area) : Type 0 where
 unfoldable pub numbersOf : Call → List ℕ
 numbersOf (start g) = 1 ∷ 2 ∷ 3 ∷ []
 numbersOf (point n buffer) = 3 ∷ 4 ∷ 5 ∷ 9 ∷ []
+numbersOf (points n buffer) = 3 ∷ 4 ∷ 5 ∷ 9 ∷ []
 numbersOf (deliver rs i) = 3 ∷ 4 ∷ 5 ∷ 7 ∷ 8 ∷ []
 numbersOf promote = 3 ∷ 4 ∷ 6 ∷ []
 numbersOf result = 3 ∷ 4 ∷ []
@@ -42,6 +43,7 @@ numbersOf check = []
 abbrev pub InBlock : Area → Call → ℕ → Type 0
 InBlock a (start g) n = ⊥
 InBlock a (point k buffer) n = ⊥
+InBlock a (points k buffer) n = ⊥
 InBlock a (deliver rs i) n = (recordAt (heldOf a) (firstWanted (entriesOf a)) .first ≤ n) × (n < recordAt (heldOf a) (firstWanted (entriesOf a)) .first + length rs)
 InBlock a promote n = ⊥
 InBlock a result n = ⊥

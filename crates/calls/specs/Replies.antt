@@ -10,16 +10,19 @@ use Rattle.machine.specs.Counts.{Counts}
 use Rattle.counting.specs.Answer.{countsIn}
 use Rattle.calls.specs.declared.Answer as code
 use Rattle.calls.specs.declared.Answer.the-variants as answers
+use Rattle.calls.specs.declared.PointsAnswer as pointed
+use Rattle.calls.specs.declared.PointsAnswer.the-variants as pointeds
 use Rattle.calls.specs.declared.ResultAnswer as coded
 use Rattle.calls.specs.declared.ResultAnswer.the-variants as results
 use Rattle.calls.specs.declared.TotalAnswer as summed
 use Rattle.calls.specs.declared.TotalAnswer.the-variants as totals
 
--- A refusal has the number of its cause. Start, point and deliver are otherwise accepted, promote has its outcome, result its counts,
--- cross total its total; check says yes or no.
+-- A refusal has the number of its cause. Start, point and deliver are otherwise accepted; points says how many it wrote and how many the block
+-- has; promote has its outcome, result its counts, cross total its total; check says yes or no.
 pub data Reply : Type 0 where
   refused : ℕ → Reply
   accepted : Reply
+  wrote : (written size : ℕ) → Reply
   promotion : Outcome → Reply
   counts : Counts → Reply
   total : ℤ → Reply
@@ -31,6 +34,10 @@ replyOf answers.Accepted = accepted
 replyOf answers.Met = promotion met
 replyOf answers.Spent = promotion spent
 replyOf answers.Promoted = promotion promoted
+
+unfoldable pub replyOfPoints : pointed.PointsAnswer → Reply
+replyOfPoints (pointeds.Refused n) = refused n
+replyOfPoints (pointeds.Wrote c) = wrote (c .written) (c .size)
 
 unfoldable pub replyOfResult : coded.ResultAnswer → Reply
 replyOfResult (results.Refused n) = refused n

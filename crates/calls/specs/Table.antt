@@ -7,21 +7,23 @@ use Prim.Native.Nat.{ℕ}
 use lib.Dec.{eqb}
 use lib.IntN.{ℤ}
 use lib.ListN.{length, take, drop}
-use Rattle.grid.specs.Block.{pointOf}
+use Rattle.grid.specs.Block.{blockSize, pointOf}
 use Rattle.area.specs.declared.Settings.{Settings}
 use Rattle.area.specs.Log.{Log, Machine}
 use Rattle.machine.specs.Log.{wantedIndex}
 use Rattle.machine.specs.Promote as rule
 use Rattle.machine.specs.Steps as steps
+use Rattle.machine.specs.Points.{pointsFitting, positionsOf, writtenOver}
 use Rattle.machine.specs.Causes.{Cause, Lengths, firstCause, short, jobCauses, startCauses, pointOwnCauses, pointBufferShort, deliverOwnCauses, promoteOwnCauses}
 use Rattle.machine.specs.Counts.{countsOf}
 use Rattle.machine.specs.Means.{crossOf}
-use Rattle.calls.specs.Replies.{Reply, refused, accepted, promotion, counts, total, verdict}
+use Rattle.calls.specs.Replies.{Reply, refused, accepted, wrote, promotion, counts, total, verdict}
 
 -- A call with its arguments. A call that is added later joins these.
 pub data Call : Type 0 where
   start : Settings → Call
   point : (n : ℕ) (buffer : List ℕ) → Call
+  points : (n : ℕ) (buffer : List ℕ) → Call
   deliver : (readings : List ℤ) (indicator : ℕ) → Call
   promote : Call
   result : Call
@@ -68,6 +70,10 @@ withoutBuffer causes effect reply = onJob (record { bufferShort = λ g. false; c
 
 -- ---- the rows
 
+-- The points of the first wanted block from its n-th on that a buffer of so many bytes has room for.
+abbrev pub pointsAsked : Log → (n room : ℕ) → List (List ℕ)
+pointsAsked l n room = pointsFitting (l .settings .axes) (wantedIndex (l .entries)) n room
+
 unfoldable pub row : Call → Row
 -- **Start** doesn't read the old area.
 row (start g) = anyArea (record { causes = λ z. startCauses z g; effect = becomes (steps.started g); reply = λ passes. accepted })
@@ -81,6 +87,18 @@ row (point n buffer) =
       reply = λ m. accepted;
       lent = buffer;
       left = λ l. take (l .settings .axes) (pointOf (wantedIndex (l .entries)) n) ++ drop (l .settings .axes) buffer;
+    })
+-- **Points** is refused as point is. It writes, from point n on, as many whole points as are left in the block and fit in the buffer, one after
+-- the other, later bytes untouched, and answers how many it wrote and how many the block has.
+row (points n buffer) =
+    onJob
+    (record {
+      bufferShort = λ g. pointBufferShort g (length buffer);
+      causes = λ l. pointOwnCauses l n;
+      effect = λ m. unchanged;
+      reply = λ m. wrote (length (pointsAsked (m .log) n (length buffer))) (blockSize (wantedIndex (m .log .entries)));
+      lent = buffer;
+      left = λ l. writtenOver (positionsOf (l .settings .axes) (pointsAsked l n (length buffer))) buffer;
     })
 -- **Deliver** takes the first wanted block's readings and an indicator.
 row (deliver rs i) = withoutBuffer (λ l. deliverOwnCauses l rs) (λ m. becomes (steps.deliver m rs i)) (λ m. accepted)

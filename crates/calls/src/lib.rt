@@ -1,11 +1,11 @@
-// The calls start, point, deliver, promote, result and cross total. Each first looks for a cause to refuse; a refused call changes
+// The calls start, point, points, deliver, promote, result and cross total. Each first looks for a cause to refuse; a refused call changes
 // nothing.
 ghost use mathlib.Core.Path.{_≡_};
 ghost use Rattle.area.specs.Encoding.{areaOf};
 ghost use Rattle.machine.specs.Causes.{firstCause, inRange, startCauses};
 ghost use Rattle.promotion.specs.Outcomes.{outcomeOf};
-ghost use Rattle.calls.specs.Replies.{promotion as outcomeReply, replyOf, replyOfResult, replyOfTotal};
-ghost use Rattle.calls.specs.Table.{start, point, deliver, promote, result, crossTotal, answer};
+ghost use Rattle.calls.specs.Replies.{promotion as outcomeReply, replyOf, replyOfPoints, replyOfResult, replyOfTotal};
+ghost use Rattle.calls.specs.Table.{start, point, points, deliver, promote, result, crossTotal, answer};
 ghost use Rattle.calls.specs.Calls.{callOn, callResultOf, pointCause, deliverCause, promoteCause, areaCause};
 
 // What a call answers; `Refused` carries the number of the cause.
@@ -21,6 +21,12 @@ pub enum Answer {
 pub struct CallOutput {
     pub answer: Answer,
     pub job: area::JobRecord,
+}
+
+// The answer of points.
+pub enum PointsAnswer {
+    Refused(u32),
+    Wrote(delivery::PointCounts),
 }
 
 // Result's answer.
@@ -84,7 +90,7 @@ fn area_cause(job: area::JobRecord, cells: &[u32], store: &[i32]) -> u32
     0
 }
 
-// Why point is refused.
+// Why point and points are refused.
 fn point_cause(job: area::JobRecord, n: usize, room: usize, cells: &[u32], store: &[i32]) -> u32
     ensures { λ r. ⌜ r ≡ pointCause (areaOf job (now (cells .entry)) (now (store .entry))) n room ⌝ }
 {
@@ -188,6 +194,25 @@ pub fn point(
     let place = delivery::first_wanted(job.held as usize, cells);
     delivery::point(axes, place, n, cells, buffer);
     Answer::Accepted
+}
+
+// Writes points of the first wanted block from the n-th on, as many as are left and fit in the buffer, later bytes untouched.
+pub fn points(
+    job: area::JobRecord,
+    n: usize,
+    cells: &[u32],
+    store: &[i32],
+    buffer: &mut [u8],
+) -> PointsAnswer
+    ensures { λ r. ⌜ record { reply = replyOfPoints r; buffer = now (buffer .exit) } ≡ callOn (areaOf job (now (cells .entry)) (now (store .entry))) (points n (now (buffer .entry))) .answer ⌝ }
+{
+    let cause = point_cause(job, n, buffer.len(), cells, store);
+    if cause != 0 {
+        return PointsAnswer::Refused(cause);
+    }
+    let axes = job.settings.axes as usize;
+    let place = delivery::first_wanted(job.held as usize, cells);
+    PointsAnswer::Wrote(delivery::points(axes, place, n, cells, buffer))
 }
 
 // Delivers the first wanted block.
