@@ -23,7 +23,7 @@ use Rattle.machine.specs.Promote as rule
 use Rattle.machine.specs.Steps as steps
 use Rattle.machine.specs.Causes.{Lengths, firstCause, short, startCauses}
 use Rattle.calls.specs.Replies.{verdict, lengthsOf}
-use Rattle.calls.specs.Table.{Call, start, point, deliver, promote, result, crossTotal, check, Effect, unchanged, becomes, promotionEffect, JobRow, onJob, answer, row, causesOf, effectOf, passesCheck, acceptedAnswer, refusal}
+use Rattle.calls.specs.Table.{Call, start, point, points, deliver, promote, result, crossTotal, check, Effect, unchanged, becomes, promotionEffect, JobRow, onJob, answer, row, causesOf, effectOf, passesCheck, acceptedAnswer, refusal}
 use Rattle.calls.specs.Calls.{CallResult, areaAfter, refusalOn, callOn}
 use Rattle.calls.proofs.CauseCases.{acceptedCall, refusedCall, either, call-refuses}
 use Rattle.calls.proofs.ResultValues.{check-answer}
@@ -91,6 +91,7 @@ effect-few : (m : Machine) → length (m .log .entries) ≤ 512 → (c : Call) �
 unfolding effectOf row
 effect-few m h (start g) = unfold steps.started in omega arith
 effect-few m h (point n buffer) = tt
+effect-few m h (points n buffer) = tt
 effect-few m h (deliver rs i) =
     unfold steps.deliver steps.deliverAt in
     omega (arith, h, length-set (m .log .entries) (firstWanted (m .log .entries)) (steps.delivered (entryAt (m .log .entries) (firstWanted (m .log .entries))) rs i))
@@ -194,6 +195,7 @@ module _ (a : Area) (more : List IndexRecord) (room : 512 ≤ length (a .run .re
   unfolding row
   call-longer (start g) = start-longer g
   call-longer (point n buffer) = job-longer (point n buffer) _ refl
+  call-longer (points n buffer) = job-longer (points n buffer) _ refl
   call-longer (deliver rs i) = job-longer (deliver rs i) _ refl
   call-longer promote = job-longer promote _ refl
   call-longer result = job-longer result _ refl

@@ -6,8 +6,8 @@ ghost use Prim.Native.Nat.{_*_, _<_, _≤_};
 ghost use lib.ListN.{length, getD, set, take};
 ghost use Rattle.area.specs.Records.{recordsOf, runOf, blank};
 ghost use Rattle.soundness.specs.Clauses.{checked};
-ghost use Rattle.calls.specs.Replies.{replyOf, replyOfResult, replyOfTotal};
-ghost use Rattle.calls.specs.Table.{start, point, deliver, promote, result, crossTotal, answer};
+ghost use Rattle.calls.specs.Replies.{replyOf, replyOfPoints, replyOfResult, replyOfTotal};
+ghost use Rattle.calls.specs.Table.{start, point, points, deliver, promote, result, crossTotal, answer};
 ghost use Rattle.calls.specs.Calls.{callOn};
 ghost use Rattle.records.specs.Lent.{areaOn, callResultOn, min, over, overRun, front, storedBy, StartedOver};
 
@@ -158,6 +158,20 @@ fn flat_point(
     calls::point(job, n, &words[..flat.count * 27], store, buffer)
 }
 
+fn flat_points(
+    job: area::JobRecord,
+    n: usize,
+    flat: Flat,
+    store: &[i32],
+    buffer: &mut [u8],
+) -> calls::PointsAnswer
+    requires { ⌜ flat .count ≤ 512 ⌝ }
+    ensures { λ r. ⌜ record { reply = replyOfPoints r; buffer = now (buffer .exit) } ≡ callOn (areaOn job (front (flat .count) (flat .words)) (now (store .entry))) (points n (now (buffer .entry))) .answer ⌝ }
+{
+    let words = flat.words;
+    calls::points(job, n, &words[..flat.count * 27], store, buffer)
+}
+
 fn flat_deliver(
     job: area::JobRecord,
     readings: &[i32],
@@ -251,6 +265,20 @@ pub fn point(
 {
     let flat = flatten(records);
     flat_point(job, n, flat, store, buffer)
+}
+
+// Writes points of the first wanted block from the n-th on, as many as are left and fit in the buffer, later bytes untouched.
+pub fn points(
+    job: area::JobRecord,
+    n: usize,
+    records: &[area::IndexRecord],
+    store: &[i32],
+    buffer: &mut [u8],
+) -> calls::PointsAnswer
+    ensures { λ r. ⌜ record { reply = replyOfPoints r; buffer = now (buffer .exit) } ≡ callOn (areaOn job (now (records .entry)) (now (store .entry))) (points n (now (buffer .entry))) .answer ⌝ }
+{
+    let flat = flatten(records);
+    flat_points(job, n, flat, store, buffer)
 }
 
 // Delivers the first wanted block.
