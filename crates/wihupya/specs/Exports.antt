@@ -1,5 +1,5 @@
 -- What an exported call leaves: a number, 0 if it was not refused and else the number of the cause; the job record's words, the cells'
--- records and rest, and the store. Promote, result and cross total write their answer into words of their own, which a refusal
+-- records and rest, and the store. Points, promote, result and cross total write their answer into words of their own, which a refusal
 -- leaves.
 use mathlib.Core.List.{List, [], _∷_}
 use Prim.Native.Nat.{ℕ}
@@ -8,13 +8,14 @@ use mir.Syntax.{w64}
 use mir.Val.{ofZ}
 use Rattle.area.specs.Records.{Run}
 use Rattle.machine.specs.Promote.{Outcome, met, spent, promoted}
-use Rattle.calls.specs.Replies.{Reply, refused, accepted, promotion, counts, total, verdict}
+use Rattle.calls.specs.Replies.{Reply, refused, accepted, wrote, promotion, counts, total, verdict}
 use Rattle.calls.specs.Calls.{CallResult}
 use Rattle.wihupya.specs.Words.{lowWord, highWord, wordsOf}
 
 unfoldable pub numberOf : Reply → ℕ
 numberOf (refused n) = n
 numberOf accepted = 0
+numberOf (wrote n size) = 0
 numberOf (promotion o) = 0
 numberOf (counts c) = 0
 numberOf (total x) = 0
@@ -29,6 +30,16 @@ pub record Exported : Type 0 where
 unfoldable pub exported : CallResult → Exported
 exported x = record { number = numberOf (x .answer .reply); job = wordsOf (x .area .job); run = x .area .run; store = x .area .store }
 
+-- The two words after points: how many were written, and how many the block has.
+unfoldable pub pointsAfter : Reply → List ℕ → List ℕ
+pointsAfter (refused n) w = w
+pointsAfter accepted w = w
+pointsAfter (wrote n size) w = n ∷ size ∷ []
+pointsAfter (promotion o) w = w
+pointsAfter (counts c) w = w
+pointsAfter (total x) w = w
+pointsAfter (verdict b) w = w
+
 -- 0 met, 1 spent, 2 promoted.
 unfoldable pub outcomeWord : Outcome → ℕ
 outcomeWord met = 0
@@ -39,6 +50,7 @@ outcomeWord promoted = 2
 unfoldable pub outcomeAfter : Reply → List ℕ → List ℕ
 outcomeAfter (refused n) w = w
 outcomeAfter accepted w = w
+outcomeAfter (wrote n size) w = w
 outcomeAfter (promotion o) w = outcomeWord o ∷ []
 outcomeAfter (counts c) w = w
 outcomeAfter (total x) w = w
@@ -49,6 +61,7 @@ outcomeAfter (verdict b) w = w
 unfoldable pub countsAfter : Reply → List ℕ → List ℕ
 countsAfter (refused n) w = w
 countsAfter accepted w = w
+countsAfter (wrote n size) w = w
 countsAfter (promotion o) w = w
 countsAfter (counts c) w =
     lowWord (c .pending)
@@ -68,6 +81,7 @@ countsAfter (verdict b) w = w
 unfoldable pub totalAfter : Reply → List ℕ → List ℕ
 totalAfter (refused n) w = w
 totalAfter accepted w = w
+totalAfter (wrote n size) w = w
 totalAfter (promotion o) w = w
 totalAfter (counts c) w = w
 totalAfter (total x) w = lowWord (ofZ w64 x) ∷ highWord (ofZ w64 x) ∷ []

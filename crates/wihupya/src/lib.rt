@@ -11,11 +11,11 @@ ghost use Rattle.area.specs.Encoding.{areaOf};
 ghost use Rattle.soundness.specs.Clauses.{checked};
 ghost use Rattle.area.specs.Records.{runOf};
 ghost use Rattle.counting.specs.Answer.{countsIn};
-ghost use Rattle.calls.specs.Replies.{counts as countsReply, total as totalReply, replyOf};
-ghost use Rattle.calls.specs.Table.{start, point, deliver, promote, result, crossTotal};
+ghost use Rattle.calls.specs.Replies.{wrote, counts as countsReply, total as totalReply, replyOf};
+ghost use Rattle.calls.specs.Table.{start, point, points, deliver, promote, result, crossTotal};
 ghost use Rattle.calls.specs.Calls.{callOn};
 ghost use Rattle.wihupya.specs.Words.{jobOf, lowWord, highWord, wordsOf};
-ghost use Rattle.wihupya.specs.Exports.{numberOf, exported, outcomeAfter, countsAfter, totalAfter};
+ghost use Rattle.wihupya.specs.Exports.{numberOf, exported, pointsAfter, outcomeAfter, countsAfter, totalAfter};
 
 // Two words as a 64-bit number.
 fn wide(low: u32, high: u32) -> u64
@@ -130,6 +130,16 @@ fn outcome_word(answer: calls::Answer, before: [u32; 1]) -> [u32; 1]
     }
 }
 
+// How many points were written and how many the block has, as two words.
+fn point_words(counts: delivery::PointCounts) -> [u32; 2]
+    ensures { λ r. ⌜ r ≡ pointsAfter (wrote (counts .written) (counts .size)) [] ⌝ }
+{
+    let mut words = [0u32; 2];
+    words[0] = counts.written;
+    words[1] = counts.size;
+    words
+}
+
 // Counts as nine words.
 fn count_words(counts: counting::Counts) -> [u32; 9]
     ensures { λ r. ⌜ r ≡ countsAfter (countsReply (countsIn counts)) [] ⌝ }
@@ -209,6 +219,28 @@ pub extern "C" fn wihupya_point(
     ensures { λ r. ⌜ (r ≡ numberOf (callOn (areaOf (jobOf (now (job .entry))) (now (cells .entry)) (now (store .entry))) (point n (now (buffer .entry))) .answer .reply)) × (now (buffer .exit) ≡ callOn (areaOf (jobOf (now (job .entry))) (now (cells .entry)) (now (store .entry))) (point n (now (buffer .entry))) .answer .buffer) ⌝ }
 {
     number_of(calls::point(job_of(job), n, cells, store, buffer))
+}
+
+// Writes points of the first wanted block from the n-th on, and how many they are and how many the block has.
+#[no_mangle]
+pub extern "C" fn wihupya_points(
+    job: &[u32; 10],
+    n: usize,
+    counts: &mut [u32; 2],
+    cells: &[u32],
+    store: &[i32],
+    buffer: &mut [u8],
+) -> u32
+    ensures { λ r. ⌜ (r ≡ numberOf (callOn (areaOf (jobOf (now (job .entry))) (now (cells .entry)) (now (store .entry))) (points n (now (buffer .entry))) .answer .reply)) × (now (counts .exit) ≡ pointsAfter (callOn (areaOf (jobOf (now (job .entry))) (now (cells .entry)) (now (store .entry))) (points n (now (buffer .entry))) .answer .reply) (now (counts .entry))) × (now (buffer .exit) ≡ callOn (areaOf (jobOf (now (job .entry))) (now (cells .entry)) (now (store .entry))) (points n (now (buffer .entry))) .answer .buffer) ⌝ }
+{
+    let answered = calls::points(job_of(job), n, cells, store, buffer);
+    match answered {
+        calls::PointsAnswer::Refused(number) => number,
+        calls::PointsAnswer::Wrote(found) => {
+            *counts = point_words(found);
+            0
+        }
+    }
 }
 
 // Delivers the first wanted block.
