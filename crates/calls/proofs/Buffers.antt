@@ -1,17 +1,17 @@
 -- The buffer after point: as long as it was, its later bytes untouched.
 -- The idea: the point has as many positions as its index has levels, and these are eight where the area is sound.
 -- Assumes nothing.
-use mathlib.Core.Path.{_≡_, refl, ap, sym, _∙_}
+use mathlib.Core.Path.{_≡_, ap, sym, _∙_}
 use mathlib.Core.Bool.{_&&_}
-use mathlib.Core.List.{List, [], _∷_, _++_}
-use Prim.Native.Nat.{ℕ, suc, _+_, _-_, _%_, _≤_}
+use mathlib.Core.List.{List, [], _++_}
+use Prim.Native.Nat.{ℕ, _+_, _-_, _≤_}
 use native.Mathlib.Omega.{arith}
 use borrow.Author.Tests.{not-false}
 use lib.Dec.{leb}
 use lib.ListN.{length, getD, take, drop, length-append, length-drop}
 use lib.Seq.{take-at, length-take-le, getD-drop, getD-append-add}
 use Rattle.area.specs.Settings.{leastStore}
-use Rattle.grid.specs.Block.{block, blockSize, pointOf}
+use Rattle.grid.specs.Block.{block, pointOf}
 use Rattle.grid.proofs.Facts.{block-facts}
 use Rattle.area.specs.Encoding.{Area, entriesOf, machineOf}
 use Rattle.soundness.specs.Clauses.{isSound}
@@ -21,6 +21,7 @@ use Rattle.encoding.specs.Entries.{SoundMachine}
 use Rattle.encoding.proofs.Facts.{encoding-facts}
 use Rattle.machine.specs.Log.{firstWanted, wantedIndex}
 use Rattle.machine.specs.Causes.{short, firstCause, pointCauses}
+use Rattle.machine.proofs.Points.{point-length}
 use Rattle.calls.specs.Replies.{lengthsOf}
 use Rattle.calls.proofs.Causes.{common-clear}
 use Rattle.calls.proofs.Accepted.{pointable}
@@ -46,11 +47,6 @@ module _ (p buffer : List ℕ) (d : ℕ) (there : d ≤ length p) where
       back : d + (i - d) ≡ i
       back = omega (arith, h)
 
-points-length : (k : List ℕ) (n : ℕ) → length (pointOf k n) ≡ length k
-unfolding pointOf
-points-length [] n = refl
-points-length (l ∷ k) n = ap suc (points-length k (n % blockSize k))
-
 -- ---- where no cause refuses
 
 module _ (a : Area) (n : ℕ) (buffer : List ℕ) (none : firstCause (pointCauses (lengthsOf a) (isSound a) (machineOf a .log) n (length buffer)) ≡ 0) where
@@ -60,7 +56,7 @@ module _ (a : Area) (n : ℕ) (buffer : List ℕ) (none : firstCause (pointCause
   abbrev laid : List ℕ
   laid = take (a .job .settings .axes) point ++ drop (a .job .settings .axes) buffer
 
-  clauses : SoundMachine (machineOf a)
+  pub clauses : SoundMachine (machineOf a)
   unfolding machineOf short
   clauses =
       let clear = common-clear (lengthsOf a) (isSound a) (machineOf a .log) (pointable (lengthsOf a) (isSound a) (machineOf a .log) n (length buffer) none .clear) in
@@ -73,7 +69,7 @@ module _ (a : Area) (n : ℕ) (buffer : List ℕ) (none : firstCause (pointCause
   positions =
       omega (
         arith,
-        points-length (wantedIndex (entriesOf a)) n,
+        point-length (wantedIndex (entriesOf a)) n,
         clauses .index (firstWanted (entriesOf a)) (pointable (lengthsOf a) (isSound a) (machineOf a .log) n (length buffer) none .wanted) .eight,
         clauses .settings .axes .1,
       )

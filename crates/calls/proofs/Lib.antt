@@ -15,3 +15,4 @@ pub mod Written
 pub mod Next
 pub mod StepEffects
 pub mod Facts
+pub mod PointsWritten

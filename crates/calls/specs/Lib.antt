@@ -3,3 +3,4 @@ pub mod Replies
 pub mod Table
 pub mod Calls
 pub mod Facts
+pub mod Points

@@ -9,6 +9,7 @@ pub mod Readings
 pub mod Clauses
 pub mod Ranges
 pub mod Points
+pub mod BlockSizes
 pub mod Started
 pub mod Delivered
 pub mod Admitted

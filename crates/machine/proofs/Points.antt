@@ -6,8 +6,10 @@ use mathlib.Core.Logic.{_⊎_, inl, inr}
 use mathlib.Core.List.{List, [], _∷_, _++_, append-assoc, append-nil}
 use Prim.Native.Nat.{ℕ, zero, suc, _+_, _*_, _-_, _/_, _%_, _<_, _≤_}
 use native.Mathlib.Omega.{arith}
+use native.Mathlib.Decide.{decLt}
+use native.Mathlib.Nat.{le-trans, mod-lt, div-add-mod', div-mul-le-self, le-div-iff-mul-le, mul-le-mul-right}
 use lib.ListN.{length, getD, take, drop, length-append, length-drop}
-use lib.Seq.{length-take-le, take-all, take-suc, getD-drop}
+use lib.Seq.{length-take-le, take-all, take-suc, take-add, take-at, drop-at, getD-drop}
 use Rattle.grid.specs.Block.{block, blockSize, pointOf}
 use Rattle.grid.proofs.Facts.{block-facts}
 use Rattle.machine.specs.Points.{pointsFitting, positionsOf}
@@ -63,3 +65,70 @@ module _ (d : ℕ) (k : List ℕ) (n : ℕ) where
   unfolding pointsFitting
   fitting room count h (inl e) = ap (λ c. take c (drop n (block k))) (sym e)
   fitting room count h (inr e) = take-all (room / d) (drop n (block k)) (omega (arith, points-left, h, e)) ∙ sym (take-all count (drop n (block k)) (omega (arith, points-left, e)))
+
+  -- ---- the i-th of w points, in front of whatever follows
+
+  pub bytes-split : (i m : ℕ) → n + i < blockSize k → bytes (suc i + m) ≡ bytes i ++ (take d (pointOf k (n + i)) ++ positionsOf d (take m (drop (suc i) (drop n (block k)))))
+  bytes-split i m h =
+      ap (positionsOf d) (take-add (suc i) m (drop n (block k)))
+      ∙ positions-append d (take (suc i) (drop n (block k))) (take m (drop (suc i) (drop n (block k))))
+      ∙ ap (λ b. b ++ positionsOf d (take m (drop (suc i) (drop n (block k))))) (bytes-suc i h)
+      ∙ append-assoc (bytes i) (take d (pointOf k (n + i))) (positionsOf d (take m (drop (suc i) (drop n (block k)))))
+
+  pub bytes-at : d ≤ length k → (i w : ℕ) (rest : List ℕ) → i < w → n + w ≤ blockSize k → take d (drop (i * d) (bytes w ++ rest)) ≡ take d (pointOf k (n + i))
+  bytes-at few i w rest h inside =
+      ap (λ b. take d (drop (i * d) (b ++ rest))) (ap bytes split ∙ bytes-split i m there)
+      ∙ ap (λ b. take d (drop (i * d) b)) (append-assoc (bytes i) (p ++ more) rest)
+      ∙ ap (take d) (drop-at (bytes i) (p ++ more ++ rest) (i * d) (bytes-length few i (omega (arith, h, inside))))
+      ∙ ap (take d) (append-assoc p more rest)
+      ∙ take-at p (more ++ rest) d (length-take-le d (pointOf k (n + i)) (omega (arith, few, point-length k (n + i))))
+    where
+      m : ℕ
+      m = w - suc i
+
+      p : List ℕ
+      p = take d (pointOf k (n + i))
+
+      more : List ℕ
+      more = positionsOf d (take m (drop (suc i) (drop n (block k))))
+
+      there : n + i < blockSize k
+      there = omega (arith, h, inside)
+
+      split : w ≡ suc i + m
+      split = omega (arith, h)
+
+  -- ---- what fits
+
+  -- `count` of the block's points fit in so many bytes, and are left from the n-th on; and no more.
+  pub record Fitting (room count : ℕ) : Type 0 where
+    pub is : pointsFitting d k n room ≡ take count (drop n (block k))
+    pub some : 1 ≤ count
+    pub fit : count * d ≤ room
+    pub left : n + count ≤ blockSize k
+    pub most : (n + count ≡ blockSize k) ⊎ (room < (count + 1) * d)
+
+  pub fitting-count : (room : ℕ) → 1 ≤ d → d ≤ room → n < blockSize k → (count : ℕ) × Fitting room count
+  fitting-count room one enough inside = go (decLt (blockSize k - n) (room / d))
+    where
+      go : Dec (blockSize k - n < room / d) → (count : ℕ) × Fitting room count
+      go (yes h) = (
+        blockSize k - n,
+        record {
+          is = fitting room (blockSize k - n) (omega (arith, h)) (inr refl);
+          some = omega (arith, inside);
+          fit = le-trans (mul-le-mul-right d (omega (arith, h))) (div-mul-le-self room d);
+          left = omega (arith, inside);
+          most = inl (omega (arith, inside));
+        },
+      )
+      go (no h) = (
+        room / d,
+        record {
+          is = fitting room (room / d) (omega arith) (inl refl);
+          some = le-div-iff-mul-le {x = 1} {y = room} one .1 (omega (arith, enough));
+          fit = div-mul-le-self room d;
+          left = omega (arith, inside, h);
+          most = inr (omega (arith, div-add-mod' room d, mod-lt room one));
+        },
+      )
