@@ -15,7 +15,7 @@ use Rattle.area.specs.Encoding.{Area, areaOf, machineOf}
 use Rattle.area.proofs.Facts.{run-facts}
 use Rattle.soundness.specs.Clauses.{checked}
 use Rattle.encoding.proofs.Cells.{cells-well-formed, held-well-formed}
-use Rattle.calls.specs.Replies.{Reply, refused, accepted, promotion, counts, total, verdict}
+use Rattle.calls.specs.Replies.{Reply, refused, accepted, wrote, promotion, counts, total, verdict}
 use Rattle.calls.specs.Table as table
 use Rattle.calls.specs.Table.{Call, row, effectOf}
 use Rattle.calls.specs.Calls.{CallResult, callOn}
@@ -25,7 +25,7 @@ use Rattle.wihupya.specs.Exports as exports
 use Rattle.wihupya.specs.Exports.{Exported}
 use Rattle.wihupya.proofs.Facts.{word-facts}
 use Rattle.history.specs.Storage.{areaLent, returned, callIn, storageStep}
-use Rattle.history.specs.OnExports.{ExportStorage, ExportCall, start, point, deliver, promote, result, crossTotal, check, callOf, LentExport, ExportAnswer, verdictNumber, exportAnswer, exported, wordsAfter, exportStep, exportsAfter, exportAnswers, ExportLeft, OnlyReads, Contract, MeetsContract, answerLeft, putBack, AllMeet, leftAfter, ContractFacts}
+use Rattle.history.specs.OnExports.{ExportStorage, ExportCall, start, point, points, deliver, promote, result, crossTotal, check, callOf, LentExport, ExportAnswer, verdictNumber, exportAnswer, exported, wordsAfter, exportStep, exportsAfter, exportAnswers, ExportLeft, OnlyReads, Contract, MeetsContract, answerLeft, putBack, AllMeet, leftAfter, ContractFacts}
 use Rattle.history.proofs.WellFormed.{Leaves, call-leaves}
 
 -- ---- one call
@@ -87,6 +87,13 @@ module _ (job cells : List ℕ) (store : List ℤ) (y : ExportLeft) where
         job = m .2 .0;
         cells = read-cells (table.point n buffer) refl (m .2);
         store = read-store (table.point n buffer) refl (m .2);
+      }
+  agrees (points n given buffer) m =
+      record {
+        answer = λ i. record { number = m .0 i; words = m .1 i; buffer = m .2 i };
+        job = m .3 .0;
+        cells = read-cells (table.points n buffer) refl (m .3);
+        store = read-store (table.points n buffer) refl (m .3);
       }
   agrees (deliver rs n) m =
       let d = callOn a (table.deliver rs n) in
@@ -167,6 +174,7 @@ refused-number : (r : Reply) → (exports.numberOf r ≡ 0 → ⊥) → r ≡ re
 unfolding exports.numberOf
 refused-number (refused n) f = refl
 refused-number accepted f = absurd (f refl)
+refused-number (wrote n size) f = absurd (f refl)
 refused-number (promotion o) f = absurd (f refl)
 refused-number (counts k) f = absurd (f refl)
 refused-number (total z) f = absurd (f refl)
@@ -213,6 +221,9 @@ module _ (job cells : List ℕ) (store : List ℤ) (round : wordsOf (jobOf job) 
   met (point n buffer) =
       let d = callOn lent (table.point n buffer) in
       (kept (exports.numberOf (d .answer .reply)) [] (d .answer .buffer), (refl, refl, (refl, refl, refl), refl))
+  met (points n given buffer) =
+      let d = callOn lent (table.points n buffer) in
+      (kept (exports.numberOf (d .answer .reply)) (exports.pointsAfter (d .answer .reply) given) (d .answer .buffer), (refl, refl, refl, (refl, refl, refl)))
   met (deliver rs n) =
       let c = table.deliver rs n in
       (written c [] (callOn lent c .area .store), (written-is c (callOn lent c .area .store) refl, refused-job c, refl, refl))

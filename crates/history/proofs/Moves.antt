@@ -16,7 +16,7 @@ use Rattle.encoding.specs.Entries.{SoundMachine}
 use Rattle.machine.specs.Means.{meanOf, crossOf}
 use Rattle.machine.specs.Causes.{Lengths, deliverCauses}
 use Rattle.machine.proofs.Means.{mean-facts}
-use Rattle.calls.specs.Table.{Call, start, point, deliver, promote, result, crossTotal, check, Effect, unchanged, becomes, row, causesOf, effectOf, refusal, changed, stateAfter}
+use Rattle.calls.specs.Table.{Call, start, point, points, deliver, promote, result, crossTotal, check, Effect, unchanged, becomes, row, causesOf, effectOf, refusal, changed, stateAfter}
 use Rattle.calls.proofs.Accepted.{deliverable}
 use Rattle.calls.proofs.Rows.{promote-effect}
 use Rattle.calls.proofs.Next.{Allowed, allowed}
@@ -36,6 +36,7 @@ moved-log : (m n : Machine) → m .log ≡ n .log → (c : Call) → moved m c .
 unfolding effectOf row changed
 moved-log m n e (start g) = refl
 moved-log m n e (point k buffer) = e
+moved-log m n e (points k buffer) = e
 moved-log m n e (deliver rs i) = unfold steps.deliver in ap (λ (l : Log). steps.deliverLog l rs i) e
 moved-log m n e promote =
     ap (λ (y : Machine). y .log) (promote-effect m)
@@ -83,6 +84,7 @@ module _ (m : Machine) (f : MachineInvariant m) where
     unfolding refusal causesOf effectOf row changed deliverCauses
     mean-kept (start g) e = unfold steps.started in sym (mean-facts .start g)
     mean-kept (point n buffer) e = f .mean
+    mean-kept (points n buffer) e = f .mean
     mean-kept (deliver rs i) e =
         unfold steps.deliver in
         ap (λ y. y +ℤ scaledDifference (wantedIndex (m .log .entries)) (readingIn (steps.deliver m rs i .log .entries))) (f .mean)

@@ -12,7 +12,7 @@ use lib.Dec.{eqb}
 use Rattle.area.specs.Log.{Log}
 use Rattle.machine.specs.Causes.{Lengths, Cause, firstCause, startCauses}
 use Rattle.calls.specs.Replies.{refused}
-use Rattle.calls.specs.Table.{Call, start, point, deliver, promote, result, crossTotal, check, Answer, row, causesOf, passesCheck, acceptedAnswer, refusedAnswer, refusal, answerOf}
+use Rattle.calls.specs.Table.{Call, start, point, points, deliver, promote, result, crossTotal, check, Answer, row, causesOf, passesCheck, acceptedAnswer, refusedAnswer, refusal, answerOf}
 use Rattle.calls.proofs.Numbers.{accepted-reply}
 use Rattle.calls.proofs.CauseCases.{refused-reply}
 use Rattle.history.specs.LentCalls.{LentCall, lengthsLent}
@@ -39,6 +39,7 @@ not-four : (z : Lengths) (l : Log) (c : Call) → refusal z true l c ≡ 4 → �
 unfolding apart refusal causesOf row startCauses
 not-four z l (start g) = spared (startCauses z g) refl
 not-four z l (point n buffer) = spared (causesOf z true l (row (point n buffer))) refl
+not-four z l (points n buffer) = spared (causesOf z true l (row (points n buffer))) refl
 not-four z l (deliver rs i) = spared (causesOf z true l (row (deliver rs i))) refl
 not-four z l promote = spared (causesOf z true l (row promote)) refl
 not-four z l result = spared (causesOf z true l (row result)) refl

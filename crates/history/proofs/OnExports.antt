@@ -23,7 +23,7 @@ use Rattle.machine.specs.Steps as steps
 use Rattle.machine.specs.Causes.{firstCause, startCauses}
 use Rattle.machine.specs.Counts.{countsOf}
 use Rattle.machine.specs.Means.{crossOf}
-use Rattle.calls.specs.Replies.{Reply, refused, accepted, promotion, counts, total, verdict}
+use Rattle.calls.specs.Replies.{Reply, refused, accepted, wrote, promotion, counts, total, verdict}
 use Rattle.calls.specs.Table as table
 use Rattle.calls.specs.Table.{Call, Answer, answer, row, effectOf, acceptedAnswer}
 use Rattle.calls.specs.Calls.{CallResult, refusalOn, callOn}
@@ -36,7 +36,7 @@ use Rattle.history.specs.LentCalls.{Part, lengthsLent}
 use Rattle.history.specs.Logged.{stateOf, logStep, logAfter, answerBy}
 use Rattle.history.specs.Storage.{Storage, areaLent, Lent, AllLent, returned, callIn, storageStep}
 use Rattle.history.specs.Found.{Found}
-use Rattle.history.specs.OnExports.{ExportStorage, readStorage, ExportCall, start, point, deliver, promote, result, crossTotal, check, callOf, Typed, LentExport, lentCall, AllTyped, AllLentExports, ExportAnswer, verdictNumber, exportAnswer, exported, wordsAfter, exportStep, exportsAfter, exportAnswers, exportAnswersBy, wholePart, signedAt, ExportsFound, ExportsDemand, ThirdDemandOnExports}
+use Rattle.history.specs.OnExports.{ExportStorage, readStorage, ExportCall, start, point, points, deliver, promote, result, crossTotal, check, callOf, Typed, LentExport, lentCall, AllTyped, AllLentExports, ExportAnswer, verdictNumber, exportAnswer, exported, wordsAfter, exportStep, exportsAfter, exportAnswers, exportAnswersBy, wholePart, signedAt, ExportsFound, ExportsDemand, ThirdDemandOnExports}
 use Rattle.history.proofs.Holding.{Holds, Kept}
 use Rattle.history.proofs.Moves.{machineStep, step-log, MachineInvariant, combined, from-log}
 use Rattle.history.proofs.Steps.{call-answer, call-keeps}
@@ -71,6 +71,7 @@ module _ (w : ExportStorage) (x : LentExport) where
       by : (c : ExportCall) → x .call ≡ c → wordsAfter c (w .words) (v .job) ≡ wordsOf (v .job)
       by (start axes threshold budget) is = refl
       by (point n buffer) is = own ∙ ap wordsOf (same-job (table.point n buffer) (ap callOf is) refl)
+      by (points n given buffer) is = own ∙ ap wordsOf (same-job (table.points n buffer) (ap callOf is) refl)
       by (deliver rs i) is = refl
       by (promote outcome) is = refl
       by (result given) is = own ∙ ap wordsOf (same-job table.result (ap callOf is) refl)
@@ -220,6 +221,7 @@ four-reply : (r : Reply) → numberOf r ≡ 4 → r ≡ refused 4
 unfolding numberOf
 four-reply (refused n) e = ap refused e
 four-reply accepted e = absurd (omega (arith, e))
+four-reply (wrote n size) e = absurd (omega (arith, e))
 four-reply (promotion o) e = absurd (omega (arith, e))
 four-reply (counts c) e = absurd (omega (arith, e))
 four-reply (total z) e = absurd (omega (arith, e))
@@ -229,6 +231,7 @@ not-verdict : (r : Reply) → verdictNumber r ≡ 4 → ⊥
 unfolding verdictNumber
 not-verdict (refused n) e = omega (arith, e)
 not-verdict accepted e = omega (arith, e)
+not-verdict (wrote n size) e = omega (arith, e)
 not-verdict (promotion o) e = omega (arith, e)
 not-verdict (counts c) e = omega (arith, e)
 not-verdict (total z) e = omega (arith, e)
@@ -239,6 +242,7 @@ not-four : (c : ExportCall) (y : Answer) → (y .reply ≡ refused 4 → ⊥) �
 unfolding exportAnswer
 not-four (start axes threshold budget) y f e = f (four-reply (y .reply) e)
 not-four (point n buffer) y f e = f (four-reply (y .reply) e)
+not-four (points n given buffer) y f e = f (four-reply (y .reply) e)
 not-four (deliver rs i) y f e = f (four-reply (y .reply) e)
 not-four (promote outcome) y f e = f (four-reply (y .reply) e)
 not-four (result given) y f e = f (four-reply (y .reply) e)

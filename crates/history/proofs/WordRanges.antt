@@ -26,7 +26,7 @@ use Rattle.wihupya.proofs.Facts.{word-facts}
 use Rattle.calls.specs.Table as table
 use Rattle.history.specs.LentCalls.{lengthsLent}
 use Rattle.history.specs.Logged.{refusalBy, logStep}
-use Rattle.history.specs.OnExports.{ExportCall, start, point, deliver, promote, result, crossTotal, check, callOf, Typed, LentExport, lentCall}
+use Rattle.history.specs.OnExports.{ExportCall, start, point, points, deliver, promote, result, crossTotal, check, callOf, Typed, LentExport, lentCall}
 use Rattle.history.proofs.LogSteps.{log-facts}
 
 -- ---- entries with indicators of 32 bits
@@ -110,6 +110,7 @@ step-range l r x h = split (eqb (refusalBy (lengthsLent (x .part)) l (callOf (x 
     by : (c : ExportCall) → Typed c → callOf (x .call) ≡ callOf c → refusalBy (lengthsLent (x .part)) l (callOf (x .call)) ≡ 0 → InRange (logStep l (lentCall x))
     by (start axes threshold budget) t is none = subst InRange (sym (log-facts .accepted-start l (lentCall x) (settingsOf axes threshold budget) is none)) (started-range axes threshold budget t)
     by (point n buffer) t is none = subst InRange (sym (log-facts .after-point l (lentCall x) n buffer is)) r
+    by (points n given buffer) t is none = subst InRange (sym (log-facts .after-points l (lentCall x) n buffer is)) r
     by (deliver rs i) t is none = subst InRange (sym (log-facts .accepted-deliver l (lentCall x) rs i is none)) (delivered-range l r rs i t)
     by (promote outcome) t is none = subst InRange (sym (log-facts .accepted-promote l (lentCall x) is none)) (promoted-range l r)
     by (result given) t is none = subst InRange (sym (log-facts .after-result l (lentCall x) is)) r

@@ -12,6 +12,8 @@ use Rattle.wihupya.proofs.wihupya_start.Kinds as start-kinds
 use Rattle.wihupya.proofs.wihupya_start.Reads as start-reads
 use Rattle.wihupya.proofs.wihupya_point.Kinds as point-kinds
 use Rattle.wihupya.proofs.wihupya_point.Reads as point-reads
+use Rattle.wihupya.proofs.wihupya_points.Kinds as points-kinds
+use Rattle.wihupya.proofs.wihupya_points.Reads as points-reads
 use Rattle.wihupya.proofs.wihupya_deliver.Kinds as deliver-kinds
 use Rattle.wihupya.proofs.wihupya_deliver.Reads as deliver-reads
 use Rattle.wihupya.proofs.wihupya_promote.Kinds as promote-kinds
@@ -22,7 +24,7 @@ use Rattle.wihupya.proofs.wihupya_cross_total.Kinds as cross-kinds
 use Rattle.wihupya.proofs.wihupya_cross_total.Reads as cross-reads
 use Rattle.wihupya.proofs.wihupya_check.Kinds as check-kinds
 use Rattle.wihupya.proofs.wihupya_check.Reads as check-reads
-use Rattle.history.specs.OnExports.{start, point, deliver, promote, result, crossTotal, check, Contract}
+use Rattle.history.specs.OnExports.{start, point, points, deliver, promote, result, crossTotal, check, Contract}
 
 pub record FunctionContracts : Type 0 where
   -- wihupya_start: job, axes, threshold, budget, cells, store
@@ -33,6 +35,10 @@ pub record FunctionContracts : Type 0 where
   pub of-point : (κs : Lfts 4) (a : Dens κs point-kinds.ps) (r : ℕ) (s : AtExit (endedOf 4 point-kinds.ps point-kinds.r) κs) → point-reads.Learnt κs a r s
       → Contract (now (a .0)) (now (a .1 .1 .0)) (now (a .1 .1 .1 .0)) (point (a .1 .0) (now (a .1 .1 .1 .1 .0)))
       (record { number = r; job = now (a .0); cells = now (a .1 .1 .0); store = now (a .1 .1 .1 .0); words = []; buffer = now (s .1 .1 .1 .1 .0) })
+  -- wihupya_points: job, n, counts, cells, store, buffer
+  pub of-points : (κs : Lfts 5) (a : Dens κs points-kinds.ps) (r : ℕ) (s : AtExit (endedOf 5 points-kinds.ps points-kinds.r) κs) → points-reads.Learnt κs a r s
+      → Contract (now (a .0)) (now (a .1 .1 .1 .0)) (now (a .1 .1 .1 .1 .0)) (points (a .1 .0) (now (a .1 .1 .0)) (now (a .1 .1 .1 .1 .1 .0)))
+      (record { number = r; job = now (a .0); cells = now (a .1 .1 .1 .0); store = now (a .1 .1 .1 .1 .0); words = now (s .1 .1 .0); buffer = now (s .1 .1 .1 .1 .1 .0) })
   -- wihupya_deliver: job, readings, indicator, cells, store
   pub of-deliver : (κs : Lfts 4) (a : Dens κs deliver-kinds.ps) (r : ℕ) (s : AtExit (endedOf 4 deliver-kinds.ps deliver-kinds.r) κs) → deliver-reads.Learnt κs a r s
       → Contract (now (a .0)) (now (a .1 .1 .1 .0)) (now (a .1 .1 .1 .1 .0)) (deliver (now (a .1 .0)) (a .1 .1 .0))

@@ -17,13 +17,13 @@ use Rattle.area.specs.Encoding.{areaOf, jobWith}
 use Rattle.soundness.specs.Clauses.{checked}
 use Rattle.machine.specs.Steps.{startLog}
 use Rattle.machine.specs.Means.{crossOf}
-use Rattle.calls.specs.Replies.{Reply, refused, accepted, promotion, counts, total, verdict}
+use Rattle.calls.specs.Replies.{Reply, refused, accepted, wrote, promotion, counts, total, verdict}
 use Rattle.calls.specs.Table as table
 use Rattle.calls.specs.Table.{Call, Answer, answer}
 use Rattle.calls.specs.Calls.{callOn}
 use Rattle.wihupya.specs.Words.{word, wide, jobOf, wordsOf}
 use Rattle.wihupya.specs.Exports as exports
-use Rattle.wihupya.specs.Exports.{numberOf, outcomeAfter, countsAfter, totalAfter}
+use Rattle.wihupya.specs.Exports.{numberOf, pointsAfter, outcomeAfter, countsAfter, totalAfter}
 use Rattle.history.specs.LentCalls.{Part, LentCall, lengthsLent}
 use Rattle.history.specs.Logged.{stateOf, logStep, logAfter, answerBy}
 use Rattle.history.specs.Storage.{Storage, Lent, callIn, storageStep}
@@ -46,6 +46,7 @@ readStorage w = record { job = jobOf (w .words); cells = w .cells; store = w .st
 pub data ExportCall : Type 0 where
   start : (axes threshold budget : ℕ) → ExportCall
   point : (n : ℕ) (buffer : List ℕ) → ExportCall
+  points : (n : ℕ) (given buffer : List ℕ) → ExportCall
   deliver : (readings : List ℤ) (indicator : ℕ) → ExportCall
   promote : (outcome : List ℕ) → ExportCall
   result : (given : List ℕ) → ExportCall
@@ -56,6 +57,7 @@ pub data ExportCall : Type 0 where
 unfoldable pub callOf : ExportCall → Call
 callOf (start axes threshold budget) = table.start (settingsOf axes threshold budget)
 callOf (point n buffer) = table.point n buffer
+callOf (points n given buffer) = table.points n buffer
 callOf (deliver rs i) = table.deliver rs i
 callOf (promote outcome) = table.promote
 callOf (result given) = table.result
@@ -66,6 +68,7 @@ callOf check = table.check
 abbrev pub Typed : ExportCall → Type 0
 Typed (start axes threshold budget) = threshold < 2 ^ 64
 Typed (point n buffer) = Unit {0}
+Typed (points n given buffer) = Unit {0}
 Typed (deliver rs i) = i < 2 ^ 32
 Typed (promote outcome) = Unit {0}
 Typed (result given) = Unit {0}
@@ -90,7 +93,7 @@ AllLentExports w (x ∷ xs) = Lent (readStorage w) (x .part) × AllLentExports w
 
 -- ---- what a call returns and writes
 
--- The number that it returns (check: 1 for yes and 0 for no), its own words as they are left, and point's buffer.
+-- The number that it returns (check: 1 for yes and 0 for no), its own words as they are left, and the buffer of point or points.
 pub record ExportAnswer : Type 0 where
   pub number : ℕ
   pub words : List ℕ
@@ -99,6 +102,7 @@ pub record ExportAnswer : Type 0 where
 unfoldable pub verdictNumber : Reply → ℕ
 verdictNumber (refused n) = 0
 verdictNumber accepted = 0
+verdictNumber (wrote n size) = 0
 verdictNumber (promotion o) = 0
 verdictNumber (counts c) = 0
 verdictNumber (total x) = 0
@@ -107,6 +111,7 @@ verdictNumber (verdict b) = cond b 1 0
 unfoldable pub exportAnswer : ExportCall → Answer → ExportAnswer
 exportAnswer (start axes threshold budget) y = record { number = numberOf (y .reply); words = []; buffer = [] }
 exportAnswer (point n buffer) y = record { number = numberOf (y .reply); words = []; buffer = y .buffer }
+exportAnswer (points n given buffer) y = record { number = numberOf (y .reply); words = pointsAfter (y .reply) given; buffer = y .buffer }
 exportAnswer (deliver rs i) y = record { number = numberOf (y .reply); words = []; buffer = [] }
 exportAnswer (promote outcome) y = record { number = numberOf (y .reply); words = outcomeAfter (y .reply) outcome; buffer = [] }
 exportAnswer (result given) y = record { number = numberOf (y .reply); words = countsAfter (y .reply) given; buffer = [] }
@@ -120,6 +125,7 @@ exported w x = exportAnswer (x .call) (callIn (readStorage w) (lentCall x) .answ
 unfoldable pub wordsAfter : ExportCall → List ℕ → JobRecord → List ℕ
 wordsAfter (start axes threshold budget) w j = wordsOf j
 wordsAfter (point n buffer) w j = w
+wordsAfter (points n given buffer) w j = w
 wordsAfter (deliver rs i) w j = wordsOf j
 wordsAfter (promote outcome) w j = wordsOf j
 wordsAfter (result given) w j = w
@@ -152,7 +158,7 @@ exportAnswersBy l (x ∷ xs) = exportAnswer (x .call) (answerBy (lengthsLent (x 
 -- ---- the contracts
 
 -- What the function of a call returned (check: 1 for yes and 0 for no), and what it left in the words of the job record, in the cells and
--- the store that it was lent, in the words for its answer and in point's buffer.
+-- the store that it was lent, in the words for its answer and in the buffer of point or points.
 pub record ExportLeft : Type 0 where
   pub number : ℕ
   pub job : List ℕ
@@ -180,6 +186,11 @@ Contract job cells store (point n buffer) y =
     × (y .buffer ≡ callOn (areaOf (jobOf job) cells store) (table.point n buffer) .answer .buffer)
     × OnlyReads job cells store y
     × (y .words ≡ [])
+Contract job cells store (points n given buffer) y =
+    (y .number ≡ numberOf (callOn (areaOf (jobOf job) cells store) (table.points n buffer) .answer .reply))
+    × (y .words ≡ pointsAfter (callOn (areaOf (jobOf job) cells store) (table.points n buffer) .answer .reply) given)
+    × (y .buffer ≡ callOn (areaOf (jobOf job) cells store) (table.points n buffer) .answer .buffer)
+    × OnlyReads job cells store y
 Contract job cells store (deliver rs i) y =
     (record { number = y .number; job = y .job; run = runOf (y .cells); store = y .store }
     ≡ exports.exported (callOn (areaOf (jobOf job) cells store) (table.deliver rs i)))

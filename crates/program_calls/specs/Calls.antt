@@ -9,8 +9,8 @@ use Rattle.machine.specs.Log.{anyWanted}
 use Rattle.machine.specs.Promote as rule
 use Rattle.machine.specs.Steps.{startLog}
 use Rattle.machine.specs.Causes.{Lengths}
-use Rattle.calls.specs.Replies.{Reply, refused, accepted, promotion, counts, total, verdict}
-use Rattle.calls.specs.Table.{Call, start, point, deliver, promote, result, crossTotal, check}
+use Rattle.calls.specs.Replies.{Reply, refused, accepted, wrote, promotion, counts, total, verdict}
+use Rattle.calls.specs.Table.{Call, start, point, points, deliver, promote, result, crossTotal, check}
 use Rattle.history.specs.LentCalls.{Part, LentCall, lengthsLent}
 use Rattle.history.specs.Logged.{logStep, logAfter, answerBy}
 use Rattle.history.specs.Source.{lendAll}
@@ -45,6 +45,7 @@ goesOnAfter rule.promoted = true
 unfoldable pub goesOn : Reply → Bool
 goesOn (refused n) = false
 goesOn accepted = true
+goesOn (wrote n size) = false
 goesOn (promotion o) = goesOnAfter o
 goesOn (counts x) = false
 goesOn (total x) = false
@@ -75,6 +76,7 @@ programLog c = logAfter (startLog (fileSettings c)) (lendAll ownPart (laterCalls
 unfoldable pub nextEntry : ℕ → Call → ℕ
 nextEntry i (start g) = i
 nextEntry i (point n buffer) = i
+nextEntry i (points n buffer) = i
 nextEntry i (deliver rs k) = i + 1
 nextEntry i promote = i
 nextEntry i result = i
