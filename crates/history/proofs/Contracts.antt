@@ -15,7 +15,7 @@ use Rattle.area.specs.Encoding.{Area, areaOf, machineOf}
 use Rattle.area.proofs.Facts.{run-facts}
 use Rattle.soundness.specs.Clauses.{checked}
 use Rattle.encoding.proofs.Cells.{cells-well-formed, held-well-formed}
-use Rattle.calls.specs.Replies.{Reply, refused, accepted, wrote, promotion, counts, total, verdict}
+use Rattle.calls.specs.Replies.{refused, verdict}
 use Rattle.calls.specs.Table as table
 use Rattle.calls.specs.Table.{Call, row, effectOf}
 use Rattle.calls.specs.Calls.{CallResult, callOn}
@@ -24,6 +24,7 @@ use Rattle.wihupya.specs.Words.{jobOf, wordsOf}
 use Rattle.wihupya.specs.Exports as exports
 use Rattle.wihupya.specs.Exports.{Exported}
 use Rattle.wihupya.proofs.Facts.{word-facts}
+use Rattle.wihupya.proofs.Refusals.{refused-number}
 use Rattle.history.specs.Storage.{areaLent, returned, callIn, storageStep}
 use Rattle.history.specs.OnExports.{ExportStorage, ExportCall, start, point, points, deliver, promote, result, crossTotal, check, callOf, LentExport, ExportAnswer, verdictNumber, exportAnswer, exported, wordsAfter, exportStep, exportsAfter, exportAnswers, ExportLeft, OnlyReads, Contract, MeetsContract, answerLeft, putBack, AllMeet, leftAfter, ContractFacts}
 use Rattle.history.proofs.WellFormed.{Leaves, call-leaves}
@@ -169,16 +170,6 @@ storage-met w (x ∷ xs) [] m = absurd m
 storage-met w (x ∷ xs) (y ∷ ys) m = storage-met (putBack w (x .part) y) xs ys (m .1) ∙ ap (λ (v : ExportStorage). exportsAfter v xs) (step-met w x y (m .0))
 
 -- ---- the contracts can be met
-
-refused-number : (r : Reply) → (exports.numberOf r ≡ 0 → ⊥) → r ≡ refused (exports.numberOf r)
-unfolding exports.numberOf
-refused-number (refused n) f = refl
-refused-number accepted f = absurd (f refl)
-refused-number (wrote n size) f = absurd (f refl)
-refused-number (promotion o) f = absurd (f refl)
-refused-number (counts k) f = absurd (f refl)
-refused-number (total z) f = absurd (f refl)
-refused-number (verdict b) f = absurd (f refl)
 
 module _ (job cells : List ℕ) (store : List ℤ) (round : wordsOf (jobOf job) ≡ job) where
   abbrev lent : Area

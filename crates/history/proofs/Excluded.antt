@@ -8,11 +8,11 @@ use borrow.Author.Tests.{le-leb, leb-true}
 use lib.Dec.{leb}
 use lib.ListN.{length}
 use Rattle.sums.specs.Sums.{sumTo, sumOf}
-use Rattle.rule.specs.Points.{newCount, newPoint}
+use Rattle.rule.specs.Points.{newPoints, newCount, newPoint}
 use Rattle.rule.specs.Rules.{unit}
 use Rattle.rule.specs.Weights.{wholeWeight, endsOne, differenceWeight}
 use Rattle.grid.specs.Index.{root, excess, levelsWithin, within, cappedAxes, forward, backward}
-use Rattle.grid.specs.Block.{blockSize, pointOf}
+use Rattle.grid.specs.Block.{cartesian, block, blockSize, pointOf}
 use Rattle.grid.specs.Difference.{units, behind}
 use Rattle.grid.specs.Tensor.{tensorSum, tensorRule}
 use Rattle.grid.specs.Coefficient.{sameLevels, isIn, subsets, sign, raisedOn, coefficient}
@@ -25,6 +25,7 @@ use Rattle.area.specs.Log.{Log, Machine, withEntries}
 use Rattle.encoding.specs.Entries.{SoundMachine}
 use Rattle.machine.specs.Log.{wanted, firstWanted, anyWanted, wantedIndex}
 use Rattle.machine.specs.Promote as rule
+use Rattle.machine.specs.Points.{pointsFitting, positionsOf, writtenOver}
 use Rattle.machine.specs.Admitted.{Exceeds, IndexPlace}
 use Rattle.machine.proofs.Facts.{step-facts}
 use Rattle.machine.proofs.Limits.{above-not-met, promote-above, not-met-above}
@@ -138,5 +139,5 @@ excluded =
     }
 
 pub call-cases : CallCases
-unfolding answersAfter axesFit budgetFit readingsFor readingCount leastStore startCauses pointOf newPoint answersBy answerBy answerOf acceptedAnswer refusedAnswer passesCheck refusal causesOf effectOf row promotionEffect changed stateAfter stateOf logStep fileCalls firstCause short inRange anyWanted firstWanted wanted root steps.started steps.deliver steps.promoteStep deliverAt delivered rule.promote rule.promoteAt rule.refine rule.makeOld rule.madeOld rule.selected rule.firstActive rule.largest rule.isMet rule.fits rule.admittedAxes rule.passing rule.admits rule.backwardOld rule.isOld within levelsWithin excess forward backward allFrom sameLevels countsOf countOf cappedAxes ceilingCount reservedBy pendingOf crossOf crossTotal deliveredOf readingIn readingsOf coefficient sumOf subsets sign raisedOn isIn tensorRule tensorSum units unit sumTo wholeWeight endsOne newCount behind blockSize
-call-cases = record { between = refl; mean-zero = refl; threshold-equal = refl; budget-four = refl; budget-five = refl; file = refl }
+unfolding answersAfter axesFit budgetFit readingsFor readingCount leastStore startCauses pointOf newPoint answersBy answerBy answerOf acceptedAnswer refusedAnswer passesCheck refusal causesOf effectOf row promotionEffect changed stateAfter stateOf logStep fileCalls firstCause short inRange anyWanted firstWanted wanted root steps.started steps.deliver steps.promoteStep deliverAt delivered rule.promote rule.promoteAt rule.refine rule.makeOld rule.madeOld rule.selected rule.firstActive rule.largest rule.isMet rule.fits rule.admittedAxes rule.passing rule.admits rule.backwardOld rule.isOld within levelsWithin excess forward backward allFrom sameLevels countsOf countOf cappedAxes ceilingCount reservedBy pendingOf crossOf crossTotal deliveredOf readingIn readingsOf coefficient sumOf subsets sign raisedOn isIn tensorRule tensorSum units unit sumTo wholeWeight endsOne newCount behind blockSize pointsFitting positionsOf writtenOver block cartesian newPoints
+call-cases = record { between = refl; many-points = refl; mean-zero = refl; threshold-equal = refl; budget-four = refl; budget-five = refl; file = refl }

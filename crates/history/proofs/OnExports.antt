@@ -32,6 +32,7 @@ use Rattle.calls.proofs.CauseCases.{call-ways, refused-reply}
 use Rattle.wihupya.specs.Words.{jobOf, lowWord, highWord, wordsOf}
 use Rattle.wihupya.specs.Exports.{numberOf, countsAfter, totalAfter}
 use Rattle.wihupya.proofs.Facts.{both}
+use Rattle.wihupya.proofs.Refusals.{refused-number}
 use Rattle.history.specs.LentCalls.{Part, lengthsLent}
 use Rattle.history.specs.Logged.{stateOf, logStep, logAfter, answerBy}
 use Rattle.history.specs.Storage.{Storage, areaLent, Lent, AllLent, returned, callIn, storageStep}
@@ -218,14 +219,7 @@ module _ (w : ExportStorage) (m : Machine) (h : Hand w m) where
 -- ---- 4 is never returned
 
 four-reply : (r : Reply) → numberOf r ≡ 4 → r ≡ refused 4
-unfolding numberOf
-four-reply (refused n) e = ap refused e
-four-reply accepted e = absurd (omega (arith, e))
-four-reply (wrote n size) e = absurd (omega (arith, e))
-four-reply (promotion o) e = absurd (omega (arith, e))
-four-reply (counts c) e = absurd (omega (arith, e))
-four-reply (total z) e = absurd (omega (arith, e))
-four-reply (verdict b) e = absurd (omega (arith, e))
+four-reply r e = refused-number r (λ z. omega (arith, e, z)) ∙ ap refused e
 
 not-verdict : (r : Reply) → verdictNumber r ≡ 4 → ⊥
 unfolding verdictNumber

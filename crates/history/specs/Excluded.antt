@@ -24,8 +24,8 @@ use Rattle.machine.specs.Causes.{Lengths, inRange}
 use Rattle.machine.specs.Counts.{countsOf}
 use Rattle.machine.specs.Means.{crossOf}
 use Rattle.writing.specs.ValidArea.{ValidArea}
-use Rattle.calls.specs.Replies.{refused, accepted, promotion, counts, total, verdict}
-use Rattle.calls.specs.Table.{Call, start, point, deliver, promote, result, crossTotal, check, Answer, answer}
+use Rattle.calls.specs.Replies.{refused, accepted, wrote, promotion, counts, total, verdict}
+use Rattle.calls.specs.Table.{Call, start, point, points, deliver, promote, result, crossTotal, check, Answer, answer}
 use Rattle.calls.specs.Calls.{callOn}
 use Rattle.history.specs.LentCalls.{LentCall}
 use Rattle.history.specs.Logged.{stateOf, refusalBy, answersBy}
@@ -149,6 +149,11 @@ pub record CallCases : Type 0 where
       ≡ record { reply = accepted; buffer = 64 ∷ 64 ∷ 3 ∷ [] } ∷ answer (refused 7) ∷ answer (refused 8) ∷ record { reply = refused 9; buffer = 1 ∷ 2 ∷ [] } ∷ answer (refused 6)
       ∷ answer (refused 3) ∷ answer accepted ∷ answer (refused 5)
       ∷ answer (verdict true) ∷ answer (refused 1) ∷ answer (total (pos (3 * 2 ^ 20))) ∷ answer accepted ∷ answer (total (pos 0)) ∷ []
+  -- points: of a block of two, one with room for one and a part, both, the last alone; past the block 9, a buffer under d 3
+  pub many-points : answersAfter (startLog (settingsOf 2 0 64))
+      (deliver (pos 3 ∷ []) 7 ∷ promote ∷ points 0 (9 ∷ 9 ∷ 9 ∷ []) ∷ points 0 (9 ∷ 9 ∷ 9 ∷ 9 ∷ 9 ∷ []) ∷ points 1 (9 ∷ 9 ∷ 9 ∷ 9 ∷ 9 ∷ []) ∷ points 2 (9 ∷ 9 ∷ []) ∷ points 0 (9 ∷ []) ∷ [])
+      ≡ answer accepted ∷ answer (promotion rule.promoted) ∷ record { reply = wrote 1 2; buffer = 0 ∷ 64 ∷ 9 ∷ [] } ∷ record { reply = wrote 2 2; buffer = 0 ∷ 64 ∷ 128 ∷ 64 ∷ 9 ∷ [] }
+      ∷ record { reply = wrote 1 2; buffer = 128 ∷ 64 ∷ 9 ∷ 9 ∷ 9 ∷ [] } ∷ record { reply = refused 9; buffer = 9 ∷ 9 ∷ [] } ∷ record { reply = refused 3; buffer = 9 ∷ [] } ∷ []
   -- the file: its report's figures
   pub file : answersAfter (startLog (settingsOf 2 40 64)) fileCalls
       ≡ answer accepted

@@ -1,4 +1,4 @@
--- A call that is refused leaves the job record, and so its words, and the outcome's word.
+-- A call that is refused leaves the job record, and so its words, and the outcome's word. A number other than 0 is a refusal's.
 -- Assumes nothing.
 use mathlib.Core.Path.{_≡_, refl, ap, sym, _∙_}
 use mathlib.Core.List.{List}
@@ -8,7 +8,7 @@ use Rattle.area.specs.Encoding.{Area, areaOf}
 use Rattle.calls.specs.declared.Answer as code
 use Rattle.calls.specs.declared.Answer.the-variants as answers
 use Rattle.calls.specs.declared.CallOutput.{CallOutput}
-use Rattle.calls.specs.Replies.{replyOf}
+use Rattle.calls.specs.Replies.{Reply, refused, accepted, wrote, promotion, counts, total, verdict, replyOf}
 use Rattle.calls.specs.Table.{Call}
 use Rattle.calls.specs.Calls.{CallResult, callOn, callResultOf}
 use Rattle.calls.proofs.Facts.{call-facts}
@@ -41,3 +41,13 @@ refused-outcome answers.Accepted number w e f = refl
 refused-outcome answers.Met number w e f = absurd (f e)
 refused-outcome answers.Spent number w e f = absurd (f e)
 refused-outcome answers.Promoted number w e f = absurd (f e)
+
+pub refused-number : (r : Reply) → (numberOf r ≡ 0 → ⊥) → r ≡ refused (numberOf r)
+unfolding numberOf
+refused-number (refused n) f = refl
+refused-number accepted f = absurd (f refl)
+refused-number (wrote n size) f = absurd (f refl)
+refused-number (promotion o) f = absurd (f refl)
+refused-number (counts c) f = absurd (f refl)
+refused-number (total x) f = absurd (f refl)
+refused-number (verdict b) f = absurd (f refl)
