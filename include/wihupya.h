@@ -6,9 +6,9 @@
  * examples/pump-in-c/pump.c):
  *
  *     wihupya_start    once: the number of axes, the threshold, the budget
- *     wihupya_point    n = 0, 1, 2, ...: the points of the block that is wanted, until WIHUPYA_NO_SUCH_POINT
+ *     wihupya_points   the points of the block that is wanted, all at once; wihupya_point gives one at a time
  *     wihupya_deliver  the readings at these points, in the same order, and an indicator of how much the block matters
- *     ...              the next block, until wihupya_point says WIHUPYA_NO_BLOCK_WANTED
+ *     ...              the next block, until wihupya_points says WIHUPYA_NO_BLOCK_WANTED
  *     wihupya_promote  refines where the indicator is largest, so that new blocks are wanted; ends with met or spent
  *     wihupya_result   the mean
  *
@@ -57,7 +57,8 @@ extern "C" {
 #define WIHUPYA_HIGHEST_LEVEL 8         /* of an axis, from 1 */
 #define WIHUPYA_HIGHEST_EXCESS 12       /* of an index: the sum of (level - 1) over its axes */
 #define WIHUPYA_RECORDS 512             /* the most indices of a job, and the fewest records to lend */
-#define WIHUPYA_LARGEST_BUDGET 8192     /* so a block, too, has at most this many readings */
+#define WIHUPYA_LARGEST_BUDGET 8192     /* in readings */
+#define WIHUPYA_LARGEST_BLOCK 2048      /* no block has more points, which the ceilings of level and excess see to */
 #define WIHUPYA_LARGEST_READING 1048576 /* a reading lies between minus this and this */
 #define WIHUPYA_LARGEST_POSITION 128    /* a position on an axis lies between 0 and this; 64 is the centre */
 #define WIHUPYA_SCALE 1048576           /* the scaled mean is the mean times this */
@@ -66,6 +67,7 @@ extern "C" {
 #define WIHUPYA_JOB_WORDS 10
 #define WIHUPYA_RECORD_CELLS 27
 #define WIHUPYA_CELLS (WIHUPYA_RECORDS * WIHUPYA_RECORD_CELLS)
+#define WIHUPYA_POINT_WORDS 2
 #define WIHUPYA_OUTCOME_WORDS 1
 #define WIHUPYA_COUNT_WORDS 9
 #define WIHUPYA_TOTAL_WORDS 2
@@ -74,20 +76,20 @@ extern "C" {
 #define WIHUPYA_ACCEPTED 0             /* not refused */
 #define WIHUPYA_AXES_OUT_OF_RANGE 1    /* start: the axes are not 1 to 8 */
 #define WIHUPYA_BUDGET_OUT_OF_RANGE 2  /* start: the budget is not 1 to 8,192 */
-/* 3: fewer than 512 records, a store under the budget, or point's buffer under the axes. But for start, the budget and the axes are those
- * that the job record holds, whatever they are: an area that was never started may answer 3 as well as 4. */
+/* 3: fewer than 512 records, a store under the budget, or the buffer of point or points under the axes. But for start, the budget and the
+ * axes are those that the job record holds, whatever they are: an area that was never started may answer 3 as well as 4. */
 #define WIHUPYA_TOO_SHORT 3
 #define WIHUPYA_NOT_SOUND 4            /* the work area is not sound: it was never started, or something else wrote it */
-#define WIHUPYA_NO_BLOCK_WANTED 5      /* point, deliver: all blocks are delivered, so promote */
+#define WIHUPYA_NO_BLOCK_WANTED 5      /* point, points, deliver: all blocks are delivered, so promote */
 #define WIHUPYA_BLOCK_WANTED 6         /* promote: a block is not delivered yet */
 #define WIHUPYA_WRONG_COUNT 7          /* deliver: the block has another number of readings */
 #define WIHUPYA_READING_OUT_OF_RANGE 8 /* deliver: a reading is below -1,048,576 or above 1,048,576 */
-#define WIHUPYA_NO_SUCH_POINT 9        /* point: n is not below the number of the block's points */
+#define WIHUPYA_NO_SUCH_POINT 9        /* point, points: n is not below the number of the block's points */
 
 /* Outcomes of wihupya_promote. */
 #define WIHUPYA_MET 0      /* the pending error is at most the threshold: the job is done */
 #define WIHUPYA_SPENT 1    /* the next refinement would take more readings than the budget, or more than 512 indices */
-#define WIHUPYA_PROMOTED 2 /* refined; wihupya_point tells whether a block is wanted now */
+#define WIHUPYA_PROMOTED 2 /* refined; wihupya_points tells whether a block is wanted now */
 
 /* The words of a job record. A 64-bit number takes two words, the low one first: see wihupya_unsigned_at. */
 #define WIHUPYA_JOB_THRESHOLD 0 /* 64 bits */
@@ -97,6 +99,10 @@ extern "C" {
 #define WIHUPYA_JOB_BUDGET 7
 #define WIHUPYA_JOB_HELD 8     /* the number of indices */
 #define WIHUPYA_JOB_RESERVED 9 /* the readings that their blocks take together */
+
+/* The words that wihupya_points writes. */
+#define WIHUPYA_POINTS_WRITTEN 0  /* how many points it wrote */
+#define WIHUPYA_POINTS_OF_BLOCK 1 /* how many points the block has, whatever n is */
 
 /* The words that wihupya_result writes. */
 #define WIHUPYA_COUNT_PENDING 0  /* 64 bits: the pending error, the sum of the active indices' indicators */
@@ -150,6 +156,22 @@ uint32_t wihupya_point(const uint32_t job[WIHUPYA_JOB_WORDS], size_t n, const ui
                        size_t readings, uint8_t *buffer, size_t bytes);
 
 /*
+ * Tells many points to measure: those of the first block that is wanted from point n on, as many as the block has left and the buffer has
+ * room for. Writes the positions of each as wihupya_point does, one point directly after the other, and no byte after the last of them. A
+ * buffer of WIHUPYA_LARGEST_BLOCK * WIHUPYA_MOST_AXES = 16,384 bytes has room for any block as a whole. For a block in pieces, the next n
+ * is n plus the points written, until that is the number of the block's points. Every call tests the whole work area first, so that few
+ * calls for many points each take far less time than a call for each point.
+ *
+ *   n       the number in the block of the first point to write; 0 for the whole block
+ *   counts  becomes the two words WIHUPYA_POINTS_...: the points written, at least one, and the points of the block
+ *   buffer  at least as many bytes as the job has axes; `bytes` is its length, which need be no multiple of them
+ *
+ * Refused as wihupya_point is, with 3, 4, 5 or 9; counts and buffer are then left as they were.
+ */
+uint32_t wihupya_points(const uint32_t job[WIHUPYA_JOB_WORDS], size_t n, uint32_t counts[WIHUPYA_POINT_WORDS], const uint32_t *cells,
+                        size_t words, const int32_t *store, size_t readings, uint8_t *buffer, size_t bytes);
+
+/*
  * Delivers the first block that is wanted: stores its readings, adds the indicator to the pending error and the block's difference
  * to the mean.
  *
@@ -194,7 +216,8 @@ uint32_t wihupya_cross_total(const uint32_t job[WIHUPYA_JOB_WORDS], uint32_t tot
 
 /*
  * Whether the work area is sound and what was lent is long enough, so that no call but start would be refused with 4, or with 3 but for
- * point's buffer. (Start has a budget of its own, for which the store may be too short.) True after every start that was accepted; worth asking after an area came from a file or from elsewhere.
+ * the buffer of point or points. (Start has a budget of its own, for which the store may be too short.) True after every start that was
+ * accepted; worth asking after an area came from a file or from elsewhere.
  */
 bool wihupya_check(const uint32_t job[WIHUPYA_JOB_WORDS], const uint32_t *cells, size_t words, const int32_t *store,
                    size_t readings);

@@ -16,8 +16,9 @@ static struct area {
     int32_t store[BUDGET];
 } area, before;
 
-static uint8_t position[WIHUPYA_MOST_AXES];
-static uint32_t outcome[WIHUPYA_OUTCOME_WORDS], counts[WIHUPYA_COUNT_WORDS], total[WIHUPYA_TOTAL_WORDS];
+static uint8_t position[WIHUPYA_MOST_AXES], positions[WIHUPYA_LARGEST_BLOCK * WIHUPYA_MOST_AXES];
+static uint32_t written[WIHUPYA_POINT_WORDS], outcome[WIHUPYA_OUTCOME_WORDS];
+static uint32_t counts[WIHUPYA_COUNT_WORDS], total[WIHUPYA_TOTAL_WORDS];
 
 #define EXPECT(holds) expect((holds), #holds, __LINE__)
 /* The call is refused with this number and leaves the area. */
@@ -69,6 +70,37 @@ static void test_start(void)
     EXPECT(area.cells[WIHUPYA_CELL_FORWARD] == WIHUPYA_NONE && area.cells[WIHUPYA_CELL_BACKWARD + 7] == WIHUPYA_NONE);
 }
 
+static uint32_t points(size_t n, size_t bytes)
+{
+    return wihupya_points(area.job, n, written, WHOLE, positions, bytes);
+}
+
+/* The points of (2,1), and that the buffer is left after the last of them. */
+static void test_points(void)
+{
+    const uint8_t block[2 * AXES] = {0, 64, WIHUPYA_LARGEST_POSITION, 64};
+    EXPECT(sizeof positions == 16384);
+    memset(positions, MARK, sizeof positions);
+    written[WIHUPYA_POINTS_WRITTEN] = written[WIHUPYA_POINTS_OF_BLOCK] = MARK;
+    REFUSED(WIHUPYA_TOO_SHORT, points(0, AXES - 1));
+    REFUSED(WIHUPYA_NO_SUCH_POINT, points(2, sizeof positions));
+    REFUSED(WIHUPYA_NO_SUCH_POINT, points((size_t)1 << 32, sizeof positions));
+    REFUSED(WIHUPYA_NO_SUCH_POINT, points(SIZE_MAX, sizeof positions));
+    EXPECT(positions[0] == MARK);
+    EXPECT(written[WIHUPYA_POINTS_WRITTEN] == MARK && written[WIHUPYA_POINTS_OF_BLOCK] == MARK);
+
+    /* Room for one point and a part of another; then from the second on; then the whole block. */
+    EXPECT(points(0, 2 * AXES - 1) == WIHUPYA_ACCEPTED);
+    EXPECT(written[WIHUPYA_POINTS_WRITTEN] == 1 && written[WIHUPYA_POINTS_OF_BLOCK] == 2);
+    EXPECT(memcmp(positions, block, AXES) == 0 && positions[AXES] == MARK);
+    EXPECT(points(1, sizeof positions) == WIHUPYA_ACCEPTED);
+    EXPECT(written[WIHUPYA_POINTS_WRITTEN] == 1 && written[WIHUPYA_POINTS_OF_BLOCK] == 2);
+    EXPECT(memcmp(positions, block + AXES, AXES) == 0 && positions[AXES] == MARK);
+    EXPECT(points(0, sizeof positions) == WIHUPYA_ACCEPTED);
+    EXPECT(written[WIHUPYA_POINTS_WRITTEN] == 2 && written[WIHUPYA_POINTS_OF_BLOCK] == 2);
+    EXPECT(memcmp(positions, block, sizeof block) == 0 && positions[sizeof block] == MARK);
+}
+
 /* From a start with threshold 0 on: the root comes, then (2,1) and (1,2) are wanted. */
 static void test_steps(void)
 {
@@ -81,6 +113,7 @@ static void test_steps(void)
     EXPECT(deliver(root, 1, UINT32_MAX) == WIHUPYA_ACCEPTED);
     EXPECT(area.cells[WIHUPYA_CELL_INDICATOR] == UINT32_MAX && area.store[0] == root[0]);
     REFUSED(WIHUPYA_NO_BLOCK_WANTED, wihupya_point(area.job, 0, WHOLE, position, AXES));
+    REFUSED(WIHUPYA_NO_BLOCK_WANTED, points(0, AXES));
     EXPECT(wihupya_promote(area.job, outcome, WHOLE) == WIHUPYA_ACCEPTED && outcome[0] == WIHUPYA_PROMOTED);
 
     memset(position, MARK, sizeof position);
@@ -91,6 +124,7 @@ static void test_steps(void)
     EXPECT(position[0] == MARK);
     EXPECT(wihupya_point(area.job, 1, WHOLE, position, sizeof position) == WIHUPYA_ACCEPTED);
     EXPECT(position[0] == WIHUPYA_LARGEST_POSITION && position[1] == 64 && position[2] == MARK);
+    test_points();
 
     REFUSED(WIHUPYA_WRONG_COUNT, deliver(ends, 0, 1));
     REFUSED(WIHUPYA_WRONG_COUNT, deliver(ends, 1, 1));
@@ -116,6 +150,7 @@ static void test_result(void)
     total[0] = counts[0] = MARK;
     REFUSED(WIHUPYA_NOT_SOUND, wihupya_cross_total(area.job, total, WHOLE));
     REFUSED(WIHUPYA_NOT_SOUND, wihupya_result(area.job, counts, WHOLE));
+    REFUSED(WIHUPYA_NOT_SOUND, points(0, sizeof positions));
     EXPECT(total[0] == MARK && counts[0] == MARK);
 }
 
