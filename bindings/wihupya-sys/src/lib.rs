@@ -1,4 +1,4 @@
-//! The library's seven functions, each behind a safe one that lends it slices.
+//! The library's eight functions, each behind a safe one that lends it slices.
 //! `include/wihupya.h` says what a call does, which numbers it returns, and what
 //! the words are.
 //!
@@ -17,6 +17,8 @@ pub const JOB_WORDS: usize = 10;
 /// A job record: threshold, pending error and scaled mean, the low word of
 /// each first, then axes, budget, held and reserved.
 pub type JobWords = [u32; JOB_WORDS];
+/// Points' words: how many points it wrote, and how many the block has.
+pub type PointWords = [u32; 2];
 /// Promote's word: 0 met, 1 spent, 2 promoted.
 pub type OutcomeWord = [u32; 1];
 /// Result's words: pending error and scaled mean, the low word of each first,
@@ -41,6 +43,18 @@ extern "C" {
     fn wihupya_point(
         job: *const JobWords,
         n: usize,
+        cells: *const u32,
+        words: usize,
+        store: *const i32,
+        readings: usize,
+        buffer: *mut u8,
+        bytes: usize,
+    ) -> u32;
+
+    fn wihupya_points(
+        job: *const JobWords,
+        n: usize,
+        counts: *mut PointWords,
         cells: *const u32,
         words: usize,
         store: *const i32,
@@ -118,6 +132,21 @@ pub fn point(job: &JobWords, n: usize, cells: &[u32], store: &[i32], buffer: &mu
     // SAFETY: each pointer is that of a borrowed slice and stands before its
     // length; point writes the buffer alone, which is borrowed mutably.
     unsafe { wihupya_point(job, n, cells, words, store, readings, buffer, bytes) }
+}
+
+pub fn points(
+    job: &JobWords,
+    n: usize,
+    counts: &mut PointWords,
+    cells: &[u32],
+    store: &[i32],
+    buffer: &mut [u8],
+) -> u32 {
+    let (words, readings, bytes) = (cells.len(), store.len(), buffer.len());
+    let (cells, store, buffer) = (cells.as_ptr(), store.as_ptr(), buffer.as_mut_ptr());
+    // SAFETY: each pointer is that of a borrowed slice and stands before its
+    // length; points writes the counts and the buffer, both borrowed mutably.
+    unsafe { wihupya_points(job, n, counts, cells, words, store, readings, buffer, bytes) }
 }
 
 pub fn deliver(
