@@ -7,26 +7,31 @@
 //! or spent:
 //!
 //! ```
-//! use wihupya::{Integrator, Promotion, Refusal, CELLS, SCALE};
+//! use wihupya::{Integrator, Point, Promotion, Refusal, CELLS, SCALE};
+//!
+//! /// The reading at (x, y) is x squared plus y.
+//! fn reading(point: Point) -> i32 {
+//!     let (x, y) = (i32::from(point[0]), i32::from(point[1]));
+//!     x * x + y
+//! }
 //!
 //! # fn main() -> Result<(), Refusal> {
-//! // Two axes; the reading at (x, y) is x squared plus y.
 //! let (mut cells, mut store) = (vec![0; CELLS], vec![0; 64]);
 //! let mut job = Integrator::new(&mut cells, &mut store);
 //! job.start(2, 40, 64)?;
 //! loop {
-//!     let mut readings = Vec::new();
-//!     let mut point = [0; 2];
-//!     while job.point(readings.len(), &mut point).is_ok() {
-//!         let [x, y] = point.map(i32::from);
-//!         readings.push(x * x + y);
-//!     }
-//!     if !readings.is_empty() {
-//!         // How much the block matters is the caller's to say.
-//!         let indicator = readings.len() as u32 * 30;
-//!         job.deliver(&readings, indicator)?;
-//!     } else if job.promote()? != Promotion::Promoted {
-//!         break;
+//!     match job.wanted_block() {
+//!         Ok(points) => {
+//!             let readings: Vec<i32> = points.map(reading).collect();
+//!             // How much the block matters is the caller's to say.
+//!             let indicator = readings.len() as u32 * 30;
+//!             job.deliver(&readings, indicator)?;
+//!         }
+//!         Err(Refusal::NoBlockWanted) => match job.promote()? {
+//!             Promotion::Promoted => {}
+//!             Promotion::Met | Promotion::Spent => break,
+//!         },
+//!         Err(refusal) => return Err(refusal),
 //!     }
 //! }
 //! let counts = job.result()?;
@@ -40,11 +45,13 @@
 #![forbid(unsafe_code)]
 
 mod job;
+mod points;
 mod refusal;
 
 use wihupya_sys as exported;
 
 pub use job::JobRecord;
+pub use points::{Point, PointCounts, WantedBlock};
 pub use refusal::Refusal;
 pub use wihupya_sys::{JobWords, JOB_WORDS};
 
@@ -58,6 +65,9 @@ pub const RECORD_CELLS: usize = 27;
 pub const CELLS: usize = RECORDS * RECORD_CELLS;
 /// The largest budget; a store of this length is long enough for every job.
 pub const LARGEST_BUDGET: u32 = 8_192;
+/// No block has more points: a buffer of this many times the axes has room for
+/// any of them.
+pub const LARGEST_BLOCK: usize = 2_048;
 /// A reading lies between minus this and this.
 pub const LARGEST_READING: i32 = 1_048_576;
 /// The scaled mean is the mean times this.
@@ -150,6 +160,67 @@ impl<'a> Integrator<'a> {
     /// wanted block: one for each axis, to the front of the buffer.
     pub fn point(&self, n: usize, buffer: &mut [u8]) -> Result<(), Refusal> {
         Refusal::judge(exported::point(&self.job, n, self.cells, self.store, buffer))
+    }
+
+    /// Writes the points of the first wanted block from the n-th on, as many as
+    /// it has left and the buffer has room for: the positions of each as
+    /// [`point`](Integrator::point) gives them, one point directly after the
+    /// other. Bytes after the last of them stay. It is refused as `point` is.
+    ///
+    /// Every call checks the whole work area, so that this takes far less time
+    /// than a call for each point. A buffer of [`LARGEST_BLOCK`] times the axes
+    /// has room for any block; a smaller one takes it in pieces:
+    ///
+    /// ```
+    /// # use wihupya::{Integrator, Refusal, CELLS};
+    /// # fn main() -> Result<(), Refusal> {
+    /// # let (mut cells, mut store) = (vec![0; CELLS], vec![0; 64]);
+    /// # let mut job = Integrator::new(&mut cells, &mut store);
+    /// # job.start(2, 0, 64)?;
+    /// let (mut buffer, mut n) = ([0; 32], 0);
+    /// loop {
+    ///     let counts = job.points(n, &mut buffer)?;
+    ///     for position in buffer.chunks_exact(2).take(counts.written) {
+    ///         println!("measure at {position:?}");
+    ///     }
+    ///     n += counts.written;
+    ///     if n == counts.block {
+    ///         break;
+    ///     }
+    /// }
+    /// # assert_eq!((n, &buffer[..3]), (1, &[64, 64, 0][..]));
+    /// # Ok(())
+    /// # }
+    /// ```
+    pub fn points(&self, n: usize, buffer: &mut [u8]) -> Result<PointCounts, Refusal> {
+        let mut words = [0; 2];
+        let answer = exported::points(&self.job, n, &mut words, self.cells, self.store, buffer);
+        Refusal::judge(answer)?;
+        let [written, block] = words.map(|word| word as usize);
+        Ok(PointCounts { written, block })
+    }
+
+    /// The points of the first wanted block, one after the other, by few calls
+    /// of [`points`](Integrator::points). It is refused if no block is wanted,
+    /// and with the other causes of that call.
+    ///
+    /// ```
+    /// # use wihupya::{Integrator, Refusal, CELLS};
+    /// # fn main() -> Result<(), Refusal> {
+    /// # let (mut cells, mut store) = (vec![0; CELLS], vec![0; 64]);
+    /// # let mut job = Integrator::new(&mut cells, &mut store);
+    /// job.start(3, 0, 64)?;
+    /// let points = job.wanted_block()?;
+    /// assert_eq!(points.len(), 1);
+    /// for point in points {
+    ///     // The first block of a job is the centre.
+    ///     assert_eq!(*point, [64, 64, 64]);
+    /// }
+    /// # Ok(())
+    /// # }
+    /// ```
+    pub fn wanted_block(&self) -> Result<WantedBlock<'_>, Refusal> {
+        WantedBlock::new(self)
     }
 
     /// Delivers the first wanted block: its readings in the order of its

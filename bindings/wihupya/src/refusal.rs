@@ -15,12 +15,12 @@ pub enum Refusal {
     /// Start: the budget is not 1 to 8,192.
     BudgetOutOfRange = 2,
     /// There are fewer than 512 records, or the store is shorter than the
-    /// budget, or point's buffer shorter than the axes.
+    /// budget, or the buffer of point or points shorter than the axes.
     TooShort = 3,
     /// The work area is not sound: it was never started, or something else
     /// than these calls wrote it.
     NotSound = 4,
-    /// Point, deliver: all blocks are delivered.
+    /// Point, points, deliver: all blocks are delivered.
     NoBlockWanted = 5,
     /// Promote: a block is not delivered yet.
     BlockWanted = 6,
@@ -28,7 +28,7 @@ pub enum Refusal {
     WrongCount = 7,
     /// Deliver: a reading is below -1,048,576 or above 1,048,576.
     ReadingOutOfRange = 8,
-    /// Point: the number is not below that of the block's points.
+    /// Point, points: the number is not below that of the block's points.
     NoSuchPoint = 9,
 }
 

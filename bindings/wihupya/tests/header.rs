@@ -37,6 +37,7 @@ fn limits_are_the_same() {
         ("RECORD_CELLS", RECORD_CELLS as i64),
         ("JOB_WORDS", JOB_WORDS as i64),
         ("LARGEST_BUDGET", LARGEST_BUDGET.into()),
+        ("LARGEST_BLOCK", LARGEST_BLOCK as i64),
         ("LARGEST_READING", LARGEST_READING.into()),
         ("SCALE", SCALE),
     ];

@@ -16,6 +16,12 @@ fn calls_on_an_area() -> Vec<(Storage, Refused)> {
             refused_in(storage, part, cause, |job| job.point(0, &mut [0; 2]))
         }),
         (Storage::wanting_two(), |storage, part, cause| {
+            refused_in(storage, part, cause, |job| job.points(0, &mut [0; 4]))
+        }),
+        (Storage::wanting_two(), |storage, part, cause| {
+            refused_in(storage, part, cause, |job| job.wanted_block().map(|block| block.len()))
+        }),
+        (Storage::wanting_two(), |storage, part, cause| {
             refused_in(storage, part, cause, |job| job.deliver(&[64, 16_448], 1))
         }),
         (Storage::wanting_nothing(), |storage, part, cause| {
@@ -28,6 +34,15 @@ fn calls_on_an_area() -> Vec<(Storage, Refused)> {
             refused_in(storage, part, cause, |job| job.cross_total())
         }),
     ]
+}
+
+/// Point and points are refused for this cause, and leave a buffer of this
+/// length.
+fn refused_from(storage: &mut Storage, n: usize, length: usize, cause: Refusal) {
+    let mut buffer = vec![7; length];
+    refused(storage, cause, |job| job.point(n, &mut buffer));
+    refused(storage, cause, |job| job.points(n, &mut buffer));
+    assert_eq!(buffer, vec![7; length]);
 }
 
 #[test]
@@ -71,9 +86,7 @@ fn storage_too_short() {
 fn point_buffer_too_short() {
     let mut storage = Storage::wanting_two();
     for length in [0, 1] {
-        let mut buffer = vec![7; length];
-        refused(&mut storage, Refusal::TooShort, |job| job.point(0, &mut buffer));
-        assert_eq!(buffer, vec![7; length]);
+        refused_from(&mut storage, 0, length, Refusal::TooShort);
     }
 }
 
@@ -100,9 +113,12 @@ fn storage_in_which_nothing_was_started() {
 #[test]
 fn no_block_wanted() {
     let mut storage = Storage::wanting_nothing();
-    let mut buffer = [7; 2];
-    refused(&mut storage, Refusal::NoBlockWanted, |job| job.point(0, &mut buffer));
-    assert_eq!(buffer, [7; 2]);
+    for length in [2, 100] {
+        refused_from(&mut storage, 0, length, Refusal::NoBlockWanted);
+    }
+    refused(&mut storage, Refusal::NoBlockWanted, |job| {
+        job.wanted_block().map(|block| block.len())
+    });
     refused(&mut storage, Refusal::NoBlockWanted, |job| job.deliver(&[1, 2], 1));
 }
 
@@ -134,8 +150,8 @@ fn no_such_point() {
     let mut storage = Storage::wanting_two();
     // The third would be point 0 if it were cut to 32 bits.
     for n in [2, 3, 1 << 32, usize::MAX] {
-        let mut buffer = [7; 2];
-        refused(&mut storage, Refusal::NoSuchPoint, |job| job.point(n, &mut buffer));
-        assert_eq!(buffer, [7; 2]);
+        for length in [2, 100] {
+            refused_from(&mut storage, n, length, Refusal::NoSuchPoint);
+        }
     }
 }

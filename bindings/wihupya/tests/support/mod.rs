@@ -4,7 +4,7 @@
 #![allow(dead_code)]
 
 use std::fmt::Debug;
-use wihupya::{Integrator, JobRecord, Promotion, Refusal, CELLS};
+use wihupya::{Integrator, JobRecord, Promotion, Refusal, CELLS, LARGEST_BUDGET, RECORD_CELLS};
 
 const MARK: u32 = 0xa5a5_a5a5;
 
@@ -64,6 +64,36 @@ impl Storage {
         self.job = job.job();
         answer
     }
+}
+
+/// A job that goes straight to an index: it refines those of no level above the
+/// target's and ends when the target's own block is wanted. Looks at the job
+/// whenever a block is.
+pub fn grow(axes: u32, target: &[u32], mut look: impl FnMut(&Integrator)) -> Storage {
+    let mut storage = Storage::marked();
+    storage.store.resize(LARGEST_BUDGET as usize, 0);
+    storage.call(|job| {
+        job.start(axes, 0, LARGEST_BUDGET).unwrap();
+        let mut delivered = 0;
+        loop {
+            if delivered == job.job().held as usize {
+                assert_eq!(job.promote(), Ok(Promotion::Promoted));
+                continue;
+            }
+            look(job);
+            // Blocks are wanted in the order of the records.
+            let record = &job.cells()[delivered * RECORD_CELLS..];
+            let levels = record[..axes as usize].to_vec();
+            if levels == target {
+                break;
+            }
+            let toward = levels.iter().zip(target).all(|(level, most)| level <= most);
+            let readings = vec![1; job.wanted_block().unwrap().len()];
+            job.deliver(&readings, u32::from(toward)).unwrap();
+            delivered += 1;
+        }
+    });
+    storage
 }
 
 /// The call is refused for this cause, and all storage is as it was.
