@@ -23,7 +23,7 @@ struct area {
 /* Neither is for a small stack: an area takes some 60 KB. */
 static struct area area, trial;
 
-/* Every refusal but those that say "no more points" is a mistake of this program. */
+/* Every refusal but the one that says "no block is wanted" is a mistake of this program. */
 static void must(const char *call, uint32_t cause)
 {
     if (cause != WIHUPYA_ACCEPTED) {
@@ -67,15 +67,17 @@ static int32_t delivered_volume(const uint8_t position[AXES])
 /* Measures the block that is wanted and returns the number of its readings: 0 if none is wanted. */
 static size_t measure(int32_t block[BUDGET])
 {
-    uint8_t position[AXES];
-    size_t n = 0;
-    for (;;) {
-        uint32_t cause = wihupya_point(area.job, n, area.cells, WIHUPYA_CELLS, area.store, BUDGET, position, AXES);
-        if (cause == WIHUPYA_NO_BLOCK_WANTED || cause == WIHUPYA_NO_SUCH_POINT)
-            return n;
-        must("point", cause);
-        block[n++] = delivered_volume(position);
-    }
+    /* Room for any block, so that one call gives all its points. */
+    static uint8_t positions[WIHUPYA_LARGEST_BLOCK * AXES];
+    uint32_t points[WIHUPYA_POINT_WORDS];
+    uint32_t cause = wihupya_points(area.job, 0, points, area.cells, WIHUPYA_CELLS, area.store, BUDGET, positions, sizeof positions);
+    if (cause == WIHUPYA_NO_BLOCK_WANTED)
+        return 0;
+    must("points", cause);
+    size_t count = points[WIHUPYA_POINTS_WRITTEN];
+    for (size_t n = 0; n < count; n++)
+        block[n] = delivered_volume(positions + n * AXES);
+    return count;
 }
 
 /*

@@ -4,9 +4,9 @@
 //! report of the job, or with `--job` the job as a text, from which
 //! `jobtext pack` makes a job file.
 
-use wihupya::{Counts, Integrator, Promotion, Refusal, CELLS};
+use wihupya::{Counts, Integrator, Point, Promotion, Refusal, CELLS};
 
-const AXES: usize = 4;
+const AXES: u32 = 4;
 const BUDGET: u32 = 2_000;
 /// Indicators count 1,024ths of a nanolitre. The job is done when at most 16
 /// nanolitres are thought to be missing.
@@ -37,7 +37,7 @@ fn rounded(dividend: i64, divisor: i64) -> i64 {
 /// three hundredths if all is nominal. Whole numbers throughout, in thousandths
 /// of a nanolitre up to the last line, so that every machine and language gives
 /// the same readings.
-fn delivered_volume(position: [u8; AXES]) -> i32 {
+fn delivered_volume(position: Point) -> i32 {
     let bore = dimension(10_000, 2, position[0]); // micrometres: 10.000 mm +- 0.128 mm
     let stroke = dimension(8_000, 4, position[1]); // micrometres: 8.000 mm +- 0.256 mm
     let clearance = dimension(1_200, 11, position[2]); // hundredths of a um: 12.00 um +- 7.04 um
@@ -54,14 +54,10 @@ fn delivered_volume(position: [u8; AXES]) -> i32 {
 
 /// The readings of the block that is wanted; none if no block is.
 fn measure(job: &Integrator) -> Result<Vec<i32>, Refusal> {
-    let mut readings = Vec::new();
-    let mut position = [0; AXES];
-    loop {
-        match job.point(readings.len(), &mut position) {
-            Ok(()) => readings.push(delivered_volume(position)),
-            Err(Refusal::NoBlockWanted | Refusal::NoSuchPoint) => return Ok(readings),
-            Err(refusal) => return Err(refusal),
-        }
+    match job.wanted_block() {
+        Ok(points) => Ok(points.map(delivered_volume).collect()),
+        Err(Refusal::NoBlockWanted) => Ok(Vec::new()),
+        Err(refusal) => Err(refusal),
     }
 }
 
@@ -81,7 +77,7 @@ fn indicator(job: &Integrator, readings: &[i32]) -> Result<u32, Refusal> {
 /// Runs the job to its end; says how it ended, and what was delivered.
 fn run(job: &mut Integrator) -> Result<(Promotion, Vec<Entry>), Refusal> {
     let mut entries = Vec::new();
-    job.start(AXES as u32, THRESHOLD, BUDGET)?;
+    job.start(AXES, THRESHOLD, BUDGET)?;
     loop {
         let readings = measure(job)?;
         if !readings.is_empty() {
