@@ -1,10 +1,10 @@
-//! The seven calls on any lent storage. Each but check looks for a cause to
+//! The eight calls on any lent storage. Each but check looks for a cause to
 //! refuse first, and a refused call changes nothing.
 
 use crate::area::{self, IndexRecord, JobRecord, BUDGET_LIMIT};
 use crate::check::{self, storage_short};
 use crate::index::{self, Levels, MOST_AXES};
-use crate::steps::{self, Counts, Promotion};
+use crate::steps::{self, Counts, PointCounts, Promotion};
 
 pub use crate::check::check;
 
@@ -45,6 +45,27 @@ fn judge_area(job: &JobRecord, records: &[IndexRecord], store: &[i32]) -> Result
     Ok(())
 }
 
+/// Causes 3, 4, 5 and 9, for a buffer and the number of a point; else the levels
+/// of the first wanted block.
+fn judge_point<'a>(
+    job: &JobRecord,
+    records: &'a [IndexRecord],
+    store: &[i32],
+    n: usize,
+    buffer: &[u8],
+) -> Result<&'a Levels, Cause> {
+    if buffer.len() < job.axes as usize {
+        return Err(Cause::StorageShort);
+    }
+    judge_area(job, records, store)?;
+    let place = steps::first_wanted(job, records).ok_or(Cause::NoBlockWanted)?;
+    let levels = &records[place].levels;
+    if n >= index::block_size(levels) {
+        return Err(Cause::PointNumberTooLarge);
+    }
+    Ok(levels)
+}
+
 /// Causes 7 and 8.
 pub fn judge_block(levels: &Levels, readings: &[i32]) -> Result<(), Cause> {
     if readings.len() != index::block_size(levels) {
@@ -81,18 +102,23 @@ pub fn point(
     n: usize,
     buffer: &mut [u8],
 ) -> Result<(), Cause> {
+    let levels = judge_point(job, records, store, n, buffer)?;
     let axes = job.axes as usize;
-    if buffer.len() < axes {
-        return Err(Cause::StorageShort);
-    }
-    judge_area(job, records, store)?;
-    let place = steps::first_wanted(job, records).ok_or(Cause::NoBlockWanted)?;
-    let levels = &records[place].levels;
-    if n >= index::block_size(levels) {
-        return Err(Cause::PointNumberTooLarge);
-    }
     index::write_point(&levels[..axes], n, &mut buffer[..axes]);
     Ok(())
+}
+
+/// Writes the points of the first wanted block from the n-th on, as many as are
+/// left and have room; later bytes of the buffer stay.
+pub fn points(
+    job: &JobRecord,
+    records: &[IndexRecord],
+    store: &[i32],
+    n: usize,
+    buffer: &mut [u8],
+) -> Result<PointCounts, Cause> {
+    let levels = judge_point(job, records, store, n, buffer)?;
+    Ok(steps::points(job, levels, n, buffer))
 }
 
 pub fn deliver(

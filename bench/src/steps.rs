@@ -13,6 +13,13 @@ pub enum Promotion {
     Promoted,
 }
 
+/// What points gives: the points written, and those of the block.
+#[derive(Clone, Copy, Debug, PartialEq, Eq)]
+pub struct PointCounts {
+    pub written: u32,
+    pub block: u32,
+}
+
 /// What result gives.
 #[derive(Clone, Copy, Debug, PartialEq, Eq)]
 pub struct Counts {
@@ -47,6 +54,19 @@ pub fn start(
 ) {
     *job = JobRecord { axes, threshold, budget, held: 1, reserved: 1, pending: 0, mean: 0 };
     records[0] = IndexRecord::wanted(ROOT, 0);
+}
+
+/// Writes the points of a wanted block from the n-th on, one after the other, as
+/// many as are left and have room.
+pub fn points(job: &JobRecord, levels: &Levels, n: usize, buffer: &mut [u8]) -> PointCounts {
+    let axes = job.axes as usize;
+    let block = index::block_size(levels);
+    let rooms = buffer.chunks_exact_mut(axes);
+    let written = rooms.len().min(block - n);
+    for (positions, point) in rooms.zip(n..block) {
+        index::write_point(&levels[..axes], point, positions);
+    }
+    PointCounts { written: written as u32, block: block as u32 }
 }
 
 /// Delivers the block at a place, which is the first wanted.

@@ -62,10 +62,7 @@ impl List {
         }
         let call = self.choose(sound);
         let lengths = self.lend(&call);
-        let length = match call {
-            Call::Point { buffer, .. } => buffer,
-            _ => 0,
-        };
+        let length = call.buffer_length().unwrap_or(0);
         let buffer: Vec<u8> = (0..length).map(|_| self.chooser.rng.number() as u8).collect();
         let answer = self.pair.call(&call, lengths, &buffer);
         let said = match answer {
@@ -97,8 +94,10 @@ impl List {
             return chooser.carry_on(wanted);
         }
         match chooser.rng.below(100) {
-            0..=15 => chooser.point(wanted),
-            16..=25 => chooser.damaged_point(wanted),
+            0..=7 => chooser.point(wanted),
+            8..=15 => chooser.points(wanted),
+            16..=20 => chooser.damaged_point(wanted),
+            21..=25 => chooser.damaged_points(wanted),
             26..=39 => chooser.damaged_deliver(wanted),
             40..=51 => chooser.carry_on(wanted),
             52..=65 => Call::Promote,
@@ -150,6 +149,11 @@ fn lists_of_calls_leave_what_the_reference_leaves() {
         "point refused 4",
         "point refused 5",
         "point refused 9",
+        "points accepted",
+        "points refused 3",
+        "points refused 4",
+        "points refused 5",
+        "points refused 9",
         "deliver accepted",
         "deliver refused 3",
         "deliver refused 4",

@@ -3,7 +3,7 @@
 
 use bench::area::{IndexRecord, JobRecord};
 use bench::calls::{self, Cause};
-use bench::steps::{Counts, Promotion};
+use bench::steps::{Counts, PointCounts, Promotion};
 use reference::area::{self, Area};
 use reference::call::{self, Answer, Call, Lengths};
 use reference::calls as reference_calls;
@@ -94,6 +94,8 @@ impl Pair {
             }
             Call::Point { n, .. } => calls::point(job, records, store, *n as usize, buffer)
                 .map(|()| Answer::Point(buffer[..job.axes as usize].to_vec())),
+            Call::Points { n, .. } => calls::points(job, records, store, *n as usize, buffer)
+                .map(|counts| written(counts, job.axes, buffer)),
             Call::Deliver { readings, indicator } => {
                 calls::deliver(job, records, store, readings, *indicator)
                     .map(|()| Answer::Delivered)
@@ -104,6 +106,13 @@ impl Pair {
             Call::Check => Ok(Answer::Sound(calls::check(job, records, store))),
         };
         answer.map_err(|cause: Cause| cause as u32)
+    }
+}
+
+fn written(PointCounts { written, block }: PointCounts, axes: u32, buffer: &[u8]) -> Answer {
+    Answer::Points {
+        counts: reference_calls::PointCounts { written, block },
+        positions: buffer[..(written * axes) as usize].to_vec(),
     }
 }
 
