@@ -1,6 +1,6 @@
 //! Timings of the calls: a full job in its parts, and single calls.
 
-use crate::job::{Job, Part};
+use crate::job::{Asking, Job, Part};
 use crate::rounds::{print_growth, print_head, repeats, timed, Row};
 use crate::sides::{Idiomatic, Proved, Side};
 
@@ -8,10 +8,12 @@ const JOB_ROUNDS: usize = 15;
 const CALL_ROUNDS: usize = 61;
 
 pub fn print(job: &Job) {
-    let title = format!("full job: {} held, {} readings", job.held(), job.readings());
-    print_head(&title);
-    full_job(job).iter().for_each(Row::print);
-    println!();
+    for (asking, call) in [(Asking::ByPoint, "point"), (Asking::ByPoints, "points")] {
+        let (held, readings) = (job.held(), job.readings());
+        print_head(&format!("full job by {call}: {held} held, {readings} readings"));
+        full_job(job, asking, call).iter().for_each(Row::print);
+        println!();
+    }
     print_head("one call");
     let singles = [
         Single::new(job, 32, "check", Side::check, Side::check),
@@ -26,9 +28,10 @@ pub fn print(job: &Job) {
     print_growth("growth of check from 128 to 512 held", &rows[1], &rows[2]);
 }
 
-/// The whole job, and its parts.
-fn full_job(job: &Job) -> [Row; 4] {
-    let mut rows = ["all calls", "point calls", "deliver calls", "promote calls"].map(Row::new);
+/// The whole job, and its parts; by `call` it asks for points.
+fn full_job(job: &Job, asking: Asking, call: &str) -> [Row; 4] {
+    let asked = format!("{call} calls");
+    let mut rows = ["all calls", &asked, "deliver calls", "promote calls"].map(Row::new);
     let mut note = |times: [f64; 3], pick: fn(&mut Row) -> &mut Vec<f64>| {
         pick(&mut rows[0]).push(times.iter().sum());
         for (row, time) in rows[1..].iter_mut().zip(times) {
@@ -38,20 +41,20 @@ fn full_job(job: &Job) -> [Row; 4] {
     for round in 0..JOB_ROUNDS {
         let proved_first = round % 2 == 0;
         if proved_first {
-            note(parts::<Proved>(job), |row| &mut row.proved);
+            note(parts::<Proved>(job, asking), |row| &mut row.proved);
         }
-        note(parts::<Idiomatic>(job), |row| &mut row.idiomatic);
+        note(parts::<Idiomatic>(job, asking), |row| &mut row.idiomatic);
         if !proved_first {
-            note(parts::<Proved>(job), |row| &mut row.proved);
+            note(parts::<Proved>(job, asking), |row| &mut row.proved);
         }
     }
     rows
 }
 
 /// What points, delivers and promotes of the job took.
-fn parts<S: Side>(job: &Job) -> [f64; 3] {
+fn parts<S: Side>(job: &Job, asking: Asking) -> [f64; 3] {
     let mut times = [0.0; 3];
-    job.go_through::<S>(|part, work| {
+    job.go_through::<S>(asking, |part, work| {
         let slot = match part {
             Part::Points => 0,
             Part::Delivers => 1,

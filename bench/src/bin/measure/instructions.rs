@@ -3,23 +3,37 @@
 //! This program runs itself under it, one subject at a time.
 
 use crate::files::Files;
-use crate::job::{Job, Part};
+use crate::job::{Asking, Job, Part};
 use crate::sides::{Idiomatic, Proved, Side};
 use std::fs::File;
 use std::path::Path;
 use std::process::{Command, Stdio};
 
 /// What callgrind counts of one side.
-#[derive(Clone, Copy, Default)]
+#[derive(Clone, Copy)]
 struct Counts {
     instructions: u64,
     mispredicted: u64,
 }
 
-const SUBJECTS: [(&str, &str); 8] = [
-    ("points", "full job: point calls"),
+impl Counts {
+    fn and(self, other: Counts) -> Counts {
+        Counts {
+            instructions: self.instructions + other.instructions,
+            mispredicted: self.mispredicted + other.mispredicted,
+        }
+    }
+}
+
+/// The parts of the full job; its points are asked for in two ways.
+const PARTS: [(&str, &str); 4] = [
+    ("point", "full job: point calls"),
+    ("points", "full job: points calls"),
     ("delivers", "full job: deliver calls"),
     ("promotes", "full job: promote calls"),
+];
+
+const SINGLES: [(&str, &str); 5] = [
     ("check-32", "check, 32 held"),
     ("check-128", "check, 128 held"),
     ("check-512", "check, 512 held"),
@@ -46,13 +60,14 @@ pub fn once(side: &str, subject: &str) -> Result<(), String> {
 fn perform<S: Side>(subject: &str) -> Result<(), String> {
     let job = Job::of_512_held();
     let part = match subject {
-        "points" => Some(Part::Points),
-        "delivers" => Some(Part::Delivers),
-        "promotes" => Some(Part::Promotes),
+        "point" => Some((Asking::ByPoint, Part::Points)),
+        "points" => Some((Asking::ByPoints, Part::Points)),
+        "delivers" => Some((Asking::ByPoints, Part::Delivers)),
+        "promotes" => Some((Asking::ByPoints, Part::Promotes)),
         _ => None,
     };
-    if let Some(meant) = part {
-        job.go_through::<S>(|part, work| match part == meant {
+    if let Some((asking, meant)) = part {
+        job.go_through::<S>(asking, |part, work| match part == meant {
             true => counted_part(work),
             // The areas are the same without the points, which change nothing.
             false if part == Part::Points => {}
@@ -74,26 +89,28 @@ fn perform<S: Side>(subject: &str) -> Result<(), String> {
 
 pub fn print_calls() {
     print_head("instructions of the calls");
-    let this = std::env::current_exe().expect("a program knows its path");
-    let mut whole = [Counts::default(); 2];
-    for (subject, name) in SUBJECTS {
-        let counts = [Proved::NAME, Idiomatic::NAME].map(|side| {
-            let mut valgrind = callgrind();
-            valgrind.arg("--toggle-collect=*counted_part*").arg(&this);
-            counted(valgrind.args(["once", side, subject]))
-        });
-        print_row(name, counts);
-        if name.starts_with("full job") {
-            for (sum, part) in whole.iter_mut().zip(counts) {
-                sum.instructions += part.instructions;
-                sum.mispredicted += part.mispredicted;
-            }
-        }
-        if subject == "promotes" {
-            print_row("full job: all calls", whole);
-        }
+    let [point, points, delivers, promotes] = PARTS.map(print_subject);
+    let with = |asked: [Counts; 2]| {
+        std::array::from_fn(|side| asked[side].and(delivers[side]).and(promotes[side]))
+    };
+    print_row("full job by point: all calls", with(point));
+    print_row("full job by points: all calls", with(points));
+    for single in SINGLES {
+        print_subject(single);
     }
     println!();
+}
+
+/// Counts a subject on both sides and prints its row.
+fn print_subject((subject, name): (&str, &str)) -> [Counts; 2] {
+    let this = std::env::current_exe().expect("a program knows its path");
+    let counts = [Proved::NAME, Idiomatic::NAME].map(|side| {
+        let mut valgrind = callgrind();
+        valgrind.arg("--toggle-collect=*counted_part*").arg(&this);
+        counted(valgrind.args(["once", side, subject]))
+    });
+    print_row(name, counts);
+    counts
 }
 
 pub fn print_programs(proved: &Path, idiomatic: &Path, files: &Files) {

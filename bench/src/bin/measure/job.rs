@@ -1,7 +1,7 @@
 //! The jobs that are measured. They are worked out once, on the idiomatic
 //! side; then any side can go through them, and they can be written as files.
 
-use crate::sides::{Idiomatic, Side};
+use crate::sides::{Idiomatic, Side, ANY_BLOCK};
 use bench::area::BUDGET_LIMIT;
 use bench::index::{Levels, MOST_AXES};
 use bench::steps;
@@ -18,6 +18,15 @@ const PACES: Levels = [2, 7, 3, 8, 9, 7, 2, 4];
 pub struct Job {
     pub axes: u32,
     pub batches: Vec<Vec<Entry>>,
+}
+
+/// How the points of a block are asked for.
+#[derive(Clone, Copy, Debug, PartialEq, Eq)]
+pub enum Asking {
+    /// By a call of point for each.
+    ByPoint,
+    /// By one call of points.
+    ByPoints,
 }
 
 /// The parts of going through a job.
@@ -67,14 +76,24 @@ impl Job {
 
     /// Goes through the whole job, each part by way of `perform`: every point
     /// of every block, deliver, and promote, the last of which is spent.
-    pub fn go_through<S: Side>(&self, mut perform: impl FnMut(Part, &mut dyn FnMut())) -> S {
+    pub fn go_through<S: Side>(
+        &self,
+        asking: Asking,
+        mut perform: impl FnMut(Part, &mut dyn FnMut()),
+    ) -> S {
         let mut side = S::new();
         side.start(self.axes, 0, BUDGET_LIMIT);
-        let mut buffer = [0; MOST_AXES];
+        let mut buffer = [0; ANY_BLOCK];
         for batch in &self.batches {
             for Entry { indicator, readings } in batch {
-                perform(Part::Points, &mut || {
-                    (0..readings.len()).for_each(|n| side.point(n, &mut buffer));
+                perform(Part::Points, &mut || match asking {
+                    Asking::ByPoint => {
+                        let one = &mut buffer[..MOST_AXES];
+                        (0..readings.len()).for_each(|n| side.point(n, one));
+                    }
+                    Asking::ByPoints => {
+                        assert_eq!(side.points(&mut buffer) as usize, readings.len());
+                    }
                 });
                 perform(Part::Delivers, &mut || side.deliver(readings, *indicator));
             }
@@ -120,15 +139,45 @@ mod tests {
     fn both_sides_leave_the_same_area() {
         let job = Job::of_512_held();
         assert_eq!((job.held(), job.readings()), (512, 8_141));
-        let proved: Proved = job.go_through(|_, part| part());
-        let idiomatic: Idiomatic = job.go_through(|_, part| part());
-        assert_eq!(proved.cells, cells_of(&idiomatic.records));
-        assert_eq!(proved.store, idiomatic.store);
-        assert_eq!(proved.job[4], idiomatic.job.mean as u32);
+        for asking in [Asking::ByPoint, Asking::ByPoints] {
+            let proved: Proved = job.go_through(asking, |_, part| part());
+            let idiomatic: Idiomatic = job.go_through(asking, |_, part| part());
+            assert_eq!(proved.cells, cells_of(&idiomatic.records));
+            assert_eq!(proved.store, idiomatic.store);
+            assert_eq!(proved.job[4], idiomatic.job.mean as u32);
+        }
         for held in [32, 128, 512] {
             let area: Proved = job.area(held);
             assert_eq!(area.held(), held);
             assert_eq!(area.cells, cells_of(&job.area::<Idiomatic>(held).records));
+        }
+    }
+
+    /// Each block as one call of points gives it, then as calls of point do.
+    #[test]
+    fn both_sides_give_the_same_points() {
+        let job = Job::of_512_held();
+        let (mut proved, mut idiomatic) = (Proved::new(), Idiomatic::new());
+        proved.start(job.axes, 0, BUDGET_LIMIT);
+        idiomatic.start(job.axes, 0, BUDGET_LIMIT);
+        for batch in &job.batches {
+            for Entry { indicator, readings } in batch {
+                let (mut one, mut other) = ([7; ANY_BLOCK], [7; ANY_BLOCK]);
+                let counts = [proved.points(&mut one), idiomatic.points(&mut other)];
+                assert_eq!(counts, [readings.len() as u32; 2]);
+                assert!(one == other);
+                let (own, rest) = one.split_at(readings.len() * MOST_AXES);
+                assert!(rest.iter().all(|&byte| byte == 7));
+                for (n, point) in own.chunks_exact(MOST_AXES).enumerate() {
+                    let mut alone = [0; MOST_AXES];
+                    proved.point(n, &mut alone);
+                    assert_eq!(point, alone);
+                }
+                proved.deliver(readings, *indicator);
+                idiomatic.deliver(readings, *indicator);
+            }
+            proved.promote();
+            idiomatic.promote();
         }
     }
 

@@ -3,11 +3,15 @@
 
 use bench::area::{IndexRecord, JobRecord, BUDGET_LIMIT, HELD_LIMIT};
 use bench::calls;
+use bench::steps::PointCounts;
 use std::hint::black_box;
 use wihupya_sys::{self as proved, JobWords};
 
 /// Words in an index record of the proved library.
 const WORDS: usize = 27;
+
+/// Room for the points of any block.
+pub const ANY_BLOCK: usize = 16_384;
 
 /// A side's calls. Each is accepted; what it gives is kept from being left out
 /// by the compiler.
@@ -17,6 +21,8 @@ pub trait Side: Clone {
     fn new() -> Self;
     fn start(&mut self, axes: u32, threshold: u64, budget: u32);
     fn point(&self, n: usize, buffer: &mut [u8]);
+    /// All points of the wanted block, and how many they are.
+    fn points(&self, buffer: &mut [u8; ANY_BLOCK]) -> u32;
     fn deliver(&mut self, readings: &[i32], indicator: u32);
     fn promote(&mut self);
     fn result(&self);
@@ -43,6 +49,11 @@ fn accepted(number: u32) {
     assert_eq!(number, 0, "a call was refused");
 }
 
+fn whole(written: u32, block: u32) -> u32 {
+    assert_eq!(written, block, "the buffer has room for the block");
+    written
+}
+
 impl Side for Proved {
     const NAME: &'static str = "proved";
 
@@ -59,6 +70,13 @@ impl Side for Proved {
     fn point(&self, n: usize, buffer: &mut [u8]) {
         accepted(proved::point(&self.job, n, &self.cells, &self.store, buffer));
         black_box(buffer);
+    }
+
+    fn points(&self, buffer: &mut [u8; ANY_BLOCK]) -> u32 {
+        let mut counts = [0; 2];
+        accepted(proved::points(&self.job, 0, &mut counts, &self.cells, &self.store, buffer));
+        black_box(buffer);
+        whole(counts[0], counts[1])
     }
 
     fn deliver(&mut self, readings: &[i32], indicator: u32) {
@@ -110,6 +128,13 @@ impl Side for Idiomatic {
     fn point(&self, n: usize, buffer: &mut [u8]) {
         calls::point(&self.job, &self.records, &self.store, n, buffer).expect("accepted");
         black_box(buffer);
+    }
+
+    fn points(&self, buffer: &mut [u8; ANY_BLOCK]) -> u32 {
+        let counts = calls::points(&self.job, &self.records, &self.store, 0, buffer);
+        black_box(buffer);
+        let PointCounts { written, block } = counts.expect("accepted");
+        whole(written, block)
     }
 
     fn deliver(&mut self, readings: &[i32], indicator: u32) {
