@@ -8,7 +8,7 @@ use mathlib.Core.List.{List, _++_}
 use Prim.Native.Nat.{ℕ, _+_, _*_, _-_, _<_, _≤_}
 use native.Mathlib.Omega.{arith}
 use native.Mathlib.Decide.{decLt}
-use native.Mathlib.Nat.{add-zero, zero-mul, mul-le-mul}
+use native.Mathlib.Nat.{add-zero, zero-mul, mul-le-mul-right}
 use lib.ListN.{length, getD, take, drop, length-append, length-drop}
 use lib.Seq.{length-take-le, take-all, take-at, getD-drop, getD-append-add}
 use Rattle.grid.specs.Index.{Within}
@@ -180,9 +180,10 @@ module _ (a : Area) (n : ℕ) (buffer : List ℕ) where
           ∙ take-all (a .job .settings .axes) (pointBuffer a n buffer) (omega (arith, call-facts .point-length a n buffer, e))
       go (yes h) = let some : cause ≡ 0 → ⊥ = λ e. omega (arith, e, h) in ap (λ (x : Answer). x .buffer) (sym (points-refuses a n buffer cause refl some) ∙ point-refuses a n buffer cause refl some)
 
--- 2,048 points at most, of eight bytes at most
-whole-block : (a : Area) (buffer : List ℕ) → 16384 ≤ length buffer → NotRefused a (points 0 buffer) → callOn a (points 0 buffer) .answer .reply ≡ wrote (wantedSize a) (wantedSize a)
-whole-block a buffer long g = counted a 0 buffer none ∙ ap (λ w. wrote w (wantedSize a)) (go (decLt written (wantedSize a)) (f a 0 buffer none .most))
+-- 2,048 points at most, of d bytes
+whole-block-axes : (a : Area) (buffer : List ℕ) → 2048 * a .job .settings .axes ≤ length buffer → NotRefused a (points 0 buffer)
+    → callOn a (points 0 buffer) .answer .reply ≡ wrote (wantedSize a) (wantedSize a)
+whole-block-axes a buffer long g = counted a 0 buffer none ∙ ap (λ w. wrote w (wantedSize a)) (go (decLt written (wantedSize a)) (f a 0 buffer none .most))
   where
     none : firstCause (pointCauses (lengthsOf a) (isSound a) (machineOf a .log) 0 (length buffer)) ≡ 0
     none = open-there a 0 buffer g
@@ -196,7 +197,11 @@ whole-block a buffer long g = counted a 0 buffer none ∙ ap (λ w. wrote w (wan
     go : Dec (written < wantedSize a) → (0 + written ≡ wantedSize a) ⊎ (length buffer < (written + 1) * a .job .settings .axes) → written ≡ wantedSize a
     go (no h) m = omega (arith, f a 0 buffer none .left)
     go (yes h) (inl e) = omega (arith, e)
-    go (yes h) (inr m) = absurd (omega (arith, m, long, mul-le-mul {n₁ = written + 1} {m₁ = a .job .settings .axes} {n₂ = 2048} {m₂ = 8} (omega (arith, h, small)) (axes-few a 0 buffer none)))
+    go (yes h) (inr m) = absurd (omega (arith, m, long, mul-le-mul-right {m = written + 1} {n = 2048} (a .job .settings .axes) (omega (arith, h, small))))
+
+-- and d is at most eight
+whole-block : (a : Area) (buffer : List ℕ) → 16384 ≤ length buffer → NotRefused a (points 0 buffer) → callOn a (points 0 buffer) .answer .reply ≡ wrote (wantedSize a) (wantedSize a)
+whole-block a buffer long g = whole-block-axes a buffer (omega (arith, long, axes-few a 0 buffer (open-there a 0 buffer g))) g
 
 pub points-facts : PointsFacts
 points-facts =
@@ -205,5 +210,7 @@ points-facts =
       writes = λ a n buffer g. (count a n buffer (open-there a n buffer g), wrote-points a n buffer (open-there a n buffer g));
       length-same = length-same;
       one-point = one-point;
+      largest-block = λ d k i. size-most k (i .eight) (i .ceilings);
+      whole-block-axes = whole-block-axes;
       whole-block = whole-block;
     }

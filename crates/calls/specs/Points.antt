@@ -4,6 +4,7 @@ use mathlib.Core.Logic.{_⊎_}
 use mathlib.Core.List.{List}
 use Prim.Native.Nat.{ℕ, _+_, _*_, _<_, _≤_}
 use lib.ListN.{length, getD, take, drop}
+use Rattle.grid.specs.Index.{Index}
 use Rattle.grid.specs.Block.{blockSize}
 use Rattle.area.specs.Encoding.{Area, entriesOf}
 use Rattle.machine.specs.Log.{wantedIndex}
@@ -46,6 +47,11 @@ pub record PointsFacts : Type 0 where
   pub length-same : (a : Area) (n : ℕ) (buffer : List ℕ) → length (pointsBuffer a n buffer) ≡ length buffer
   -- with a buffer of one point it writes what point writes
   pub one-point : (a : Area) (n : ℕ) (buffer : List ℕ) → length buffer ≡ a .job .settings .axes → pointsBuffer a n buffer ≡ pointBuffer a n buffer
-  -- and 16,384 bytes hold any block whole
+  -- within the ceilings a block has at most 2,048 points
+  pub largest-block : (d : ℕ) (k : List ℕ) → Index d k → blockSize k ≤ 2048
+  -- so that many times d bytes hold any block whole
+  pub whole-block-axes : (a : Area) (buffer : List ℕ) → 2048 * a .job .settings .axes ≤ length buffer → NotRefused a (points 0 buffer)
+      → callOn a (points 0 buffer) .answer .reply ≡ wrote (wantedSize a) (wantedSize a)
+  -- and 16,384 bytes whatever d is
   pub whole-block : (a : Area) (buffer : List ℕ) → 16384 ≤ length buffer → NotRefused a (points 0 buffer)
       → callOn a (points 0 buffer) .answer .reply ≡ wrote (wantedSize a) (wantedSize a)

@@ -49,11 +49,11 @@ startCauses z g = cause (not (axesFit g)) 1 ∷ cause (not (budgetFit g)) 2 ∷ 
 abbrev pub jobCauses : Lengths → (sound : Bool) → Settings → (bufferShort : Bool) → (own : List Cause) → List Cause
 jobCauses z sound g bufferShort own = cause (cond bufferShort true (short z g)) 3 ∷ cause (not sound) 4 ∷ own
 
--- Point's own causes: no block wanted; the point's number n not below the block's size.
+-- The own causes of point and points: no block wanted; the point's number n not below the block's size.
 abbrev pub pointOwnCauses : Log → ℕ → List Cause
 pointOwnCauses l n = cause (not (anyWanted (l .entries))) 5 ∷ cause (leb (blockSize (wantedIndex (l .entries))) n) 9 ∷ []
 
--- Its buffer of w bytes is under d.
+-- A buffer of w bytes is under d.
 abbrev pub pointBufferShort : Settings → ℕ → Bool
 pointBufferShort g w = not (leb (g .axes) w)
 

@@ -15,7 +15,7 @@ use Rattle.wihupya.specs.Words.{lowWord, highWord, wordsOf}
 unfoldable pub numberOf : Reply → ℕ
 numberOf (refused n) = n
 numberOf accepted = 0
-numberOf (wrote n size) = 0
+numberOf (wrote written size) = 0
 numberOf (promotion o) = 0
 numberOf (counts c) = 0
 numberOf (total x) = 0
@@ -34,7 +34,7 @@ exported x = record { number = numberOf (x .answer .reply); job = wordsOf (x .ar
 unfoldable pub pointsAfter : Reply → List ℕ → List ℕ
 pointsAfter (refused n) w = w
 pointsAfter accepted w = w
-pointsAfter (wrote n size) w = n ∷ size ∷ []
+pointsAfter (wrote written size) w = written ∷ size ∷ []
 pointsAfter (promotion o) w = w
 pointsAfter (counts c) w = w
 pointsAfter (total x) w = w
@@ -50,7 +50,7 @@ outcomeWord promoted = 2
 unfoldable pub outcomeAfter : Reply → List ℕ → List ℕ
 outcomeAfter (refused n) w = w
 outcomeAfter accepted w = w
-outcomeAfter (wrote n size) w = w
+outcomeAfter (wrote written size) w = w
 outcomeAfter (promotion o) w = outcomeWord o ∷ []
 outcomeAfter (counts c) w = w
 outcomeAfter (total x) w = w
@@ -61,7 +61,7 @@ outcomeAfter (verdict b) w = w
 unfoldable pub countsAfter : Reply → List ℕ → List ℕ
 countsAfter (refused n) w = w
 countsAfter accepted w = w
-countsAfter (wrote n size) w = w
+countsAfter (wrote written size) w = w
 countsAfter (promotion o) w = w
 countsAfter (counts c) w =
     lowWord (c .pending)
@@ -81,7 +81,7 @@ countsAfter (verdict b) w = w
 unfoldable pub totalAfter : Reply → List ℕ → List ℕ
 totalAfter (refused n) w = w
 totalAfter accepted w = w
-totalAfter (wrote n size) w = w
+totalAfter (wrote written size) w = w
 totalAfter (promotion o) w = w
 totalAfter (counts c) w = w
 totalAfter (total x) w = lowWord (ofZ w64 x) ∷ highWord (ofZ w64 x) ∷ []
