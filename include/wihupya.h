@@ -6,7 +6,7 @@
  * examples/pump-in-c/pump.c):
  *
  *     wihupya_start    once: the number of axes, the threshold, the budget
- *     wihupya_points   the points of the block that is wanted, all at once; wihupya_point gives one at a time
+ *     wihupya_points   the points of the block that is wanted, many at once; wihupya_point gives one at a time
  *     wihupya_deliver  the readings at these points, in the same order, and an indicator of how much the block matters
  *     ...              the next block, until wihupya_points says WIHUPYA_NO_BLOCK_WANTED
  *     wihupya_promote  refines where the indicator is largest, so that new blocks are wanted; ends with met or spent
@@ -67,7 +67,7 @@ extern "C" {
 #define WIHUPYA_JOB_WORDS 10
 #define WIHUPYA_RECORD_CELLS 27
 #define WIHUPYA_CELLS (WIHUPYA_RECORDS * WIHUPYA_RECORD_CELLS)
-#define WIHUPYA_POINT_WORDS 2
+#define WIHUPYA_POINTS_WORDS 2
 #define WIHUPYA_OUTCOME_WORDS 1
 #define WIHUPYA_COUNT_WORDS 9
 #define WIHUPYA_TOTAL_WORDS 2
@@ -163,12 +163,12 @@ uint32_t wihupya_point(const uint32_t job[WIHUPYA_JOB_WORDS], size_t n, const ui
  * calls for many points each take far less time than a call for each point.
  *
  *   n       the number in the block of the first point to write; 0 for the whole block
- *   counts  becomes the two words WIHUPYA_POINTS_...: the points written, at least one, and the points of the block
+ *   points  becomes two words: WIHUPYA_POINTS_WRITTEN, at least one, and WIHUPYA_POINTS_OF_BLOCK
  *   buffer  at least as many bytes as the job has axes; `bytes` is its length, which need be no multiple of them
  *
- * Refused as wihupya_point is, with 3, 4, 5 or 9; counts and buffer are then left as they were.
+ * Refused as wihupya_point is, with 3, 4, 5 or 9; points and buffer are then left as they were.
  */
-uint32_t wihupya_points(const uint32_t job[WIHUPYA_JOB_WORDS], size_t n, uint32_t counts[WIHUPYA_POINT_WORDS], const uint32_t *cells,
+uint32_t wihupya_points(const uint32_t job[WIHUPYA_JOB_WORDS], size_t n, uint32_t points[WIHUPYA_POINTS_WORDS], const uint32_t *cells,
                         size_t words, const int32_t *store, size_t readings, uint8_t *buffer, size_t bytes);
 
 /*

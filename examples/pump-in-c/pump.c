@@ -69,7 +69,7 @@ static size_t measure(int32_t block[BUDGET])
 {
     /* Room for any block, so that one call gives all its points. */
     static uint8_t positions[WIHUPYA_LARGEST_BLOCK * AXES];
-    uint32_t points[WIHUPYA_POINT_WORDS];
+    uint32_t points[WIHUPYA_POINTS_WORDS];
     uint32_t cause = wihupya_points(area.job, 0, points, area.cells, WIHUPYA_CELLS, area.store, BUDGET, positions, sizeof positions);
     if (cause == WIHUPYA_NO_BLOCK_WANTED)
         return 0;

@@ -18,7 +18,7 @@ pub const JOB_WORDS: usize = 10;
 /// each first, then axes, budget, held and reserved.
 pub type JobWords = [u32; JOB_WORDS];
 /// Points' words: how many points it wrote, and how many the block has.
-pub type PointWords = [u32; 2];
+pub type PointsWords = [u32; 2];
 /// Promote's word: 0 met, 1 spent, 2 promoted.
 pub type OutcomeWord = [u32; 1];
 /// Result's words: pending error and scaled mean, the low word of each first,
@@ -54,7 +54,7 @@ extern "C" {
     fn wihupya_points(
         job: *const JobWords,
         n: usize,
-        counts: *mut PointWords,
+        counts: *mut PointsWords,
         cells: *const u32,
         words: usize,
         store: *const i32,
@@ -137,7 +137,7 @@ pub fn point(job: &JobWords, n: usize, cells: &[u32], store: &[i32], buffer: &mu
 pub fn points(
     job: &JobWords,
     n: usize,
-    counts: &mut PointWords,
+    counts: &mut PointsWords,
     cells: &[u32],
     store: &[i32],
     buffer: &mut [u8],

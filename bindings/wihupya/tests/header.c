@@ -17,7 +17,7 @@ static struct area {
 } area, before;
 
 static uint8_t position[WIHUPYA_MOST_AXES], positions[WIHUPYA_LARGEST_BLOCK * WIHUPYA_MOST_AXES];
-static uint32_t written[WIHUPYA_POINT_WORDS], outcome[WIHUPYA_OUTCOME_WORDS];
+static uint32_t written[WIHUPYA_POINTS_WORDS], outcome[WIHUPYA_OUTCOME_WORDS];
 static uint32_t counts[WIHUPYA_COUNT_WORDS], total[WIHUPYA_TOTAL_WORDS];
 
 #define EXPECT(holds) expect((holds), #holds, __LINE__)
