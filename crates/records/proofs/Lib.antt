@@ -14,6 +14,7 @@ pub mod Words
 pub mod Typed
 pub mod Flattening
 pub mod Reading
+pub mod Buffered
 pub mod Writing
 pub mod Facts
 pub mod WellFormed
