@@ -7,10 +7,10 @@
 //! or spent:
 //!
 //! ```
-//! use wihupya::{Integrator, Point, Promotion, Refusal, CELLS, SCALE};
+//! use wihupya::{Integrator, Promotion, Refusal, CELLS, SCALE};
 //!
 //! /// The reading at (x, y) is x squared plus y.
-//! fn reading(point: Point) -> i32 {
+//! fn reading(point: &[u8]) -> i32 {
 //!     let (x, y) = (i32::from(point[0]), i32::from(point[1]));
 //!     x * x + y
 //! }
@@ -22,7 +22,7 @@
 //! loop {
 //!     match job.wanted_block() {
 //!         Ok(points) => {
-//!             let readings: Vec<i32> = points.map(reading).collect();
+//!             let readings: Vec<i32> = points.map(|point| reading(&point)).collect();
 //!             // How much the block matters is the caller's to say.
 //!             let indicator = readings.len() as u32 * 30;
 //!             job.deliver(&readings, indicator)?;
@@ -177,11 +177,12 @@ impl<'a> Integrator<'a> {
     /// # let (mut cells, mut store) = (vec![0; CELLS], vec![0; 64]);
     /// # let mut job = Integrator::new(&mut cells, &mut store);
     /// # job.start(2, 0, 64)?;
+    /// let axes = 2;
     /// let (mut buffer, mut n) = ([0; 32], 0);
     /// loop {
     ///     let counts = job.points(n, &mut buffer)?;
-    ///     for position in buffer.chunks_exact(2).take(counts.written) {
-    ///         println!("measure at {position:?}");
+    ///     for point in buffer.chunks_exact(axes).take(counts.written) {
+    ///         println!("measure at {point:?}");
     ///     }
     ///     n += counts.written;
     ///     if n == counts.block {
@@ -202,7 +203,7 @@ impl<'a> Integrator<'a> {
 
     /// The points of the first wanted block, one after the other, by few calls
     /// of [`points`](Integrator::points). It is refused if no block is wanted,
-    /// and with the other causes of that call.
+    /// and where the storage is too short or the area is not sound.
     ///
     /// ```
     /// # use wihupya::{Integrator, Refusal, CELLS};
