@@ -2,11 +2,12 @@
 //! reference, with the same slots for what it gives back, so that both sides'
 //! answers can be compared word for word.
 
-use crate::calls::{self, CountWords, OutcomeWord, TotalWords};
+use crate::calls::{self, CountWords, OutcomeWord, PointWords, TotalWords};
 use crate::lent::Loan;
 use reference::area::Area;
 use reference::call::{self, Answer, Call};
-use reference::calls::{Promotion, Totals};
+use reference::calls::{PointCounts, Promotion, Totals};
+use reference::grid::MOST_AXES;
 
 /// What a call answers at once.
 #[derive(Clone, Copy, Debug, PartialEq, Eq)]
@@ -17,21 +18,34 @@ pub enum ReturnValue {
     Sound(bool),
 }
 
+/// How many bytes lie behind the buffer that a call is lent: those of the
+/// longest point, so that a point too many is seen there.
+pub const BEHIND: usize = MOST_AXES;
+
 /// What a call may write besides the area. The words that it has no business
 /// with, and all of them if it is refused, must stay.
 #[derive(Clone, Debug, PartialEq, Eq)]
 pub struct Slots {
+    pub points: PointWords,
     pub outcome: OutcomeWord,
     pub counts: CountWords,
     pub total: TotalWords,
+    /// As long as the call's buffer, and the bytes behind it.
     pub buffer: Vec<u8>,
+}
+
+/// How many bytes of the buffer a call is lent.
+fn lent(call: &Call) -> usize {
+    call.buffer_length().unwrap_or(0)
 }
 
 /// Performs a call of the library.
 pub fn of_library(loan: Loan, call: &Call, slots: &mut Slots) -> ReturnValue {
+    let buffer = &mut slots.buffer[..lent(call)];
     ReturnValue::Number(match call {
         Call::Start { axes, threshold, budget } => calls::start(loan, *axes, *threshold, *budget),
-        Call::Point { n, .. } => calls::point(loan, *n as usize, &mut slots.buffer),
+        Call::Point { n, .. } => calls::point(loan, *n as usize, buffer),
+        Call::Points { n, .. } => calls::points(loan, *n as usize, &mut slots.points, buffer),
         Call::Deliver { readings, indicator } => calls::deliver(loan, readings, *indicator),
         Call::Promote => calls::promote(loan, &mut slots.outcome),
         Call::Result => calls::result(loan, &mut slots.counts),
@@ -43,8 +57,9 @@ pub fn of_library(loan: Loan, call: &Call, slots: &mut Slots) -> ReturnValue {
 /// Performs a call of the reference, and writes its answer into the slots as
 /// the library has to.
 pub fn of_reference(area: &mut Area, call: &Call, slots: &mut Slots) -> Answer {
-    let answer = call::perform(area, call, &mut slots.buffer);
+    let answer = call::perform(area, call, &mut slots.buffer[..lent(call)]);
     match &answer {
+        Answer::Points { counts, .. } => slots.points = point_words(counts),
         Answer::Promotion(promotion) => slots.outcome = [outcome_word(*promotion)],
         Answer::Totals(totals) => slots.counts = count_words(totals),
         Answer::CrossTotal(total) => slots.total = total_words(*total),
@@ -60,6 +75,10 @@ pub fn return_value(answer: &Answer) -> ReturnValue {
         Answer::Refused(cause) => ReturnValue::Number(cause.number()),
         _ => ReturnValue::Number(0),
     }
+}
+
+pub fn point_words(counts: &PointCounts) -> PointWords {
+    [counts.written, counts.block]
 }
 
 pub fn outcome_word(promotion: Promotion) -> u32 {

@@ -1,4 +1,4 @@
-//! The exported calls on storage that is lent. The six that can be refused
+//! The exported calls on storage that is lent. The seven that can be refused
 //! give 0 or the number of the cause. Storage that a call is lent shared must
 //! come back as it was; the functions assert that.
 
@@ -8,7 +8,7 @@ use std::fmt::Debug;
 use std::hint::black_box;
 use wihupya_sys as exported;
 
-pub use wihupya_sys::{CountWords, OutcomeWord, TotalWords};
+pub use wihupya_sys::{CountWords, OutcomeWord, PointWords, TotalWords};
 
 /// Check on an area whose cells end with its last record.
 pub fn check(area: &Area) -> bool {
@@ -39,6 +39,13 @@ pub fn point(loan: Loan, n: usize, buffer: &mut [u8]) -> u32 {
     let kept = Snapshot::of(&loan);
     let number = exported::point(loan.job, n, loan.cells, loan.store, buffer);
     kept.assert_unchanged("point", &loan);
+    number
+}
+
+pub fn points(loan: Loan, n: usize, counts: &mut PointWords, buffer: &mut [u8]) -> u32 {
+    let kept = Snapshot::of(&loan);
+    let number = exported::points(loan.job, n, counts, loan.cells, loan.store, buffer);
+    kept.assert_unchanged("points", &loan);
     number
 }
 

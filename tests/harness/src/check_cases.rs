@@ -4,7 +4,7 @@
 
 use reference::alter;
 use reference::area::{Area, IndexRecord, JobRecord, WORDS};
-use reference::grid::{BUDGET_LIMIT, HELD_LIMIT, ROOT};
+use reference::grid::{Levels, BUDGET_LIMIT, HELD_LIMIT, ROOT};
 use reference::rng::Rng;
 use reference::sample::{self, Shape};
 use reference::style::{self, IndicatorStyle};
@@ -87,10 +87,7 @@ impl CheckCases {
 /// stopped anywhere late on that way.
 pub fn near_ceiling(rng: &mut Rng) -> Area {
     let axes = rng.between(2, 8) as usize;
-    let first = rng.place(axes);
-    let second = (first + 1 + rng.place(axes - 1)) % axes;
-    let mut target = ROOT;
-    (target[first], target[second]) = (8, 7);
+    let target = on_two_axes(axes, (8, 7), rng);
     let shape = Shape {
         axes,
         threshold: 0,
@@ -101,6 +98,15 @@ pub fn near_ceiling(rng: &mut Rng) -> Area {
         deliveries: rng.between(40, 66) as usize,
     };
     sample::run(&shape, rng)
+}
+
+/// An index with these levels on two of its axes.
+pub fn on_two_axes(axes: usize, levels: (u32, u32), rng: &mut Rng) -> Levels {
+    let first = rng.place(axes);
+    let second = (first + 1 + rng.place(axes - 1)) % axes;
+    let mut index = ROOT;
+    (index[first], index[second]) = levels;
+    index
 }
 
 /// Anything in the records past the last held, where no clause looks.

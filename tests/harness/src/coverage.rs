@@ -4,7 +4,7 @@
 use crate::lent::Part;
 use reference::area::{Area, WORDS};
 use reference::call::{Answer, Call};
-use reference::calls::{self, Promotion};
+use reference::calls::{self, PointCounts, Promotion};
 use reference::grid::HELD_LIMIT;
 use std::collections::BTreeMap;
 use std::fmt::{self, Display, Formatter};
@@ -13,9 +13,10 @@ use std::fmt::{self, Display, Formatter};
 pub const LONG_RUN: u64 = 200_000;
 
 /// Every number that a call can be refused with.
-pub const REFUSALS: [(&str, &[u32]); 6] = [
+pub const REFUSALS: [(&str, &[u32]); 7] = [
     ("start", &[1, 2, 3]),
     ("point", &[3, 4, 5, 9]),
+    ("points", &[3, 4, 5, 9]),
     ("deliver", &[3, 4, 5, 7, 8]),
     ("promote", &[3, 4, 6]),
     ("result", &[3, 4]),
@@ -31,7 +32,8 @@ const OUTCOMES: [&str; 6] = [
     "spent by both limits",
 ];
 
-/// Accepted calls on storage that is just enough, or goes on a little.
+/// Accepted calls on storage that is just enough, or goes on a little; the
+/// buffers are those of point.
 const LENT: [&str; 5] = [
     "lent 512 records exactly",
     "lent a part of a record at the end",
@@ -39,6 +41,23 @@ const LENT: [&str; 5] = [
     "lent a buffer of just d bytes",
     "lent a buffer longer than d",
 ];
+
+/// What points wrote, as the block or the buffer ended first. A block of one
+/// point doesn't count as whole, nor its point as the last: there is no other.
+const POINTS: [&str; 5] = [
+    "points wrote a whole block",
+    "points wrote the last point alone",
+    "points wrote several from a later one on",
+    "points left a part for lack of room",
+    "points left a part, with room for a part of a point",
+];
+
+/// The buffers of points, accepted or refused.
+const BUFFERS: [&str; 2] = ["points lent no byte", "points lent more than the largest block takes"];
+/// By the ceilings a block has at most 2,048 points, here of 8 axes; one that a
+/// job can reach has at most 1,024, since those below it are within the budget.
+const LARGEST_BLOCK: usize = 16_384;
+const MOST_POINTS: u64 = 1_024;
 
 /// One other than the recorded mean takes an altered area.
 const CROSS_TOTALS: [&str; 2] =
@@ -63,6 +82,13 @@ impl Coverage {
         *self.counts.entry(what.into()).or_insert(0) += 1;
     }
 
+    /// Counts those of a list that were seen.
+    fn count_seen<const N: usize>(&mut self, list: [&str; N], seen: [bool; N]) {
+        for (what, _) in list.into_iter().zip(seen).filter(|(_, seen)| *seen) {
+            self.count(what);
+        }
+    }
+
     fn number(&self, what: &str) -> u64 {
         self.counts.get(what).copied().unwrap_or(0)
     }
@@ -82,6 +108,9 @@ impl Coverage {
     pub fn note(&mut self, call: &Call, answer: &Answer, on: &Circumstances) {
         self.count("calls");
         self.count(format!("calls of {}", call.name()));
+        if let Call::Points { buffer, .. } = call {
+            self.count_seen(BUFFERS, [*buffer == 0, *buffer > LARGEST_BLOCK]);
+        }
         match answer {
             Answer::Refused(cause) => {
                 self.count(format!("refused {} by {}", cause.number(), call.name()));
@@ -92,6 +121,7 @@ impl Coverage {
         }
         match answer {
             Answer::Started => self.count(format!("jobs of {} axes", on.area.job.axes)),
+            Answer::Points { counts, .. } => self.note_points(call, *counts, on.area),
             Answer::Promotion(promotion) => self.note_promotion(*promotion, on.area),
             Answer::Totals(totals) => self.highest("ceiling count", totals.ceiling),
             Answer::CrossTotal(total) => self.note_cross_total(*total, on.area),
@@ -111,23 +141,36 @@ impl Coverage {
             _ => None,
         };
         let axes = on.area.job.axes as usize;
-        let so = [
+        let seen = [
             on.part.cells / WORDS == HELD_LIMIT,
             !on.part.cells.is_multiple_of(WORDS),
             on.part.store == on.area.job.budget as usize,
             buffer == Some(axes),
             buffer > Some(axes),
         ];
-        for (what, _) in LENT.into_iter().zip(so).filter(|(_, seen)| *seen) {
-            self.count(what);
-        }
+        self.count_seen(LENT, seen);
+    }
+
+    fn note_points(&mut self, call: &Call, counts: PointCounts, area: &Area) {
+        let Call::Points { n, buffer } = *call else {
+            unreachable!("only points answers so");
+        };
+        let (written, block) = (u64::from(counts.written), u64::from(counts.block));
+        let part = n + written < block;
+        let room = buffer as u64 > written * u64::from(area.job.axes);
+        let seen = [
+            block > 1 && written == block,
+            block > 1 && n + 1 == block,
+            n > 0 && written > 1,
+            part,
+            part && room,
+        ];
+        self.count_seen(POINTS, seen);
+        self.highest("points written", counts.written);
     }
 
     fn note_cross_total(&mut self, total: i64, area: &Area) {
-        let so = [total != area.job.mean, total < 0];
-        for (what, _) in CROSS_TOTALS.into_iter().zip(so).filter(|(_, seen)| *seen) {
-            self.count(what);
-        }
+        self.count_seen(CROSS_TOTALS, [total != area.job.mean, total < 0]);
         let delivered = area.held().iter().filter(|record| record.is_delivered()).count();
         self.highest("delivered at a cross total", delivered as u32);
     }
@@ -152,8 +195,8 @@ impl Coverage {
 
     /// What a long run has to see and this one didn't.
     pub fn missing(&self) -> Vec<String> {
-        let mut due: Vec<String> =
-            OUTCOMES.iter().chain(&LENT).chain(&CROSS_TOTALS).map(|s| s.to_string()).collect();
+        let lists = [&OUTCOMES[..], &LENT, &POINTS, &BUFFERS, &CROSS_TOTALS];
+        let mut due: Vec<String> = lists.concat().into_iter().map(String::from).collect();
         for (call, numbers) in REFUSALS {
             due.push(format!("accepted {call}"));
             due.extend(numbers.iter().map(|number| format!("refused {number} by {call}")));
@@ -165,6 +208,9 @@ impl Coverage {
         due.retain(|what| self.number(what) == 0);
         if self.highest.get("held") != Some(&(HELD_LIMIT as u64)) {
             due.push("512 held".to_string());
+        }
+        if self.highest.get("points written") != Some(&MOST_POINTS) {
+            due.push("1,024 points written".to_string());
         }
         if self.highest.get("ceiling count").is_none_or(|&count| count == 0) {
             due.push("a ceiling".to_string());
@@ -192,7 +238,8 @@ mod tests {
     #[test]
     fn a_run_that_saw_nothing_lacks_everything() {
         let refusals: usize = REFUSALS.iter().map(|(_, numbers)| 1 + numbers.len()).sum();
-        let due = OUTCOMES.len() + LENT.len() + CROSS_TOTALS.len() + refusals + 8 + 3 + 2;
-        assert_eq!(Coverage::default().missing().len(), due);
+        let points = POINTS.len() + BUFFERS.len();
+        let lists = OUTCOMES.len() + LENT.len() + points + CROSS_TOTALS.len();
+        assert_eq!(Coverage::default().missing().len(), lists + refusals + 8 + 3 + 3);
     }
 }

@@ -1,12 +1,12 @@
 //! Where a list of calls begins: storage full of anything, in which a job has
 //! to be started first, or an area that the reference's calls have made, some
-//! of them near a ceiling or near 512 held.
+//! of them near a ceiling, near 512 held or with a large block wanted.
 
 use crate::check_cases;
 use reference::area::{Area, IndexRecord, JobRecord, WORDS};
 use reference::calls::{self, Promotion};
 use reference::choice::{Chooser, Parameters};
-use reference::grid::{BUDGET_LIMIT, HELD_LIMIT, MOST_AXES};
+use reference::grid::{self, BUDGET_LIMIT, HELD_LIMIT, MOST_AXES};
 use reference::rng::Rng;
 use reference::sample;
 use reference::style::{self, IndicatorStyle, ReadingStyle};
@@ -31,19 +31,26 @@ impl InitialAreas {
     pub fn next(&mut self, chooser: &mut Chooser) -> InitialArea {
         let rng = &mut chooser.rng;
         let mut calls = rng.between(30, 240) as u64;
+        let mut steps = rng.pick(&[60, 80, 90]);
         let mut area = match rng.below(1_000) {
             0..=29 => {
                 calls = rng.between(20, 80) as u64;
                 self.nearly_full(rng)
             }
             30..=69 => check_cases::near_ceiling(rng),
-            70..=169 => sample::area(rng.number()),
+            70..=99 => {
+                // The block is asked for rather than delivered.
+                (calls, steps) = (20, 0);
+                large_block(rng)
+            }
+            100..=199 => sample::area(rng.number()),
             _ => garbage(rng),
         };
         area.records.truncate(HELD_LIMIT + rng.pick(&[0, 0, 1, 3, 8]));
         area.store.truncate(BUDGET_LIMIT as usize + rng.pick(&[0, 1, 40]));
         let rest = (0..rng.place(WORDS)).map(|_| rng.number() as u32).collect();
         if calls::check(&area) {
+            chooser.parameters.steps = steps;
             follow(&mut chooser.parameters, &area, rng);
         }
         InitialArea { area, rest, calls }
@@ -66,7 +73,6 @@ impl InitialAreas {
 /// The job goes on as it came to be.
 fn follow(parameters: &mut Parameters, area: &Area, rng: &mut Rng) {
     parameters.axes = area.job.axes;
-    parameters.steps = rng.pick(&[60, 80, 90]);
     parameters.indicators = rng.pick(&[
         IndicatorStyle::SmallBlocksFirst,
         IndicatorStyle::LargeBlocksFirst,
@@ -96,6 +102,29 @@ fn grow(axes: usize) -> Vec<Area> {
         if area.job.held >= 470 {
             areas.push(area.clone());
         }
+    }
+}
+
+/// A job that goes straight for an index whose block has 1,024 points, the most
+/// that a job can reach, up to where that block is the first wanted.
+pub fn large_block(rng: &mut Rng) -> Area {
+    let axes = rng.between(2, MOST_AXES as i64) as usize;
+    let levels = rng.pick(&[(8, 6), (7, 7)]);
+    let target = check_cases::on_two_axes(axes, levels, rng);
+    let mut area = Area::empty(HELD_LIMIT + 8, BUDGET_LIMIT as usize + 40);
+    assert_eq!(calls::start(&mut area, axes as u32, 0, BUDGET_LIMIT), Ok(()));
+    loop {
+        let Some(place) = calls::first_wanted(&area) else {
+            assert_eq!(calls::promote(&mut area), Ok(Promotion::Promoted));
+            continue;
+        };
+        let levels = area.records[place].levels;
+        if levels == target {
+            return area;
+        }
+        let indicator = u32::from(grid::nowhere_higher(&levels, &target));
+        let readings = style::readings(ReadingStyle::Any, rng, axes, &levels);
+        assert_eq!(calls::deliver(&mut area, &readings, indicator), Ok(()));
     }
 }
 

@@ -1,7 +1,7 @@
 //! Lists of calls by seed, each on one work area: accepted and refused calls,
 //! on storage lent whole or in part, with alterations of the area in between.
 
-use crate::answers::Slots;
+use crate::answers::{Slots, BEHIND};
 use crate::coverage::{Circumstances, Coverage};
 use crate::initial_areas::{InitialArea, InitialAreas};
 use crate::lent::Part;
@@ -126,14 +126,16 @@ impl List {
             return chooser.carry_on(wanted);
         }
         match chooser.rng.below(100) {
-            0..=15 => chooser.point(wanted),
-            16..=25 => chooser.damaged_point(wanted),
-            26..=39 => chooser.damaged_deliver(wanted),
-            40..=51 => self.deliver_or_any(wanted),
-            52..=65 => Call::Promote,
-            66..=75 => Call::Result,
-            76..=83 => Call::CrossTotal,
-            84..=93 => Call::Check,
+            0..=9 => chooser.point(wanted),
+            10..=16 => chooser.damaged_point(wanted),
+            17..=27 => chooser.points(wanted),
+            28..=35 => chooser.damaged_points(wanted),
+            36..=46 => chooser.damaged_deliver(wanted),
+            47..=56 => self.deliver_or_any(wanted),
+            57..=68 => Call::Promote,
+            69..=77 => Call::Result,
+            78..=85 => Call::CrossTotal,
+            86..=94 => Call::Check,
             _ => chooser.damaged_start(),
         }
     }
@@ -174,11 +176,9 @@ impl List {
     /// Anything, so that a word is seen to be written or left.
     fn slots(&mut self, call: &Call) -> Slots {
         let rng = &mut self.chooser.rng;
-        let length = match call {
-            Call::Point { buffer, .. } => *buffer,
-            _ => 0,
-        };
+        let length = call.buffer_length().unwrap_or(0) + BEHIND;
         Slots {
+            points: std::array::from_fn(|_| rng.number() as u32),
             outcome: [rng.number() as u32],
             counts: std::array::from_fn(|_| rng.number() as u32),
             total: std::array::from_fn(|_| rng.number() as u32),

@@ -2,13 +2,13 @@
 //! tests/records reads them, and the lines that it has to print: the
 //! reference's answers, with a digest of the area after each call.
 
-use crate::answers::outcome_word;
+use crate::answers::{outcome_word, BEHIND};
 use crate::check_cases::near_ceiling;
-use crate::initial_areas::{garbage, InitialAreas};
+use crate::initial_areas::{garbage, large_block, InitialAreas};
 use reference::area::{Area, IndexRecord, JobRecord, WORDS};
 use reference::call::{self, Answer, Call};
 use reference::calls;
-use reference::choice::{Block, Chooser};
+use reference::choice::{Block, Chooser, LONGEST_BUFFER};
 use reference::grid::{self, BUDGET_LIMIT, HELD_LIMIT, MOST_AXES, READING_LIMIT};
 use reference::rng::Rng;
 use std::collections::BTreeMap;
@@ -16,8 +16,7 @@ use std::collections::BTreeMap;
 /// What the program has room for: one more than a job can hold, of each.
 const RECORDS: usize = HELD_LIMIT + 1;
 const READINGS: usize = BUDGET_LIMIT as usize + 1;
-/// The program's point buffer, and what lies in it beforehand.
-const BUFFER: usize = 16;
+/// What lies in the program's buffer beforehand, in what is lent and behind it.
 const FILL: u8 = 200;
 const END: u32 = 0;
 const CONTENT: u32 = 8;
@@ -28,8 +27,9 @@ pub struct Lists {
     initial_areas: InitialAreas,
     pub input: Vec<u8>,
     pub output: String,
-    /// How often each answer was seen, by the number that is printed.
-    pub seen: BTreeMap<u64, u32>,
+    /// How often each answer was seen, by the call and the number that is
+    /// printed first.
+    pub seen: BTreeMap<(&'static str, u64), u32>,
 }
 
 impl Default for Lists {
@@ -51,7 +51,16 @@ impl Lists {
         let mut area = garbage(&mut chooser.rng);
         area.job.budget = chooser.parameters.budget;
         self.content(area);
-        for call in [Call::Check, Call::Promote, Call::Result] {
+        let unsound = [
+            Call::Check,
+            Call::Point { n: 0, buffer: MOST_AXES + 1 },
+            Call::Points { n: 0, buffer: MOST_AXES + 1 },
+            Call::Deliver { readings: vec![1], indicator: 1 },
+            Call::Promote,
+            Call::Result,
+            Call::CrossTotal,
+        ];
+        for call in unsound {
             self.call(&call, RECORDS, READINGS);
         }
         let start = chooser.start();
@@ -60,6 +69,7 @@ impl Lists {
         }
         let refused = [
             Call::Point { n: 1, buffer: MOST_AXES },
+            Call::Points { n: 1, buffer: MOST_AXES },
             Call::Promote,
             Call::Deliver { readings: vec![1, 2], indicator: 1 },
             Call::Deliver { readings: vec![READING_LIMIT + 1], indicator: 1 },
@@ -80,6 +90,7 @@ impl Lists {
             (Call::Point { n: 0, buffer: 2 }, RECORDS),
             (Call::Deliver { readings: vec![-5], indicator: 9 }, RECORDS),
             (Call::Promote, HELD_LIMIT),
+            (Call::Points { n: 0, buffer: 3 }, RECORDS),
             (Call::Check, HELD_LIMIT - 1),
             (Call::Result, HELD_LIMIT),
             (Call::CrossTotal, RECORDS),
@@ -94,8 +105,7 @@ impl Lists {
     pub fn from_nearly_full(&mut self, seed: u64, count: usize) {
         let mut chooser = Chooser::new(Rng::new(seed));
         let area = self.initial_areas.nearly_full(&mut chooser.rng);
-        chooser.parameters.axes = area.job.axes;
-        self.content(area);
+        self.begin(area, &mut chooser);
         self.carry_on(&mut chooser, count);
     }
 
@@ -103,8 +113,20 @@ impl Lists {
     pub fn from_near_ceiling(&mut self, seed: u64, count: usize) {
         let mut chooser = Chooser::new(Rng::new(seed));
         let area = near_ceiling(&mut chooser.rng);
-        chooser.parameters.axes = area.job.axes;
-        self.content(area);
+        self.begin(area, &mut chooser);
+        self.carry_on(&mut chooser, count);
+    }
+
+    /// A list that begins with the largest block that a job can reach: points
+    /// from its first, from its last and from others on, then calls of all kinds.
+    pub fn from_large_block(&mut self, seed: u64, count: usize) {
+        let mut chooser = Chooser::new(Rng::new(seed));
+        let area = large_block(&mut chooser.rng);
+        let axes = area.job.axes as usize;
+        self.begin(area, &mut chooser);
+        for (n, buffer) in [(0, LONGEST_BUFFER), (1, 1_024 * axes - 1), (1_023, 2 * axes)] {
+            self.call(&Call::Points { n, buffer }, RECORDS, READINGS);
+        }
         self.carry_on(&mut chooser, count);
     }
 
@@ -112,18 +134,28 @@ impl Lists {
         self.word(END);
     }
 
+    /// An area whose job goes on as it came to be.
+    fn begin(&mut self, area: Area, chooser: &mut Chooser) {
+        chooser.parameters.axes = area.job.axes;
+        self.content(area);
+    }
+
     fn carry_on(&mut self, chooser: &mut Chooser, count: usize) {
         for _ in 0..count {
             let wanted = self.wanted();
             let call = match chooser.rng.below(100) {
-                0..=49 => chooser.carry_on(wanted),
-                50..=59 => chooser.point(wanted),
-                60..=64 => chooser.damaged_point(wanted),
-                65..=71 => chooser.damaged_deliver(wanted),
-                72..=78 => Call::Promote,
-                79..=84 => Call::Result,
-                85..=88 => Call::CrossTotal,
-                89..=94 => Call::Check,
+                // Few blocks are wanted for long, so they are asked for while they are.
+                0..=24 if wanted.is_some() => chooser.points(wanted),
+                0..=43 => chooser.carry_on(wanted),
+                44..=50 => chooser.point(wanted),
+                51..=54 => chooser.damaged_point(wanted),
+                55..=64 => chooser.points(wanted),
+                65..=69 => chooser.damaged_points(wanted),
+                70..=75 => chooser.damaged_deliver(wanted),
+                76..=81 => Call::Promote,
+                82..=86 => Call::Result,
+                87..=90 => Call::CrossTotal,
+                91..=95 => Call::Check,
                 _ => chooser.damaged_start(),
             };
             let lent = chooser.rng.pick(&[511, 512, 512, 512, 513, 513, 513, 513]);
@@ -160,17 +192,17 @@ impl Lists {
     fn call(&mut self, call: &Call, lent: usize, readings: usize) {
         self.head(kind(call), lent, readings);
         arguments(call).into_iter().for_each(|word| self.word(word));
-        let mut buffer = [FILL; BUFFER];
-        let length = if let Call::Point { buffer, .. } = call { *buffer } else { 0 };
+        let length = call.buffer_length().unwrap_or(0);
+        let mut buffer = vec![FILL; length + BEHIND];
         let records_kept = self.area.records.split_off(lent);
         let store_kept = self.area.store.split_off(readings);
         let answer = call::perform(&mut self.area, call, &mut buffer[..length]);
         self.area.records.extend(records_kept);
         self.area.store.extend(store_kept);
         let mut numbers = printed(&answer);
-        *self.seen.entry(numbers[0]).or_default() += 1;
-        if let Call::Point { .. } = call {
-            numbers.extend(buffer.map(u64::from));
+        *self.seen.entry((call.name(), numbers[0])).or_default() += 1;
+        if call.buffer_length().is_some() {
+            numbers.push(buffer.iter().fold(0, |digest, &byte| mix(digest, byte.into())));
         }
         self.line(kind(call), &numbers);
     }
@@ -223,6 +255,8 @@ fn kind(call: &Call) -> u32 {
         Call::Result => 5,
         Call::CrossTotal => 6,
         Call::Check => 7,
+        // 8 is a content.
+        Call::Points { .. } => 9,
     }
 }
 
@@ -231,7 +265,9 @@ fn arguments(call: &Call) -> Vec<u32> {
         Call::Start { axes, threshold, budget } => {
             [&[*axes][..], &wide(*threshold), &[*budget]].concat()
         }
-        Call::Point { n, buffer } => [&wide(*n)[..], &[*buffer as u32]].concat(),
+        Call::Point { n, buffer } | Call::Points { n, buffer } => {
+            [&wide(*n)[..], &[*buffer as u32]].concat()
+        }
         Call::Deliver { readings, indicator } => [*indicator, readings.len() as u32]
             .into_iter()
             .chain(readings.iter().map(|&reading| reading as u32))
@@ -244,6 +280,7 @@ fn arguments(call: &Call) -> Vec<u32> {
 fn printed(answer: &Answer) -> Vec<u64> {
     match answer {
         Answer::Started | Answer::Point(_) | Answer::Delivered => vec![0],
+        Answer::Points { counts, .. } => vec![0, counts.written.into(), counts.block.into()],
         Answer::Promotion(promotion) => vec![20 + u64::from(outcome_word(*promotion))],
         Answer::Totals(totals) => [0, totals.old.into(), totals.active.into()]
             .into_iter()

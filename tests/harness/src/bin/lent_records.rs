@@ -7,8 +7,17 @@ use harness::records::Lists;
 use std::path::Path;
 use std::process::ExitCode;
 
-/// Every cause of a call, accepted, the outcomes, and check's no and yes.
-const DUE: [u64; 15] = [0, 1, 2, 3, 4, 5, 6, 7, 8, 9, 20, 21, 22, 30, 31];
+/// Of each call every cause and accepted, the outcomes, and check's no and yes.
+const DUE: [(&str, &[u64]); 8] = [
+    ("start", &[0, 1, 2, 3]),
+    ("point", &[0, 3, 4, 5, 9]),
+    ("points", &[0, 3, 4, 5, 9]),
+    ("deliver", &[0, 3, 4, 5, 7, 8]),
+    ("promote", &[3, 4, 6, 20, 21, 22]),
+    ("result", &[0, 3, 4]),
+    ("cross total", &[0, 3, 4]),
+    ("check", &[30, 31]),
+];
 
 fn long_lists(seed: u64) -> Result<Lists, String> {
     let mut lists = Lists::default();
@@ -18,8 +27,10 @@ fn long_lists(seed: u64) -> Result<Lists, String> {
     for number in 0..4 {
         lists.from_nearly_full(seed + number, 12);
         lists.from_near_ceiling(seed + number, 12);
+        lists.from_large_block(seed + number, 12);
     }
-    let missing: Vec<&u64> = DUE.iter().filter(|number| !lists.seen.contains_key(number)).collect();
+    let due = DUE.iter().flat_map(|(call, numbers)| numbers.iter().map(|&number| (*call, number)));
+    let missing: Vec<_> = due.filter(|answer| !lists.seen.contains_key(answer)).collect();
     match missing.is_empty() {
         true => Ok(lists),
         false => Err(format!("never answered: {missing:?}")),

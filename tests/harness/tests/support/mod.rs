@@ -4,8 +4,8 @@
 // Each file of tests uses its own part of this.
 #![allow(dead_code)]
 
-use harness::answers::{self, ReturnValue, Slots};
-use harness::calls::{self, CountWords};
+use harness::answers::{self, ReturnValue, Slots, BEHIND};
+use harness::calls::{self, CountWords, PointWords};
 use harness::lent::{Lent, Part};
 use reference::area::WORDS;
 use reference::call::Call;
@@ -17,6 +17,8 @@ pub const RECORDS: usize = 512;
 /// The place of the pending error's low word in the job words.
 pub const PENDING: usize = 2;
 const MARK: u32 = 0xa5a5_a5a5;
+/// What lies in a buffer beforehand; no position is above 128.
+pub const MARKED_BYTE: u8 = 0xa5;
 
 /// Storage full of marks: 512 records, a part of another, a store of 100.
 pub fn storage() -> Lent {
@@ -44,6 +46,15 @@ pub fn counts(lent: &mut Lent) -> CountWords {
     let mut counts = [MARK; 9];
     assert_eq!(calls::result(lent.all(), &mut counts), 0);
     counts
+}
+
+/// Points from n on, with so many bytes lent: its words, and the buffer with
+/// the bytes behind it.
+pub fn points_in(lent: &mut Lent, n: u64, buffer: usize) -> (PointWords, Vec<u8>) {
+    let (whole, call) = (lent.whole(), Call::Points { n, buffer });
+    let (return_value, _, after) = perform(lent, whole, &call);
+    assert_eq!(return_value, ReturnValue::Number(0), "{call:?}");
+    (after.points, after.buffer)
 }
 
 pub fn cross_total(lent: &mut Lent) -> i64 {
@@ -95,18 +106,27 @@ pub fn point(n: u64) -> Call {
     Call::Point { n, buffer: 8 }
 }
 
+pub fn points(n: u64) -> Call {
+    Call::Points { n, buffer: 24 }
+}
+
 pub fn delivery(readings: &[i32]) -> Call {
     Call::Deliver { readings: readings.to_vec(), indicator: 9 }
 }
 
 /// All marks, so that a word is seen to be written or left.
 fn slots(buffer: usize) -> Slots {
-    Slots { outcome: [MARK], counts: [MARK; 9], total: [MARK; 2], buffer: vec![0xa5; buffer] }
+    Slots {
+        points: [MARK; 2],
+        outcome: [MARK],
+        counts: [MARK; 9],
+        total: [MARK; 2],
+        buffer: vec![MARKED_BYTE; buffer + BEHIND],
+    }
 }
 
 fn perform(lent: &mut Lent, part: Part, call: &Call) -> (ReturnValue, Slots, Slots) {
-    let length = if let Call::Point { buffer, .. } = call { *buffer } else { 0 };
-    let before = slots(length);
+    let before = slots(call.buffer_length().unwrap_or(0));
     let mut after = before.clone();
     let return_value = answers::of_library(lent.part(part), call, &mut after);
     (return_value, before, after)
