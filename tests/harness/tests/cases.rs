@@ -159,6 +159,7 @@ fn each_call() -> Vec<(Lent, Call)> {
     vec![
         (wanting_two(), start(2, 64)),
         (wanting_two(), point(0)),
+        (wanting_two(), points(0)),
         (wanting_two(), delivery(&[64, 16_448])),
         (wanting_nothing(), Call::Promote),
         (wanting_two(), Call::Result),
@@ -199,8 +200,10 @@ fn cause_3_a_point_buffer_shorter_than_the_axes() {
     let mut lent = wanting_two();
     for buffer in [0, 1] {
         refused(&mut lent, &Call::Point { n: 0, buffer }, 3);
+        refused(&mut lent, &Call::Points { n: 0, buffer }, 3);
     }
     accepted(&lent, &Call::Point { n: 0, buffer: 2 });
+    accepted(&lent, &Call::Points { n: 0, buffer: 2 });
 }
 
 #[test]
@@ -222,9 +225,10 @@ fn cause_4_an_area_that_is_not_sound_for_every_call_but_start_and_check() {
 }
 
 #[test]
-fn cause_5_point_and_deliver_where_no_block_is_wanted() {
+fn cause_5_point_points_and_deliver_where_no_block_is_wanted() {
     let mut lent = wanting_nothing();
     refused(&mut lent, &point(0), 5);
+    refused(&mut lent, &points(0), 5);
     refused(&mut lent, &delivery(&[1, 2]), 5);
 }
 
@@ -258,6 +262,8 @@ fn cause_9_a_point_number_not_below_the_blocks_size() {
     let mut lent = wanting_two();
     for n in [2, 3, 1 << 32, u64::MAX] {
         refused(&mut lent, &point(n), 9);
+        refused(&mut lent, &points(n), 9);
     }
     accepted(&lent, &point(1));
+    accepted(&lent, &points(1));
 }

@@ -31,7 +31,8 @@ fn the_budget_comes_before_the_storage() {
 
 #[test]
 fn the_storage_comes_before_the_area() {
-    for call in [point(0), delivery(&[1, 2]), Call::Promote, Call::Result, Call::CrossTotal] {
+    let looking = [point(0), points(0), Call::Result, Call::CrossTotal];
+    for call in looking.into_iter().chain([delivery(&[1, 2]), Call::Promote]) {
         let mut lent = altered(wanting_two());
         for part in [short_of_records(&lent), short_of_readings(&lent, 64)] {
             refused_in(&mut lent, part, &call, 3);
@@ -42,6 +43,7 @@ fn the_storage_comes_before_the_area() {
 #[test]
 fn the_point_buffer_comes_before_the_area() {
     refused(&mut altered(wanting_two()), &Call::Point { n: 0, buffer: 1 }, 3);
+    refused(&mut altered(wanting_two()), &Call::Points { n: 0, buffer: 1 }, 3);
 }
 
 /// Short storage, and a later cause as well.
@@ -55,17 +57,21 @@ fn storage_before(mut lent: Lent, call: &Call, later: u32) {
 #[test]
 fn the_storage_comes_before_what_is_wanted_and_before_the_arguments() {
     storage_before(wanting_nothing(), &point(0), 5);
+    storage_before(wanting_nothing(), &points(0), 5);
     storage_before(wanting_nothing(), &delivery(&[1, 2]), 5);
     storage_before(wanting_two(), &Call::Promote, 6);
     storage_before(wanting_two(), &delivery(&[1]), 7);
     storage_before(wanting_two(), &delivery(&[1_048_577, 0]), 8);
     storage_before(wanting_two(), &point(2), 9);
+    storage_before(wanting_two(), &points(2), 9);
 }
 
 #[test]
 fn the_point_buffer_comes_before_what_is_wanted_and_before_the_point_number() {
     refused(&mut wanting_nothing(), &Call::Point { n: 0, buffer: 1 }, 3);
+    refused(&mut wanting_nothing(), &Call::Points { n: 0, buffer: 1 }, 3);
     refused(&mut wanting_two(), &Call::Point { n: 2, buffer: 1 }, 3);
+    refused(&mut wanting_two(), &Call::Points { n: 2, buffer: 1 }, 3);
 }
 
 /// An area that is not sound, and a later cause as well.
@@ -77,11 +83,13 @@ fn area_before(mut lent: Lent, call: &Call, later: u32) {
 #[test]
 fn the_area_comes_before_what_is_wanted_and_before_the_arguments() {
     area_before(wanting_nothing(), &point(0), 5);
+    area_before(wanting_nothing(), &points(0), 5);
     area_before(wanting_nothing(), &delivery(&[1, 2]), 5);
     area_before(wanting_two(), &Call::Promote, 6);
     area_before(wanting_two(), &delivery(&[1]), 7);
     area_before(wanting_two(), &delivery(&[1_048_577, 0]), 8);
     area_before(wanting_two(), &point(2), 9);
+    area_before(wanting_two(), &points(2), 9);
 }
 
 #[test]
@@ -89,6 +97,7 @@ fn that_no_block_is_wanted_comes_before_the_arguments() {
     refused(&mut wanting_nothing(), &delivery(&[]), 5);
     refused(&mut wanting_nothing(), &delivery(&TOO_MANY_AND_TOO_LARGE), 5);
     refused(&mut wanting_nothing(), &point(u64::MAX), 5);
+    refused(&mut wanting_nothing(), &points(u64::MAX), 5);
 }
 
 #[test]
