@@ -75,6 +75,11 @@ impl Deepest {
         self.note("point", || {
             black_box(exported::point(job, 0, cells, store, &mut buffer));
         });
+        // Room for the largest block whole.
+        let (mut positions, mut written) = (vec![0; 16_384], [0; 2]);
+        self.note("points", || {
+            black_box(exported::points(job, 0, &mut written, cells, store, &mut positions));
+        });
         if let Some(place) = calls::first_wanted(area) {
             let readings = vec![1; grid::block_size(&area.records[place].levels)];
             self.note("deliver", || {
