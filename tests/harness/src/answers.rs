@@ -2,7 +2,7 @@
 //! reference, with the same slots for what it gives back, so that both sides'
 //! answers can be compared word for word.
 
-use crate::calls::{self, CountWords, OutcomeWord, PointWords, TotalWords};
+use crate::calls::{self, CountWords, OutcomeWord, PointsWords, TotalWords};
 use crate::lent::Loan;
 use reference::area::Area;
 use reference::call::{self, Answer, Call};
@@ -26,7 +26,7 @@ pub const BEHIND: usize = MOST_AXES;
 /// with, and all of them if it is refused, must stay.
 #[derive(Clone, Debug, PartialEq, Eq)]
 pub struct Slots {
-    pub points: PointWords,
+    pub points: PointsWords,
     pub outcome: OutcomeWord,
     pub counts: CountWords,
     pub total: TotalWords,
@@ -77,7 +77,7 @@ pub fn return_value(answer: &Answer) -> ReturnValue {
     }
 }
 
-pub fn point_words(counts: &PointCounts) -> PointWords {
+pub fn point_words(counts: &PointCounts) -> PointsWords {
     [counts.written, counts.block]
 }
 

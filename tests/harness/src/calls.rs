@@ -8,7 +8,7 @@ use std::fmt::Debug;
 use std::hint::black_box;
 use wihupya_sys as exported;
 
-pub use wihupya_sys::{CountWords, OutcomeWord, PointWords, TotalWords};
+pub use wihupya_sys::{CountWords, OutcomeWord, PointsWords, TotalWords};
 
 /// Check on an area whose cells end with its last record.
 pub fn check(area: &Area) -> bool {
@@ -42,7 +42,7 @@ pub fn point(loan: Loan, n: usize, buffer: &mut [u8]) -> u32 {
     number
 }
 
-pub fn points(loan: Loan, n: usize, counts: &mut PointWords, buffer: &mut [u8]) -> u32 {
+pub fn points(loan: Loan, n: usize, counts: &mut PointsWords, buffer: &mut [u8]) -> u32 {
     let kept = Snapshot::of(&loan);
     let number = exported::points(loan.job, n, counts, loan.cells, loan.store, buffer);
     kept.assert_unchanged("points", &loan);

@@ -5,7 +5,7 @@
 #![allow(dead_code)]
 
 use harness::answers::{self, ReturnValue, Slots, BEHIND};
-use harness::calls::{self, CountWords, PointWords};
+use harness::calls::{self, CountWords, PointsWords};
 use harness::lent::{Lent, Part};
 use reference::area::WORDS;
 use reference::call::Call;
@@ -50,7 +50,7 @@ pub fn counts(lent: &mut Lent) -> CountWords {
 
 /// Points from n on, with so many bytes lent: its words, and the buffer with
 /// the bytes behind it.
-pub fn points_in(lent: &mut Lent, n: u64, buffer: usize) -> (PointWords, Vec<u8>) {
+pub fn points_in(lent: &mut Lent, n: u64, buffer: usize) -> (PointsWords, Vec<u8>) {
     let (whole, call) = (lent.whole(), Call::Points { n, buffer });
     let (return_value, _, after) = perform(lent, whole, &call);
     assert_eq!(return_value, ReturnValue::Number(0), "{call:?}");
