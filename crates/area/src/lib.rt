@@ -126,12 +126,14 @@ pub fn levels_at(cells: &[u32], place: usize) -> [u32; 8]
     eight_at(cells, place * 27)
 }
 
-// One level of the record at a place.
+// One level of the record at a place. It is counted from the record's first cell, and a link from the record's first link: a loop over
+// the axes then moves one number, and the compiler can unroll it.
 pub fn level_at(cells: &[u32], place: usize, axis: usize) -> u32
     requires { ⌜ (place * 27 + 27 ≤ length (now cells)) × (axis < 8) ⌝ }
     ensures { λ r. ⌜ r ≡ level (getD (recordsOf (now (cells .entry))) place blank .levels) axis ⌝ }
 {
-    cells[place * 27 + axis]
+    let levels = &cells[place * 27..];
+    levels[axis]
 }
 
 pub fn state_at(cells: &[u32], place: usize) -> u32
@@ -161,7 +163,8 @@ pub fn link_at(cells: &[u32], place: usize, which: usize) -> u32
     requires { ⌜ (place * 27 + 27 ≤ length (now cells)) × (which < 16) ⌝ }
     ensures { λ r. ⌜ r ≡ getD (getD (recordsOf (now (cells .entry))) place blank .links) which none ⌝ }
 {
-    cells[place * 27 + 11 + which]
+    let links = &cells[place * 27 + 11..];
+    links[which]
 }
 
 // Whether the record at a place has these levels.

@@ -1,10 +1,10 @@
--- The tests of one place by what was read there, and sums along the places by one place more.
+-- The tests of one place by what was read there, sums along the places by one place more, and a loop that looks at all.
 -- Assumes nothing.
-use mathlib.Core.Path.{_≡_}
+use mathlib.Core.Path.{_≡_, ap, sym, _∙_}
 use mathlib.Core.Logic.{_≢_}
-use mathlib.Core.Bool.{true, false}
+use mathlib.Core.Bool.{Bool, true, false, cond}
 use mathlib.Core.List.{List}
-use Prim.Native.Nat.{ℕ, _+_, _<_, _≤_}
+use Prim.Native.Nat.{ℕ, _+_, _-_, _<_, _≤_}
 use native.Mathlib.Numerals.{add-one}
 use native.Mathlib.Omega.{arith}
 use borrow.Author.Tests.{leb-true, eq-eqb, ne-eqb, lt-ltb, le-ltb, le-leb, lt-leb}
@@ -24,10 +24,26 @@ use Rattle.quadrature.specs.Readings.{recordAt}
 use Rattle.soundness.specs.Held.{levelsAt, stateAt, countAt}
 use Rattle.soundness.specs.Test.{allFrom, placesTest}
 use Rattle.soundness.specs.Totals.{wantedTest, readingTest, blockTest, blocksTest}
+use Rattle.soundness.proofs.Exactly.{all-go, all-stop, all-end}
 use Rattle.soundness.proofs.Tests.{reads-places}
 
 pub sum-next : (n : ℕ) (f : ℕ → ℕ) → natSumTo (n + 1) f ≡ natSumTo n f + f n
 sum-next n f = rw (add-one n) (natSumTo-suc n f)
+
+-- ---- one turn of a loop that looks at all: t says whether f held so far, u whether it does up to here
+pub still-all : (f : ℕ → Bool) (n i : ℕ) (whole t u : Bool) → i < n → f i ≡ true → u ≡ t → whole ≡ cond t (allFrom (n - i) i f) false
+    → whole ≡ cond u (allFrom (n - (i + 1)) (i + 1) f) false
+still-all f n i whole t u h e kept w =
+    w ∙ ap (λ x. cond t x false) (all-go f n i h e) ∙ ap (λ y. cond y (allFrom (n - (i + 1)) (i + 1) f) false) (sym kept)
+
+pub now-not : (f : ℕ → Bool) (n i : ℕ) (whole t u : Bool) → i < n → f i ≡ false → u ≡ false → whole ≡ cond t (allFrom (n - i) i f) false
+    → whole ≡ cond u (allFrom (n - (i + 1)) (i + 1) f) false
+now-not f n i whole true u h e off w = w ∙ all-stop f n i h e ∙ ap (λ y. cond y (allFrom (n - (i + 1)) (i + 1) f) false) (sym off)
+now-not f n i whole false u h e off w = w ∙ ap (λ y. cond y (allFrom (n - (i + 1)) (i + 1) f) false) (sym off)
+
+pub all-looked-at : (f : ℕ → Bool) (n i : ℕ) (whole t : Bool) → n ≤ i → whole ≡ cond t (allFrom (n - i) i f) false → whole ≡ t
+all-looked-at f n i whole true h w = w ∙ all-end f n i h
+all-looked-at f n i whole false h w = w
 
 module _ (rs : List IndexRecord) (p : ℕ) where
   -- ---- wanted records

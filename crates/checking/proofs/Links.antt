@@ -1,19 +1,34 @@
 -- The tests of one place's links, case by case, as the code asks them.
 -- Assumes nothing.
-use mathlib.Core.Path.{_≡_}
+use mathlib.Core.Path.{_≡_, refl, ap, ap₂, _∙_}
 use mathlib.Core.Logic.{_≢_}
 use mathlib.Core.Bool.{true, false, not}
-use mathlib.Core.List.{List}
-use Prim.Native.Nat.{ℕ, _<_, _≤_}
+use mathlib.Core.List.{List, [], _∷_}
+use Prim.Native.Nat.{ℕ, suc, _<_, _≤_}
+use native.Mathlib.Omega.{arith}
 use lib.Dec.{eqb}
-use lib.ListN.{length}
+use lib.ListN.{length, replicate}
 use borrow.Author.Tests.{eq-eqb, ne-eqb, lt-ltb, le-ltb, le-leb, lt-leb}
-use Rattle.grid.specs.Index.{level, root, backward}
+use Rattle.grid.specs.Index.{level, excess, Within, root, backward}
 use Rattle.grid.specs.Coefficient.{sameLevels}
+use Rattle.grid.proofs.Neighbours.{root-excess}
 use Rattle.area.specs.declared.IndexRecord.{IndexRecord}
 use Rattle.area.specs.Encoding.{none}
 use Rattle.soundness.specs.Held.{levelsAt, stateAt, forwardLink, backwardLink}
 use Rattle.soundness.specs.Test.{rootTest, backwardNeighbourTest, backwardLinkTest, forwardLinkTest, axisTest}
+use Rattle.soundness.proofs.Exactly.{same, reads-eq, reads-same}
+
+-- levels from 1 up without excess are 1 throughout
+all-ones : (k : List ℕ) → ((a : ℕ) → a < length k → 1 ≤ level k a) → excess k ≡ 0 → k ≡ replicate (length k) 1
+unfolding excess
+all-ones [] low e = refl
+all-ones (l ∷ ls) low e = ap₂ _∷_ (omega (arith, low 0 (omega arith))) (all-ones ls (λ a h. low (suc a) (omega arith)) (omega arith))
+
+-- the root is the one index without excess
+pub root-by-excess : (k : List ℕ) → length k ≡ 8 → Within k → eqb (excess k) 0 ≡ sameLevels k root
+unfolding root
+root-by-excess k eight w =
+    same (eqb (excess k) 0) (sameLevels k root) (reads-eq (excess k) 0) (reads-same k root) (λ e. all-ones k (w .low) e ∙ ap (λ n. replicate n 1) eight) (λ e. ap excess e ∙ root-excess)
 
 module _ (rs : List IndexRecord) (p : ℕ) where
   pub root-here : p ≡ 0 → rootTest rs p ≡ sameLevels (levelsAt rs p) root

@@ -9,7 +9,8 @@ use native.Mathlib.Omega.{arith}
 use lib.Dec.{eqb}
 use lib.ListN.{length}
 use borrow.Author.Tests.{eq-eqb, ne-eqb, lt-ltb, le-ltb, le-leb, lt-leb}
-use Rattle.grid.specs.Index.{level, excess, within, Index}
+use Rattle.grid.specs.Index.{level, excess, Within, within, Index}
+use Rattle.grid.proofs.Levels.{within-sure, and-left}
 use Rattle.area.specs.declared.IndexRecord.{IndexRecord}
 use Rattle.area.specs.Records.{recordsOf}
 use Rattle.area.specs.Encoding.{none}
@@ -27,6 +28,10 @@ module _ (d : ℕ) (k : List ℕ) where
   pub index-beyond : within k ≡ true → indexTest d k ≡ allFrom (8 - d) d (λ a. eqb (level k a) 1)
   unfolding indexTest
   index-beyond e = rw e
+
+  pub index-within : indexTest d k ≡ true → Within k
+  unfolding indexTest
+  index-within e = within-sure k (and-left (within k) _ e)
 
 -- ---- the first pass
 module _ (d : ℕ) (rs : List IndexRecord) (p : ℕ) where

@@ -34,25 +34,19 @@ fn index_fits(axes: usize, levels: [u32; 8]) -> bool
     true
 }
 
-// Whether the root is here exactly if this is place 0.
+// Whether the root is here exactly if this is place 0. The root is the one index without excess.
 fn root_fits(place: usize, cells: &[u32]) -> bool
-    requires { ⌜ place < length (recordsOf (now cells)) ⌝ }
+    requires { ⌜ (place < length (recordsOf (now cells))) × Within (levelsAt (recordsOf (now cells)) place) ⌝ }
     ensures { λ r. ⌜ r ≡ rootTest (recordsOf (now (cells .entry))) place ⌝ }
 {
-    let is_root = area::levels_are(cells, place, [1u32; 8]);
+    let is_root = grid::excess_of(area::levels_at(cells, place)) == 0;
     if place == 0 { is_root } else { !is_root }
 }
 
 // Whether the backward link along an axis names a place behind: the lowered levels, old, and linked back.
-fn backward_neighbour_fits(
-    held: usize,
-    place: usize,
-    axis: usize,
-    levels: [u32; 8],
-    cells: &[u32],
-) -> bool
+fn backward_neighbour_fits(held: usize, place: usize, axis: usize, cells: &[u32]) -> bool
     requires { ⌜ (length (recordsOf (now cells)) ≡ held) × (place < held) × (axis < 8) ⌝ }
-    requires { ⌜ (levels ≡ levelsAt (recordsOf (now cells)) place) × (1 < level levels axis) ⌝ }
+    requires { ⌜ 1 < level (levelsAt (recordsOf (now cells)) place) axis ⌝ }
     ensures { λ r. ⌜ r ≡ backwardNeighbourTest (recordsOf (now (cells .entry))) place axis (backwardLink (recordsOf (now (cells .entry))) place axis) ⌝ }
 {
     let behind = area::link_at(cells, place, 8 + axis) as usize;
@@ -65,25 +59,19 @@ fn backward_neighbour_fits(
     if area::link_at(cells, behind, axis) as usize != place {
         return false;
     }
+    let levels = area::levels_at(cells, place);
     area::levels_are(cells, behind, grid::backward_neighbour(levels, axis))
 }
 
 // Whether the backward link along an axis is right: none at level 1, else to the place behind.
-fn backward_link_fits(
-    held: usize,
-    place: usize,
-    axis: usize,
-    levels: [u32; 8],
-    cells: &[u32],
-) -> bool
+fn backward_link_fits(held: usize, place: usize, axis: usize, cells: &[u32]) -> bool
     requires { ⌜ (length (recordsOf (now cells)) ≡ held) × (place < held) × (axis < 8) ⌝ }
-    requires { ⌜ levels ≡ levelsAt (recordsOf (now cells)) place ⌝ }
     ensures { λ r. ⌜ r ≡ backwardLinkTest (recordsOf (now (cells .entry))) place axis ⌝ }
 {
-    if levels[axis] <= 1 {
+    if area::level_at(cells, place, axis) <= 1 {
         area::link_at(cells, place, 8 + axis) == area::NONE
     } else {
-        backward_neighbour_fits(held, place, axis, levels, cells)
+        backward_neighbour_fits(held, place, axis, cells)
     }
 }
 
@@ -104,14 +92,13 @@ fn forward_link_fits(held: usize, place: usize, axis: usize, cells: &[u32]) -> b
 }
 
 // Whether the sixteen links of a place are right.
-fn links_fit(held: usize, place: usize, levels: [u32; 8], cells: &[u32]) -> bool
+fn links_fit(held: usize, place: usize, cells: &[u32]) -> bool
     requires { ⌜ (length (recordsOf (now cells)) ≡ held) × (place < held) ⌝ }
-    requires { ⌜ levels ≡ levelsAt (recordsOf (now cells)) place ⌝ }
     ensures { λ r. ⌜ r ≡ allFrom 8 0 (axisTest (recordsOf (now (cells .entry))) place) ⌝ }
 {
     let mut axis: usize = 0;
     while axis < 8 {
-        if !backward_link_fits(held, place, axis, levels, cells) {
+        if !backward_link_fits(held, place, axis, cells) {
             return false;
         }
         if !forward_link_fits(held, place, axis, cells) {
@@ -127,8 +114,7 @@ fn place_fits(axes: usize, held: usize, place: usize, cells: &[u32]) -> bool
     requires { ⌜ (axes ≤ 8) × (length (recordsOf (now cells)) ≡ held) × (place < held) ⌝ }
     ensures { λ r. ⌜ r ≡ placeTest axes (recordsOf (now (cells .entry))) place ⌝ }
 {
-    let levels = area::levels_at(cells, place);
-    if !index_fits(axes, levels) {
+    if !index_fits(axes, area::levels_at(cells, place)) {
         return false;
     }
     if area::OLD < area::state_at(cells, place) {
@@ -137,7 +123,7 @@ fn place_fits(axes: usize, held: usize, place: usize, cells: &[u32]) -> bool
     if !root_fits(place, cells) {
         return false;
     }
-    links_fit(held, place, levels, cells)
+    links_fit(held, place, cells)
 }
 
 // The first pass.
@@ -278,24 +264,32 @@ fn all_wanted_fit(held: usize, cells: &[u32]) -> bool
     true
 }
 
-// Whether the readings of a block are in range.
+// Whether a number is a reading.
+fn is_reading(number: i32) -> bool
+    ensures { λ r. ⌜ r ≡ leb (natAbs number) 1048576 ⌝ }
+{
+    if 1048576 < number {
+        return false;
+    }
+    -1048576 <= number
+}
+
+// Whether the readings of a block are in range. All of them are looked at, since a loop that never leaves early takes several at a time.
 pub fn readings_fit(first: usize, size: usize, store: &[i32]) -> bool
     requires { ⌜ first + size ≤ length (now store) ⌝ }
     ensures { λ r. ⌜ r ≡ allFrom size first (readingTest (now (store .entry))) ⌝ }
 {
     let end = first + size;
+    let mut fits = true;
     let mut at = first;
     while at < end {
         let reading = store[at];
-        if reading < -1048576 {
-            return false;
-        }
-        if 1048576 < reading {
-            return false;
+        if !is_reading(reading) {
+            fits = false;
         }
         at += 1;
     }
-    true
+    fits
 }
 
 // Whether the block of a place lies where the blocks before it end, within the least store, its readings in range once delivered.

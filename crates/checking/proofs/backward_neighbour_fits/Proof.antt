@@ -1,11 +1,11 @@
 -- `checking::backward_neighbour_fits` meets its contract: each question that fails decides the test, and past the last the levels do. Assumes nothing.
 use borrow.Author.Needs.{needs}
-use mathlib.Core.Path.{sym, ap, _∙_}
-use Prim.Native.Nat.{_-_}
+use mathlib.Core.Path.{sym, ap, _∙_, subst}
+use Prim.Native.Nat.{_-_, _<_}
 use native.Mathlib.Omega.{arith}
 use denote.Ref.{now}
 use Rattle.area.specs.Records.{recordsOf}
-use Rattle.grid.specs.Index.{backward}
+use Rattle.grid.specs.Index.{level, backward}
 use Rattle.grid.specs.Coefficient.{sameLevels}
 use Rattle.soundness.specs.Held.{levelsAt}
 use Rattle.soundness.specs.Test.{backwardNeighbourTest}
@@ -58,23 +58,28 @@ returns-3 c =
     ∙ behind-not-named rs (s .args .place) (s .args .axis) (l .result) (omega arith) (sym (c .before .before .before .state-at .ensures) ∙ c .before .before .if2 .left)
     (λ e. c .if3 .taken (c .before .link-at2 .ensures ∙ e)))
 
+levels-at-requires : tie.Need-levels-at-requires
+levels-at-requires c κs = in-cells (now (c .before .before .before .before .before .before .before .args .cells)) (c .before .before .before .before .before .before .before .args .place) (omega arith)
+
 backward-neighbour-requires : tie.Need-backward-neighbour-requires
-backward-neighbour-requires c κs = search needs
+backward-neighbour-requires c κs =
+    let s = c .before .before .before .before .before .before .before .before in
+    (s .pre .0 .2, subst (λ k. 1 < level k (s .args .axis)) (sym (c .levels-at .ensures)) (s .pre .1))
 
 levels-are-requires : tie.Need-levels-are-requires
-levels-are-requires c κs = in-cells (now (c .before .before .before .before .before .before .before .before .args .cells)) (c .before .before .before .before .before .before .link-at .result) (omega arith)
+levels-are-requires c κs = in-cells (now (c .before .before .before .before .before .before .before .before .before .args .cells)) (c .before .before .before .before .before .before .before .link-at .result) (omega arith)
 
 returns-4 : tie.Need-returns-4
 returns-4 c =
-    let s = c .before .before .before .before .before .before .before .before .before in
+    let s = c .before .before .before .before .before .before .before .before .before .before in
     let rs = recordsOf (now (s .args .cells)) in
-    let l = c .before .before .before .before .before .before .before .link-at in
-    let lowered = c .before .backward-neighbour .ensures ∙ ap (λ k. backward k (s .args .axis)) (s .pre .1 .0) in
+    let l = c .before .before .before .before .before .before .before .before .link-at in
+    let lowered = c .before .backward-neighbour .ensures ∙ ap (λ k. backward k (s .args .axis)) (c .before .before .levels-at .ensures) in
     c .levels-are .ensures ∙ ap (sameLevels (levelsAt rs (l .result))) lowered
     ∙ sym
     (ap (backwardNeighbourTest rs (s .args .place) (s .args .axis)) (sym (l .ensures))
-    ∙ behind-levels rs (s .args .place) (s .args .axis) (l .result) (omega arith) (sym (c .before .before .before .before .before .state-at .ensures) ∙ c .before .before .before .before .if2 .left)
-    (sym (c .before .before .before .link-at2 .ensures) ∙ c .before .before .if3 .left))
+    ∙ behind-levels rs (s .args .place) (s .args .axis) (l .result) (omega arith) (sym (c .before .before .before .before .before .before .state-at .ensures) ∙ c .before .before .before .before .before .if2 .left)
+    (sym (c .before .before .before .before .link-at2 .ensures) ∙ c .before .before .before .if3 .left))
 
 pub backward-neighbour-fits-spec : {M : Type 1} → statement M
 backward-neighbour-fits-spec =
@@ -89,6 +94,7 @@ backward-neighbour-fits-spec =
     link-at-requires-2
     cast-if3
     returns-3
+    levels-at-requires
     backward-neighbour-requires
     levels-are-requires
     returns-4)

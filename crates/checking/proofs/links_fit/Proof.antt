@@ -12,17 +12,17 @@ use Rattle.checking.proofs.links_fit.Statement.{statement}
 use Rattle.checking.proofs.links_fit.Tie as tie
 
 abbrev Inv-loop : tie.InvT-loop
-Inv-loop held place levels cells axis₀ axis =
+Inv-loop held place cells axis₀ axis =
     (axis ≤ 8) × (allFrom 8 0 (axisTest (recordsOf cells) place) ≡ allFrom (8 - axis) axis (axisTest (recordsOf cells) place))
 
 abbrev μ-loop : tie.MeasureT-loop
-μ-loop held place levels cells axis₀ axis = 8 - axis
+μ-loop held place cells axis₀ axis = 8 - axis
 
 loop-holds : tie.Need-loop-holds Inv-loop μ-loop
 loop-holds c = (omega arith, refl)
 
 backward-link-fits-requires : tie.Need-backward-link-fits-requires Inv-loop μ-loop
-backward-link-fits-requires c κs = ((omega arith, omega arith, omega arith), c .before .before .before .pre .1)
+backward-link-fits-requires c κs = (omega arith, omega arith, omega arith)
 
 returns : tie.Need-returns Inv-loop μ-loop
 returns c =

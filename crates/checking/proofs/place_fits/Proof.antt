@@ -5,9 +5,10 @@ use native.Mathlib.Omega.{arith}
 use denote.Ref.{now}
 use Rattle.area.specs.Records.{recordsOf}
 use borrow.Author.Tests.{not-true, not-false}
+use Rattle.soundness.specs.Held.{levelsAt}
 use Rattle.soundness.specs.Test.{indexTest}
 use Rattle.checking.proofs.Cells.{in-cells}
-use Rattle.checking.proofs.Passes.{place-no-index, place-no-state, place-no-root, place-links}
+use Rattle.checking.proofs.Passes.{index-within, place-no-index, place-no-state, place-no-root, place-links}
 use Rattle.checking.proofs.place_fits.Statement.{statement}
 use Rattle.checking.proofs.place_fits.Tie as tie
 
@@ -33,7 +34,10 @@ returns-2 c =
     sym (place-no-state (s .args .axes) (recordsOf (now (s .args .cells))) (s .args .place) e (omega (arith, c .before .state-at .ensures, c .if2 .taken)))
 
 root-fits-requires : tie.Need-root-fits-requires
-root-fits-requires c κs = omega (arith, c .before .before .before .before .before .before .pre .1, c .before .before .before .before .before .before .pre .2)
+root-fits-requires c κs =
+    let s = c .before .before .before .before .before .before in
+    let e = ap (indexTest (s .args .axes)) (sym (c .before .before .before .before .levels-at .ensures)) ∙ (sym (c .before .before .before .index-fits .ensures) ∙ not-false (c .before .before .before .index-fits .result) (c .before .before .if1 .left)) in
+    (omega (arith, s .pre .1, s .pre .2), index-within (s .args .axes) (levelsAt (recordsOf (now (s .args .cells))) (s .args .place)) e)
 
 returns-3 : tie.Need-returns-3
 returns-3 c =
@@ -44,7 +48,7 @@ returns-3 c =
     (sym (c .before .root-fits .ensures) ∙ not-true (c .before .root-fits .result) (c .if3 .taken)))
 
 links-fit-requires : tie.Need-links-fit-requires
-links-fit-requires c κs = ((c .before .before .before .before .before .before .before .before .pre .1, c .before .before .before .before .before .before .before .before .pre .2), c .before .before .before .before .before .before .levels-at .ensures)
+links-fit-requires c κs = (c .before .before .before .before .before .before .before .before .pre .1, c .before .before .before .before .before .before .before .before .pre .2)
 
 returns-4 : tie.Need-returns-4
 returns-4 c =
