@@ -119,10 +119,10 @@ pub fn points(axes: usize, place: usize, n: usize, cells: &[u32], buffer: &mut [
     ensures counts { λ r. ⌜ (r .written ≡ length (pointsFitting axes (recordAt (recordsOf (now (cells .entry))) place .levels) n (length (now (buffer .entry))))) × (r .size ≡ blockSize (recordAt (recordsOf (now (cells .entry))) place .levels)) ⌝ }
     ensures bytes { λ r. ⌜ now (buffer .exit) ≡ writtenOver (positionsOf axes (pointsFitting axes (recordAt (recordsOf (now (cells .entry))) place .levels) n (length (now (buffer .entry))))) (now (buffer .entry)) ⌝ }
 {
-    let levels = area::levels_at(cells, place);
-    let size = grid::block_size(levels);
+    let index = area::levels_at(cells, place);
+    let size = grid::block_size(index);
     let count = lesser(buffer.len() / axes, size - n);
-    put_points(axes, levels, n, count, buffer);
+    put_points(axes, index, n, count, buffer);
     PointCounts {
         written: count as u32,
         size: size as u32,
