@@ -104,3 +104,15 @@ fn the_iterator_is_a_value() {
         assert_eq!(rest.map(|point| point.to_vec()).collect::<Vec<_>>(), [[128, 64]]);
     });
 }
+
+/// An area whose number of axes was altered is refused before a point is read:
+/// as not sound, and with more axes than the iterator's bytes as too short.
+#[test]
+fn the_iterator_is_refused_with_other_axes() {
+    let altered = [(0, Refusal::NotSound), (9, Refusal::NotSound), (4_097, Refusal::TooShort)];
+    for (axes, cause) in altered {
+        let mut storage = Storage::wanting_two();
+        storage.job.axes = axes;
+        support::refused(&mut storage, cause, |job| job.wanted_block().map(|block| block.len()));
+    }
+}
