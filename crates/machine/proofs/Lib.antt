@@ -1,4 +1,5 @@
 -- The laws, lowest first.
+pub mod FirstCause
 pub mod Wanted
 pub mod Passing
 pub mod Old

@@ -3,7 +3,7 @@
 -- Assumes nothing.
 use mathlib.Core.Path.{_≡_, refl, sym, ap, _∙_, subst}
 use mathlib.Core.Logic.{_⊎_, inl, inr}
-use mathlib.Core.List.{List, [], _∷_, _++_, map, List·Memᴰ, List·Memᴰ·head, List·Memᴰ·tail, List·Memᴰ·not-nil, List·Memᴰ·cases-cons, Memᴰ·cast}
+use mathlib.Core.List.{List, [], _∷_, _++_, map, List·Memᴰ, List·Memᴰ·head, List·Memᴰ·tail, List·Memᴰ·not-nil, List·Memᴰ·cases-cons, Memᴰ·cast, map-map}
 use Prim.Native.Nat.{ℕ, zero, suc, _+_, _<_}
 use native.Mathlib.Decide.{ℕ-discrete}
 use native.Mathlib.Omega.{arith}
@@ -18,7 +18,7 @@ use Rattle.area.specs.Log.{Log, Machine}
 use Rattle.encoding.specs.Entries.{entryAt, Entered, EnteredOld, SoundMachine}
 use Rattle.machine.specs.Log.{wanted}
 use Rattle.machine.specs.Promote.{spent, promoted, madeOld, makeOld, admittedAxes, refine, promoteAt}
-use Rattle.machine.specs.Admitted.{Admitted, totalOf, ListsAdmitted, Exceeds, IndexPlace, AdmittedFacts}
+use Rattle.machine.specs.Admitted.{Admitted, totalOf, ListsAdmitted, Exceeds, IndexPlace, Appends, AdmittedFacts}
 use Rattle.machine.proofs.Passing.{Occurs, Rising}
 use Rattle.machine.proofs.Old.{Admits}
 use Rattle.machine.proofs.Sets.{set-here, reserved-set}
@@ -132,6 +132,12 @@ module _ (l : Log) (p : ℕ) (at : IndexPlace l p) where
   new-lists =
       record { each = new-each; all = new-all; once = ahead-once k axes (axes-rise d kept k) (λ a m. omega (arith, axis-there a m .0, at .levels)) }
 
+  pub new-appended : Appends l p (map (forward (entryAt (l .entries) p .levels)) (admittedAxes (l .settings .axes) (makeOld (l .entries) p) (entryAt (l .entries) p .levels)))
+  new-appended = record { entries = entries; admitted = new-lists; order = record { axes = axes; along = refl; rising = axes-rise d kept k } }
+    where
+      entries : refine d es p ≡ kept ++ map wanted new
+      entries = unfold refine in ap (λ xs. kept ++ xs) (sym (map-map wanted (forward k) axes))
+
   -- ---- how many would be held, and how much reserved
 
   module _ (ks : List (List ℕ)) (these : ListsAdmitted l p ks) where
@@ -173,6 +179,7 @@ admitted-facts =
     record {
       sound-place = sound-place;
       listed = λ l p at. (map (forward (entryAt (l .entries) p .levels)) (admittedAxes (l .settings .axes) (makeOld (l .entries) p) (entryAt (l .entries) p .levels)), new-lists l p at);
+      appends = λ l p at. (map (forward (entryAt (l .entries) p .levels)) (admittedAxes (l .settings .axes) (makeOld (l .entries) p) (entryAt (l .entries) p .levels)), new-appended l p at);
       spent = λ l p ks at these. is-spent l p at ks these;
       spent-only = λ l p ks at these. only-spent l p at ks these;
       promoted = λ l p ks at these. is-promoted l p at ks these;

@@ -1,16 +1,17 @@
--- What refining a place admits, told by the levels of the indices alone, and when it is *spent* ("Old, active and wanted"). The scan over the
--- axes (`admittedAxes`, `refine`) and its limits (`fits`) do not occur here.
+-- What refining a place admits, told by the levels of the indices alone, when it is *spent*, and that what it appends is just that ("Old,
+-- active and wanted"). The scan over the axes (`admittedAxes`) and the limits (`fits`) do not occur here.
 use mathlib.Core.Path.{_≡_}
 use mathlib.Core.Logic.{_⊎_}
-use mathlib.Core.List.{List, [], _∷_, List·Memᴰ}
+use mathlib.Core.List.{List, [], _∷_, _++_, map, List·Memᴰ}
 use Prim.Native.Nat.{ℕ, _+_, _<_, _≤_}
-use lib.ListN.{length}
+use lib.ListN.{length, getD}
 use Rattle.grid.specs.Index.{level, Within, forward, backward}
 use Rattle.grid.specs.Block.{blockSize}
 use Rattle.grid.specs.Terms.{NoDup}
 use Rattle.area.specs.Entry.{Entry, reservedBy}
 use Rattle.area.specs.Log.{Log, Machine}
 use Rattle.encoding.specs.Entries.{entryAt, Entered, EnteredOld, SoundMachine}
+use Rattle.machine.specs.Log.{wanted}
 use Rattle.machine.specs.Promote as rule
 
 -- The index k is admitted where the place p of the entries is refined, in a job with d axes.
@@ -48,12 +49,27 @@ pub record IndexPlace (l : Log) (p : ℕ) : Type 0 where
   pub inside : p < length (l .entries)
   pub levels : l .settings .axes ≤ length (entryAt (l .entries) p .levels)
 
+-- The indices ks are forward neighbours of k in axis order: the i-th along the i-th of some axes, which rise.
+pub record InAxisOrder (k : List ℕ) (ks : List (List ℕ)) : Type 0 where
+  pub axes : List ℕ
+  pub along : ks ≡ map (forward k) axes
+  pub rising : (i j : ℕ) → i < j → j < length axes → getD axes i 0 < getD axes j 0
+
+-- Refining the place p makes its entry old, leaves every other as it was, and appends the indices ks, wanted: exactly the admitted, each once,
+-- in axis order.
+pub record Appends (l : Log) (p : ℕ) (ks : List (List ℕ)) : Type 0 where
+  pub entries : rule.refine (l .settings .axes) (l .entries) p ≡ rule.makeOld (l .entries) p ++ map wanted ks
+  pub admitted : ListsAdmitted l p ks
+  pub order : InAxisOrder (entryAt (l .entries) p .levels) ks
+
 -- Of refining any place, whatever selected it.
 pub record AdmittedFacts : Type 0 where
   -- in a sound state every place of an entry is one, so there the premise `IndexPlace` below asks nothing
   pub sound-place : (m : Machine) (p : ℕ) → SoundMachine m → p < length (m .log .entries) → IndexPlace (m .log) p
   -- the admitted can be listed
   pub listed : (l : Log) (p : ℕ) → IndexPlace l p → (ks : List (List ℕ)) × ListsAdmitted l p ks
+  -- and they are what is appended
+  pub appends : (l : Log) (p : ℕ) → IndexPlace l p → (ks : List (List ℕ)) × Appends l p ks
   -- *spent* exactly if they would bring the held above 512 or the reserved above the budget
   pub spent : (l : Log) (p : ℕ) (ks : List (List ℕ)) → IndexPlace l p → ListsAdmitted l p ks → Exceeds l ks → rule.promoteAt l p .outcome ≡ rule.spent
   pub spent-only : (l : Log) (p : ℕ) (ks : List (List ℕ)) → IndexPlace l p → ListsAdmitted l p ks → rule.promoteAt l p .outcome ≡ rule.spent → Exceeds l ks

@@ -1,7 +1,7 @@
--- Each step keeps the clauses on the state, so the area that encodes its result is sound.
+-- Each step keeps the clauses on the state, so the area that encodes its result is sound; and each cause is returned in its own case.
 use mathlib.Core.Path.{_≡_}
-use mathlib.Core.Bool.{true}
-use mathlib.Core.List.{List}
+use mathlib.Core.Bool.{true, false}
+use mathlib.Core.List.{List, _∷_, _++_, List·Memᴰ}
 use Prim.Native.Nat.{ℕ, _<_, _≤_}
 use lib.IntN.{ℤ, pos}
 use lib.ListN.{length, getD}
@@ -13,6 +13,7 @@ use Rattle.encoding.specs.Entries.{entryAt, SoundMachine}
 use Rattle.machine.specs.Log.{firstWanted, wantedIndex}
 use Rattle.machine.specs.Promote.{selected, refine, fits, isMet}
 use Rattle.machine.specs.Steps.{started, deliver, promoteStep}
+use Rattle.machine.specs.Causes.{Cause, cause, firstCause}
 
 pub record StepFacts : Type 0 where
   pub start : (g : Settings) → SettingsFit g → SoundMachine (started g)
@@ -32,3 +33,22 @@ pub record StepFacts : Type 0 where
       → entryAt (l .entries) q .indicator ≡ entryAt (l .entries) (selected (l .entries)) .indicator → selected (l .entries) ≤ q
   -- so a promotion with nothing wanted keeps the clauses, whatever its answer
   pub promote : (m : Machine) → SoundMachine m → length (m .log .entries) ≤ firstWanted (m .log .entries) → SoundMachine (promoteStep m)
+
+-- ---- causes
+
+-- In the list of causes cs the one with the number n applies, and none before it does.
+pub record FirstToApply (cs : List Cause) (n : ℕ) : Type 0 where
+  pub before : List Cause
+  pub after : List Cause
+  pub split : cs ≡ before ++ cause true n ∷ after
+  pub none-before : (c : Cause) → List·Memᴰ c before → c .test ≡ false
+
+-- "Tested in this order. Each is returned in its own case and no other."
+pub record CauseFacts : Type 0 where
+  -- a number that is not 0 is that of the first cause that applies
+  pub own-case : (cs : List Cause) (n : ℕ) → firstCause cs ≡ n → (n ≡ 0 → ⊥) → FirstToApply cs n
+  -- in whose case no other is returned
+  pub no-other : (cs : List Cause) (n : ℕ) → FirstToApply cs n → firstCause cs ≡ n
+  -- and it is 0 exactly if no cause applies, since no cause has the number 0
+  pub none-applies : (cs : List Cause) → ((c : Cause) → List·Memᴰ c cs → c .number ≡ 0 → ⊥) → firstCause cs ≡ 0 → (c : Cause) → List·Memᴰ c cs → c .test ≡ false
+  pub zero : (cs : List Cause) → ((c : Cause) → List·Memᴰ c cs → c .test ≡ false) → firstCause cs ≡ 0
