@@ -26,8 +26,9 @@ use Rattle.calls.specs.Table.{Call, Answer, changed, unchanged, start, p
 use Rattle.calls.specs.Calls.{CallResult, areaAfter, refusalOn, callOn}
 use Rattle.calls.specs.Facts.{PastUnchanged, numbersOf, InBlock, NotRefused, CallFacts}
 use Rattle.calls.proofs.Buffers.{laid-first, laid-length, laid-later}
-use Rattle.calls.proofs.Numbers.{cause-number, accepted-reply}
-use Rattle.calls.proofs.CauseCases.{refused-reply, call-accepts, call-ways}
+use Rattle.calls.proofs.Numbers.{row-numbers, cause-number, accepted-reply}
+use Rattle.calls.proofs.CauseCases.{call-accepts, call-ways}
+use Rattle.calls.proofs.OwnCases.{same-number, no-cause, own-case, no-other, none-applies, not-refused}
 use Rattle.calls.proofs.Rows.{promote-effect, point-accepts, start-accepts, start-refuses, promote-accepts}
 use Rattle.calls.proofs.Outcomes.{idle-area}
 use Rattle.calls.proofs.Next.{IsJob, Next, next-start, next-valid, allowed-there, valid-before, after-valid, after-state, after-lengths, after-past}
@@ -42,16 +43,8 @@ module _ (a : Area) (c : Call) where
   refused-keeps n =
       call-ways a c (λ (x : CallResult). x .answer .reply ≡ refused n → (x .area ≡ a) × (x .answer ≡ refusedAnswer n (row c)) × List·Memᴰ n (numbersOf c))
       (λ none e. absurd (accepted-reply (passesCheck (lengthsOf a) (isSound a) (machineOf a .log)) (machineOf a) c n e))
-      (λ some e. let same : refusalOn a c ≡ n = same-number e in
+      (λ some e. let same : refusalOn a c ≡ n = same-number a c n e in
       (refl, ap (λ k. refusedAnswer k (row c)) same, subst (λ k. List·Memᴰ k (numbersOf c)) same (cause-number (lengthsOf a) (isSound a) (machineOf a .log) c some)))
-    where
-      same-number : refusedAnswer (refusalOn a c) (row c) .reply ≡ refused n → refusalOn a c ≡ n
-      same-number e = let k : refused (refusalOn a c) ≡ refused n = sym (refused-reply (refusalOn a c) (row c)) ∙ e in cc
-
-  -- a call that answers no refusal has no cause
-  pub no-cause : NotRefused a c → refusalOn a c ≡ 0
-  no-cause f = call-ways a c (λ (x : CallResult). ((n : ℕ) → x .answer .reply ≡ refused n → ⊥) → refusalOn a c ≡ 0) (λ none g. none)
-      (λ some g. absurd (g (refusalOn a c) (refused-reply (refusalOn a c) (row c)))) f
 
   past : PastUnchanged a (callOn a c .area)
   past = call-ways a c (λ (x : CallResult). PastUnchanged a (x .area)) (λ none. after-past a (effectOf (machineOf a) (row c))) (λ some. record { records = refl; rest = refl })
@@ -63,7 +56,7 @@ module _ (a : Area) (c : Call) where
     state : NotRefused a c → machineOf (callOn a c .area) ≡ stateAfter (lengthsOf a) (isSound a) (machineOf a) c
     unfolding stateAfter callOn
     state f =
-        let none = no-cause f in
+        let none = no-cause a c f in
         rw none (after-state a (effectOf (machineOf a) (row c)) (allowed-there a well-formed c none))
 
 -- ---- the states of deliver and promote
@@ -245,6 +238,11 @@ pub call-facts : CallFacts
 call-facts =
     record {
       refused-keeps = refused-keeps;
+      numbers = λ a c. row-numbers (lengthsOf a) (isSound a) (machineOf a .log) c;
+      own-case = own-case;
+      no-other = no-other;
+      none-applies = none-applies;
+      not-refused = not-refused;
       start-leaves-valid = start-leaves-valid;
       start-state = start-state;
       leaves-valid = leaves-valid;

@@ -9,6 +9,7 @@ pub mod Outcomes
 pub mod CauseCases
 pub mod Rows
 pub mod Numbers
+pub mod OwnCases
 pub mod Buffers
 pub mod ResultValues
 pub mod Written

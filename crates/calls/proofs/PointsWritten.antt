@@ -32,7 +32,8 @@ use Rattle.calls.proofs.CauseCases.{call-ways}
 use Rattle.calls.proofs.Rows.{point-refuses, point-accepts, points-refuses, points-accepts}
 use Rattle.calls.proofs.Buffers.{clauses}
 use Rattle.calls.proofs.Numbers.{accepted-reply}
-use Rattle.calls.proofs.Facts.{no-cause, call-facts}
+use Rattle.calls.proofs.OwnCases.{no-cause}
+use Rattle.calls.proofs.Facts.{call-facts}
 
 refused-alike : (a : Area) (n : ℕ) (buffer : List ℕ) → refusalOn a (points n buffer) ≡ refusalOn a (point n buffer)
 unfolding refusal causesOf row

@@ -2,7 +2,8 @@
 -- nothing is written but what the scope document says.
 use mathlib.Core.Path.{_≡_}
 use mathlib.Core.Logic.{_⊎_}
-use mathlib.Core.List.{List, [], _∷_, List·Memᴰ}
+use mathlib.Core.Bool.{false}
+use mathlib.Core.List.{List, [], _∷_, map, List·Memᴰ}
 use Prim.Native.Nat.{ℕ, _+_, _<_, _≤_}
 use lib.IntN.{ℤ, pos}
 use lib.ListN.{length, getD, take, drop}
@@ -16,11 +17,13 @@ use Rattle.machine.specs.Log.{firstWanted, wantedIndex}
 use Rattle.machine.specs.Promote.{met, spent}
 use Rattle.machine.specs.Steps as steps
 use Rattle.machine.specs.Steps.{started}
+use Rattle.machine.specs.Causes.{Cause}
+use Rattle.machine.specs.Facts.{FirstToApply}
 use Rattle.machine.specs.Counts.{Counts}
 use Rattle.machine.specs.Means.{meanOf}
 use Rattle.writing.specs.ValidArea.{ValidArea}
 use Rattle.calls.specs.Replies.{refused, accepted, promotion, counts, total, verdict, lengthsOf}
-use Rattle.calls.specs.Table.{Call, start, point, points, deliver, promote, result, crossTotal, check, answer, row, refusedAnswer, stateAfter}
+use Rattle.calls.specs.Table.{Call, start, point, points, deliver, promote, result, crossTotal, check, answer, row, causesOf, refusedAnswer, stateAfter}
 use Rattle.calls.specs.Calls.{callOn}
 
 -- Records past the last then held, and the cells past the last record, are as they were.
@@ -39,6 +42,10 @@ numbersOf result = 3 ∷ 4 ∷ []
 numbersOf crossTotal = 3 ∷ 4 ∷ []
 numbersOf check = []
 
+-- A call's causes, in the order of the table, at what the call is lent.
+abbrev pub causesOn : Area → Call → List Cause
+causesOn a c = causesOf (lengthsOf a) (isSound a) (machineOf a .log) (row c)
+
 -- The store element n lies in the block being delivered.
 abbrev pub InBlock : Area → Call → ℕ → Type 0
 InBlock a (start g) n = ⊥
@@ -55,10 +62,16 @@ abbrev pub NotRefused : Area → Call → Type 0
 NotRefused a c = (n : ℕ) → callOn a c .answer .reply ≡ refused n → ⊥
 
 pub record CallFacts : Type 0 where
-  -- a refused call keeps everything, the area and the buffer, and each cause is returned by the calls of its row and no other (that it is
-  -- returned in its case is `firstCause`)
+  -- a refused call keeps everything, the area and the buffer, and each cause is returned by the calls of its row and no other
   pub refused-keeps : (a : Area) (c : Call) (n : ℕ) → callOn a c .answer .reply ≡ refused n
       → (callOn a c .area ≡ a) × (callOn a c .answer ≡ refusedAnswer n (row c)) × List·Memᴰ n (numbersOf c)
+  -- the numbers of its causes are these, in this order
+  pub numbers : (a : Area) (c : Call) → map (λ (x : Cause). x .number) (causesOn a c) ≡ numbersOf c
+  -- it is refused by a number exactly if that is the number of the first of its causes that applies, and not refused exactly if none applies
+  pub own-case : (a : Area) (c : Call) (n : ℕ) → callOn a c .answer .reply ≡ refused n → FirstToApply (causesOn a c) n
+  pub no-other : (a : Area) (c : Call) (n : ℕ) → FirstToApply (causesOn a c) n → callOn a c .answer .reply ≡ refused n
+  pub none-applies : (a : Area) (c : Call) → NotRefused a c → (x : Cause) → List·Memᴰ x (causesOn a c) → x .test ≡ false
+  pub not-refused : (a : Area) (c : Call) → ((x : Cause) → List·Memᴰ x (causesOn a c) → x .test ≡ false) → NotRefused a c
   -- an accepted call leaves a valid area: sound, in storage that is long enough, its records well-formed; and what it holds is the machine's
   -- next state. Start asks nothing of the area; check is accepted on any area and leaves it
   pub start-leaves-valid : (a : Area) (g : Settings) → callOn a (start g) .answer .reply ≡ accepted → ValidArea (callOn a (start g) .area)

@@ -12,7 +12,7 @@ use lib.Dec.{eqb}
 use lib.IntN.{_+ℤ_}
 use lib.ListN.{length}
 use Rattle.sums.specs.Sums.{sumOf}
-use Rattle.encoding.specs.Entries.{entryAt}
+use Rattle.encoding.specs.Entries.{entryAt, SoundMachine}
 use Rattle.area.specs.Log.{Machine}
 use Rattle.machine.specs.Log.{firstWanted, anyWanted}
 use Rattle.machine.specs.Counts.{countOf}
@@ -29,7 +29,7 @@ use Rattle.calls.specs.Table.{Call, start, point, points, deliver, promote, res
 use Rattle.calls.proofs.Rows.{promote-effect}
 use Rattle.history.specs.LentCalls.{LentCall, lengthsLent}
 use Rattle.history.specs.Source.{FollowsSoFar, StepsFollow, StepsFollowAll}
-use Rattle.history.proofs.Moves.{moved, machineStep, MachineInvariant, combined, moved-fine, step-fine}
+use Rattle.history.proofs.Moves.{moved, machineStep, MachineInvariant, combined, from-log, moved-fine, step-fine}
 use Rattle.history.proofs.Lists.{machineAfter}
 use Rattle.history.proofs.Demand.{log-there, state-fine}
 use Rattle.history.proofs.Simulation.{follows-at}
@@ -66,6 +66,7 @@ after-course m f c (x ∷ xs) = after-course (machineStep m x) (step-fine m f x)
 pub steps-of : (m : Machine) → MachineInvariant m → OnCourse m → StepsFollow (m .log)
 steps-of m f c =
     record {
+      sound = subst SoundMachine (from-log m f) (f .sound);
       every = λ P posing v. let x = course-simulates P m c posing v in follows-at P m (countOf 2 (m .log .entries)) f (x .simulates) (x .went-on);
       some = λ none. posed (f .sound) (all none);
       every-moment = moment;

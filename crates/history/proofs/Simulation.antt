@@ -29,7 +29,7 @@ use Rattle.calls.specs.Table.{promote, result, Answer, answer, row, acceptedAns
 use Rattle.history.specs.LentCalls.{LentCall, lengthsLent}
 use Rattle.history.specs.Logged.{stateOf, refusalBy, logStep, answerBy}
 use Rattle.history.specs.Source.{Follows}
-use Rattle.history.proofs.Moves.{MachineInvariant, combined}
+use Rattle.history.proofs.Moves.{MachineInvariant, combined, from-log}
 use Rattle.history.proofs.LogSteps.{log-facts}
 use Rattle.history.proofs.Accepts.{promote-answer}
 
@@ -94,6 +94,7 @@ module _ (P : Problem) (m : Machine) (n : ℕ) (invariant : MachineInvariant m) 
         active = simulates .active;
         result = sym (combined m invariant) ∙ simulates .result;
         pending = simulates .pending;
+        simulates = subst (λ (s : Machine). Simulates P s (turns P n)) (from-log m invariant) simulates;
         went-on = went-on;
         over = λ z h k f. answers z h k (published-facts .over P m (turns P n) simulates f);
         goes-on = λ z g e. published-facts .goes-on P m (turns P n) simulates g (answered z (m .log) rule.met e .1);

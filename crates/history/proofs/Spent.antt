@@ -59,6 +59,7 @@ module _ (m : Machine) (v : SoundMachine m) where
   admissions =
       record {
         listed = λ q h a. admitted-facts .listed l q (sound-place m q v h);
+        appends = λ q h a. admitted-facts .appends l q (sound-place m q v h);
         none-held = λ q k h a w. admitted-facts .none-held m q k v h a w;
         spent = λ z ks h k none these x y. answers z h k none (spent-if l ks (levels x) these x y);
         spent-only = spent-answer;

@@ -171,8 +171,9 @@ pub record ExportLeft : Type 0 where
 abbrev pub OnlyReads : (job cells : List ℕ) (store : List ℤ) → ExportLeft → Type 0
 OnlyReads job cells store y = (y .job ≡ job) × (y .cells ≡ cells) × (y .store ≡ store)
 
--- The contract of the call's function, word for word as in `wihupya`'s src/lib.rt, at the job record's words, the cells and the store that it
--- is lent. What a call is not lent is empty. That these are the functions' own contracts is `FunctionContracts` (Functions.antt).
+-- The contract of the call's function, at the job record's words, the cells and the store that it is lent: the equations of the function's
+-- `ensures` (`wihupya`, src/lib.rt), with what is lent by `&` staying, by the borrow, and what a call is not lent empty. That these are the
+-- functions' own contracts is `FunctionContracts` (Functions.antt).
 abbrev pub Contract : (job cells : List ℕ) (store : List ℤ) → ExportCall → ExportLeft → Type 0
 Contract job cells store (start axes threshold budget) y =
     (record { number = y .number; job = y .job; run = runOf (y .cells); store = store }

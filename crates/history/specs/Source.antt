@@ -19,7 +19,7 @@ use Rattle.area.specs.declared.Settings.{Settings}
 use Rattle.area.specs.Settings.{SettingsFit, leastStore}
 use Rattle.area.specs.Log.{Log}
 use Rattle.area.specs.Entry.{deliveredOf, readingIn, pendingOf}
-use Rattle.encoding.specs.Entries.{EnteredOld}
+use Rattle.encoding.specs.Entries.{EnteredOld, SoundMachine}
 use Rattle.machine.specs.Log.{anyWanted, wantedIndex}
 use Rattle.machine.specs.Promote as rule
 use Rattle.machine.specs.Counts.{countOf}
@@ -31,10 +31,10 @@ use Rattle.calls.specs.Replies.{accepted, promotion}
 use Rattle.calls.specs.Table.{Call, start, deliver, promote, Answer, answer}
 use Rattle.calls.specs.Calls.{callOn}
 use Rattle.published.specs.Figure.{Problem, increment, loopCondition, select, turns}
-use Rattle.published.specs.Turns.{activeOf, wantedOf, notOldOf, SettingsMatch, ReadingValued, Supplied, SuppliedSoFar, ExceedsLimits, PromotionFollows}
+use Rattle.published.specs.Turns.{activeOf, wantedOf, notOldOf, SettingsMatch, ReadingValued, Supplied, SuppliedSoFar, Simulates, ExceedsLimits, PromotionFollows}
 use Rattle.published.specs.Sums.{SampledFrom}
 use Rattle.history.specs.LentCalls.{Part, LentCall, lengthsLent}
-use Rattle.history.specs.Logged.{logStep, logAfter, answerBy}
+use Rattle.history.specs.Logged.{stateOf, logStep, logAfter, answerBy}
 use Rattle.history.specs.Storage.{Storage, areaLent, Lent, AllLent, storageAfter, answersOf}
 use Rattle.history.specs.Found.{Found}
 
@@ -79,6 +79,8 @@ pub record Follows (P : Problem) (l : Log) (n : ℕ) : Type 0 where
   pub active : activeOf (l .entries) ≡ turns P n .active
   pub result : crossOf (l .entries) ≡ turns P n .result
   pub pending : pendingOf (l .entries) ≡ turns P n .estimate
+  -- so that what `PublishedFacts` (crate `published`) says of refining any active place holds here; the state is sound (`StepsFollow.sound`)
+  pub simulates : Simulates P (stateOf l) (turns P n)
   -- the loop's test held before each of the turns, so Fig. 1 makes them
   pub went-on : (i : ℕ) → i < n → loopCondition P (turns P i) ≡ true
   -- and promote, called next in storage that is long enough, answers *met* exactly if the test fails; then Fig. 1 returns this result
@@ -119,6 +121,8 @@ pub record FollowsSoFar (P : Problem) (l : Log) (n : ℕ) : Type 0 where
 
 -- After every list of the third demand:
 pub record StepsFollow (l : Log) : Type 0 where
+  -- the state satisfies the clauses of soundness
+  pub sound : SoundMachine (stateOf l)
   -- with nothing left wanted, Fig. 1 has the log's state, after as many turns as there are old indices
   pub every : (P : Problem) → SettingsMatch (l .settings) P → Supplied P (l .entries) → Follows P l (countOf 2 (l .entries))
   -- and a problem that gives these readings and indicators there always is

@@ -1,5 +1,5 @@
--- When promote is *spent*, after every list of calls: by the indices that it would admit, which are told by their levels alone (crate `machine`,
--- specs/Admitted.antt).
+-- What promote appends and when it is *spent*, after every list of calls: by the indices that it would admit, which are told by their levels
+-- alone (crate `machine`, specs/Admitted.antt).
 use mathlib.Core.Path.{_≡_}
 use mathlib.Core.Bool.{true}
 use mathlib.Core.List.{List, _∷_}
@@ -12,7 +12,7 @@ use Rattle.area.specs.Log.{Log}
 use Rattle.encoding.specs.Entries.{entryAt, Entered}
 use Rattle.machine.specs.Log.{anyWanted}
 use Rattle.machine.specs.Promote as rule
-use Rattle.machine.specs.Admitted.{Admitted, ListsAdmitted, Exceeds}
+use Rattle.machine.specs.Admitted.{Admitted, ListsAdmitted, Exceeds, Appends}
 use Rattle.machine.specs.Steps.{startLog}
 use Rattle.machine.specs.Causes.{Lengths}
 use Rattle.calls.specs.Replies.{accepted, promotion}
@@ -25,6 +25,8 @@ use Rattle.history.specs.Storage.{Storage, areaLent, AllLent}
 pub record Admissions (l : Log) : Type 0 where
   -- what any active place would admit can be listed, each index once
   pub listed : (p : ℕ) → p < length (l .entries) → entryAt (l .entries) p .state ≡ 1 → (ks : List (List ℕ)) × ListsAdmitted l p ks
+  -- and it is what refining the place appends, wanted, in axis order
+  pub appends : (p : ℕ) → p < length (l .entries) → entryAt (l .entries) p .state ≡ 1 → (ks : List (List ℕ)) × Appends l p ks
   -- none of it is held yet
   pub none-held : (p : ℕ) (k : List ℕ) → p < length (l .entries) → entryAt (l .entries) p .state ≡ 1 → Admitted (l .settings .axes) (l .entries) p k
       → Entered (l .entries) k → ⊥

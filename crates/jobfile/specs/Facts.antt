@@ -1,5 +1,5 @@
 -- What is said of a file of the right form besides its form: its fields and its readings lie within it, and there are so many at most. Then
--- the number of every other, and how much of a file decides its form. `c` is the list of the file's bytes.
+-- the number of every other file, and how much of a file decides its form. `c` is the list of the file's bytes.
 use mathlib.Core.Path.{_≡_}
 use mathlib.Core.List.{List}
 use Prim.Native.Nat.{ℕ, _+_, _*_, _<_, _≤_}
