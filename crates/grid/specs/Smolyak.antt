@@ -65,7 +65,7 @@ pub record SmolyakFacts : Type 0 where
   -- so it is 0 where |k| < q − d + 1
   pub coefficient-zero : (d q : ℕ) (J : List (List ℕ)) (k : List ℕ) → 1 ≤ d → d ≤ q → Simplex d q J → List·Memᴰ k J
       → levelSum k < q - d + 1 → coefficient J k ≡ pos 0
-  -- up to an excess of 7, which is q − d, all of J is within the ceilings; from 8 on the list with a level of 9 is not
+  -- up to an excess of 7, which is q − d, all of J is within the ceilings
   pub within-ceilings : (d q : ℕ) (J : List (List ℕ)) (k : List ℕ) → q ≤ d + 7 → Simplex d q J → List·Memᴰ k J → Within k
   -- the cross total is the source's formula of A(q, d), over all of J, with the full tensor rule of k in place of U^{k1} ⊗ … ⊗ U^{kd}; within
   -- the ceilings they are the same up to the units (`TrapezoidalFacts.tensor`)

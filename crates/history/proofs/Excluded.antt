@@ -16,7 +16,7 @@ use Rattle.grid.specs.Block.{cartesian, block, blockSize, pointOf}
 use Rattle.grid.specs.Difference.{units, behind}
 use Rattle.grid.specs.Tensor.{tensorSum, tensorRule}
 use Rattle.grid.specs.Coefficient.{sameLevels, isIn, subsets, sign, raisedOn, coefficient}
-use Rattle.grid.specs.Cross.{crossTotal}
+use Rattle.grid.specs.Cross as grid-cross
 use Rattle.grid.specs.Boundary.{pair}
 use Rattle.area.specs.Entry.{deliveredOf, readingsOf, readingIn, reservedBy, pendingOf}
 use Rattle.soundness.specs.Test.{allFrom}
@@ -32,12 +32,15 @@ use Rattle.machine.proofs.Limits.{above-not-met, promote-above, not-met-above}
 use Rattle.machine.proofs.Spent.{admitted-facts}
 use Rattle.machine.specs.Steps as steps
 use Rattle.machine.specs.Steps.{deliverAt, delivered}
-use Rattle.machine.specs.Causes.{firstCause, short, inRange, deliverCauses, startCauses}
+use Rattle.machine.specs.Areas.{promoteOn}
+use Rattle.machine.specs.Causes.{firstCause, short, inRange, startCauses, pointCauses, deliverCauses, resultCauses}
 use Rattle.machine.specs.Counts.{countOf, ceilingCount, countsOf}
 use Rattle.machine.specs.Means.{crossOf}
-use Rattle.calls.specs.Replies.{lengthsOf, accepted}
-use Rattle.calls.specs.Table.{deliver, answer, promotionEffect, row, causesOf, effectOf, passesCheck, acceptedAnswer, refusedAnswer, refusal, answerOf, changed, stateAfter}
+use Rattle.calls.specs.Replies.{refused, accepted, promotion, counts, total, lengthsOf}
+use Rattle.calls.specs.Table.{point, points, deliver, promote, result, crossTotal, Answer, answer, promotionEffect, row, causesOf, effectOf, passesCheck, acceptedAnswer, refusedAnswer, refusal, answerOf, changed, stateAfter}
 use Rattle.published.proofs.Outcomes.{promoted-log}
+use Rattle.wihupya.specs.Words.{lowWord, highWord}
+use Rattle.wihupya.specs.Exports.{numberOf, pointsAfter, outcomeWord, outcomeAfter, countsAfter, totalAfter}
 use Rattle.soundness.specs.Clauses.{isSound}
 use Rattle.soundness.proofs.Clauses.{clause-facts}
 use Rattle.writing.specs.ValidArea.{ValidArea}
@@ -46,10 +49,13 @@ use lib.IntN.{ℤ}
 use mathlib.Core.List.{List}
 use Rattle.calls.specs.Calls.{CallResult, callOn}
 use Rattle.calls.proofs.Tests as tests
-use Rattle.calls.proofs.Causes.{common-none, start-fits, deliver-fits}
-use Rattle.calls.proofs.Rows.{start-accepts, deliver-accepts}
+use Rattle.calls.specs.Points.{WrotePoints}
+use Rattle.calls.proofs.Causes.{common-none, start-fits, deliver-fits, point-fits, promote-free}
+use Rattle.calls.proofs.Rows.{start-accepts, deliver-accepts, point-accepts, points-accepts, promote-accepts, result-accepts, cross-accepts}
+use Rattle.calls.proofs.PointsWritten.{points-facts}
 use Rattle.history.specs.Logged.{stateOf, logStep, answerBy, answersBy}
-use Rattle.history.specs.Excluded.{refined, SelectsIndex, ListsNext, Excluded, fileCalls, answersAfter, CallCases}
+use Rattle.history.specs.OnExports.{callOf, verdictNumber, exportAnswer, exportAnswersBy}
+use Rattle.history.specs.Excluded.{refined, SelectsIndex, ListsNext, Excluded, fileCalls, answersAfter, fileExports, CallCases}
 
 -- a promotion that is spent is above the threshold
 pub spent-above : (l : Log) → rule.promote l .outcome ≡ rule.spent → l .settings .threshold < pendingOf (l .entries)
@@ -98,15 +104,47 @@ module _ (l : Log) where
       step false true f g = let y : _≡_ {A = ℕ} 0 1 = cc in absurd (omega arith)
       step false false f g = let y : _≡_ {A = ℕ} 0 1 = cc in absurd (omega arith)
 
--- in a valid area no cause refuses a delivery that fits
-delivery-accepted : (a : Area) (rs : List ℤ) (i : ℕ) → ValidArea a → anyWanted (entriesOf a) ≡ true → length rs ≡ readingCount (a .job .settings) (wantedIndex (entriesOf a)) → inRange rs ≡ true
-    → callOn a (deliver rs i) .answer ≡ answer accepted
-unfolding machineOf
-delivery-accepted a rs i s some whole range =
-    ap (λ (y : CallResult). y .answer)
-    (sym (deliver-accepts a rs i _ refl
-    (deliver-fits (lengthsOf a) (isSound a) (machineOf a .log) rs
-    (common-none (lengthsOf a) (isSound a) (machineOf a .log) (tests.enough (lengthsOf a) (a .job .settings) (s .lent .records) (s .lent .store)) (clause-facts .agree a .back (s .sound))) some whole range)))
+-- ---- in a valid area no cause but a call's own refuses it
+module _ (a : Area) (s : ValidArea a) where
+  abbrev l : Log
+  l = machineOf a .log
+
+  clear : firstCause (resultCauses (lengthsOf a) (isSound a) l) ≡ 0
+  unfolding machineOf
+  clear = common-none (lengthsOf a) (isSound a) l (tests.enough (lengthsOf a) (a .job .settings) (s .lent .records) (s .lent .store)) (clause-facts .agree a .back (s .sound))
+
+  delivery-accepted : (rs : List ℤ) (i : ℕ) → anyWanted (entriesOf a) ≡ true → length rs ≡ readingCount (a .job .settings) (wantedIndex (entriesOf a)) → inRange rs ≡ true
+      → callOn a (deliver rs i) .answer ≡ answer accepted
+  unfolding machineOf
+  delivery-accepted rs i some whole range =
+      ap (λ (y : CallResult). y .answer) (sym (deliver-accepts a rs i _ refl (deliver-fits (lengthsOf a) (isSound a) l rs clear some whole range)))
+
+  module _ (n : ℕ) (buffer : List ℕ) (some : anyWanted (entriesOf a) ≡ true) (inside : n < blockSize (wantedIndex (entriesOf a))) (room : a .job .settings .axes ≤ length buffer) where
+    no-cause : firstCause (pointCauses (lengthsOf a) (isSound a) l n (length buffer)) ≡ 0
+    unfolding machineOf
+    no-cause = point-fits (lengthsOf a) (isSound a) l n (length buffer) room clear some inside
+
+    point-accepted : callOn a (point n buffer) .answer .reply ≡ accepted
+    point-accepted = ap (λ (y : Answer). y .reply) (sym (point-accepts a n buffer _ refl no-cause))
+
+    points-accepted : (written : ℕ) × WrotePoints a n buffer written
+    points-accepted = points-facts .writes a n buffer not-refused
+      where
+        not-refused : (m : ℕ) → callOn a (points n buffer) .answer .reply ≡ refused m → ⊥
+        not-refused m e =
+            let same = ap (λ (y : Answer). y .reply) (points-accepts a n buffer _ refl no-cause) ∙ e in
+            let y : _≡_ {A = ℕ} 0 1 = cc in
+            omega arith
+
+  promotion-accepted : anyWanted (entriesOf a) ≡ false → callOn a promote .answer ≡ answer (promotion (rule.promote l .outcome))
+  unfolding machineOf promoteOn
+  promotion-accepted none = ap (λ (y : CallResult). y .answer) (sym (promote-accepts a _ refl (promote-free (lengthsOf a) (isSound a) l clear none)))
+
+  result-accepted : callOn a result .answer ≡ answer (counts (countsOf (machineOf a)))
+  result-accepted = sym (result-accepts a _ refl clear)
+
+  cross-accepted : callOn a crossTotal .answer ≡ answer (total (crossOf (entriesOf a)))
+  cross-accepted = sym (cross-accepts a _ refl clear)
 
 pub excluded : Excluded
 excluded =
@@ -114,13 +152,18 @@ excluded =
       starts = λ a g fit long room.
           ap (λ (y : CallResult). y .answer)
           (sym (start-accepts a g _ refl (start-fits (lengthsOf a) g fit (tests.enough (lengthsOf a) g long room))));
-      accepted-deliveries = delivery-accepted;
+      accepted-deliveries = λ a rs i s. delivery-accepted a s rs i;
+      accepted-point = λ a n buffer s. point-accepted a s n buffer;
+      accepted-points = λ a n buffer s. points-accepted a s n buffer;
+      accepted-promotion = promotion-accepted;
+      accepted-result = result-accepted;
+      accepted-cross = cross-accepted;
       deliveries = λ z l rs i long room some whole range. unfold refusal causesOf row deliverCauses in deliver-fits z true l rs (common-none z true l (tests.enough z (l .settings) long room) refl) some whole range;
-      means = unfold crossOf crossTotal deliveredOf readingIn readingsOf deliverAt delivered firstWanted wanted root coefficient sumOf subsets sign raisedOn isIn sameLevels tensorRule tensorSum units unit sumTo wholeWeight endsOne newCount behind blockSize in (refl, refl);
+      means = unfold crossOf grid-cross.crossTotal deliveredOf readingIn readingsOf deliverAt delivered firstWanted wanted root coefficient sumOf subsets sign raisedOn isIn sameLevels tensorRule tensorSum units unit sumTo wholeWeight endsOne newCount behind blockSize in (refl, refl);
       started = λ g. unfold wanted in refl;
       delivered = λ g i rs. unfold wanted deliverAt delivered firstWanted in refl;
       refines = promoted-log;
-      later-means = unfold crossOf crossTotal deliveredOf readingIn readingsOf coefficient sumOf subsets sign raisedOn isIn sameLevels tensorRule tensorSum units unit sumTo wholeWeight endsOne newCount behind blockSize pair in (refl, refl);
+      later-means = unfold crossOf grid-cross.crossTotal deliveredOf readingIn readingsOf coefficient sumOf subsets sign raisedOn isIn sameLevels tensorRule tensorSum units unit sumTo wholeWeight endsOne newCount behind blockSize pair in (refl, refl);
       reserved-counted = unfold reservedBy blockSize newCount pair in refl;
       states-counted = unfold countsOf countOf stateOf in (refl, refl, refl);
       ceiling-counted = unfold countsOf stateOf ceilingCount cappedAxes within levelsWithin excess forward pair in refl;
@@ -139,5 +182,5 @@ excluded =
     }
 
 pub call-cases : CallCases
-unfolding answersAfter axesFit budgetFit readingsFor readingCount leastStore startCauses pointOf newPoint answersBy answerBy answerOf acceptedAnswer refusedAnswer passesCheck refusal causesOf effectOf row promotionEffect changed stateAfter stateOf logStep fileCalls firstCause short inRange anyWanted firstWanted wanted root steps.started steps.deliver steps.promoteStep deliverAt delivered rule.promote rule.promoteAt rule.refine rule.makeOld rule.madeOld rule.selected rule.firstActive rule.largest rule.isMet rule.fits rule.admittedAxes rule.passing rule.admits rule.backwardOld rule.isOld within levelsWithin excess forward backward allFrom sameLevels countsOf countOf cappedAxes ceilingCount reservedBy pendingOf crossOf crossTotal deliveredOf readingIn readingsOf coefficient sumOf subsets sign raisedOn isIn tensorRule tensorSum units unit sumTo wholeWeight endsOne newCount behind blockSize pointsFitting positionsOf writtenOver block cartesian newPoints
-call-cases = record { between = refl; many-points = refl; mean-zero = refl; threshold-equal = refl; budget-four = refl; budget-five = refl; file = refl }
+unfolding answersAfter axesFit budgetFit readingsFor readingCount leastStore startCauses pointOf newPoint answersBy answerBy answerOf acceptedAnswer refusedAnswer passesCheck refusal causesOf effectOf row promotionEffect changed stateAfter stateOf logStep fileCalls firstCause short inRange anyWanted firstWanted wanted root steps.started steps.deliver steps.promoteStep deliverAt delivered rule.promote rule.promoteAt rule.refine rule.makeOld rule.madeOld rule.selected rule.firstActive rule.largest rule.isMet rule.fits rule.admittedAxes rule.passing rule.admits rule.backwardOld rule.isOld within levelsWithin excess forward backward allFrom sameLevels countsOf countOf cappedAxes ceilingCount reservedBy pendingOf crossOf grid-cross.crossTotal deliveredOf readingIn readingsOf coefficient sumOf subsets sign raisedOn isIn tensorRule tensorSum units unit sumTo wholeWeight endsOne newCount behind blockSize pointsFitting positionsOf writtenOver block cartesian newPoints callOf verdictNumber exportAnswer exportAnswersBy fileExports lowWord highWord numberOf pointsAfter outcomeWord outcomeAfter countsAfter totalAfter
+call-cases = record { between = refl; many-points = refl; mean-zero = refl; threshold-equal = refl; budget-four = refl; budget-five = refl; file = refl; start-order = refl; wanted-order = refl; delivered-order = refl; file-words = refl; other-words = refl; ceiling-axes = (refl, refl, refl) }

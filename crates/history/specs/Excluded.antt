@@ -7,14 +7,15 @@ use Prim.Native.Nat.{ℕ, _*_, _-_, _^_, _<_, _≤_}
 use lib.IntN.{ℤ, pos, negsuc}
 use lib.ListN.{length}
 use Rattle.rule.specs.Weights.{differenceWeight}
-use Rattle.grid.specs.Index.{root}
+use Rattle.grid.specs.Index.{root, cappedAxes}
+use Rattle.grid.specs.Block.{blockSize}
 use Rattle.grid.specs.Coefficient.{coefficient}
 use Rattle.grid.specs.Boundary.{pair}
 use Rattle.area.specs.declared.Settings.{Settings}
 use Rattle.area.specs.Settings.{settingsOf, SettingsFit, readingCount, leastStore}
 use Rattle.area.specs.Entry.{Entry, deliveredOf, reservedBy, pendingOf}
 use Rattle.area.specs.Log.{Log, Machine, withEntries}
-use Rattle.area.specs.Encoding.{Area, entriesOf}
+use Rattle.area.specs.Encoding.{Area, entriesOf, machineOf}
 use Rattle.encoding.specs.Entries.{entryAt, SoundMachine}
 use Rattle.machine.specs.Log.{anyWanted, wantedIndex}
 use Rattle.machine.specs.Promote as rule
@@ -27,8 +28,11 @@ use Rattle.writing.specs.ValidArea.{ValidArea}
 use Rattle.calls.specs.Replies.{refused, accepted, wrote, promotion, counts, total, verdict}
 use Rattle.calls.specs.Table.{Call, start, point, points, deliver, promote, result, crossTotal, check, Answer, answer}
 use Rattle.calls.specs.Calls.{callOn}
+use Rattle.calls.specs.Points.{WrotePoints}
 use Rattle.history.specs.LentCalls.{LentCall}
 use Rattle.history.specs.Logged.{stateOf, refusalBy, answersBy}
+use Rattle.history.specs.OnExports as exports
+use Rattle.history.specs.OnExports.{ExportCall, LentExport, exportAnswersBy}
 
 -- The entries with the selected refined.
 abbrev pub refined : Log → List Entry
@@ -68,6 +72,15 @@ pub record Excluded : Type 0 where
       → length rs ≡ readingCount (a .job .settings) (wantedIndex (entriesOf a)) → inRange rs ≡ true → callOn a (deliver rs i) .answer ≡ answer accepted
   pub deliveries : (z : Lengths) (l : Log) (rs : List ℤ) (i : ℕ) → 512 ≤ z .records → leastStore (l .settings) ≤ z .readings → anyWanted (l .entries) ≡ true
       → length rs ≡ readingCount (l .settings) (wantedIndex (l .entries)) → inRange rs ≡ true → refusalBy z l (deliver rs i) ≡ 0
+  -- nor has any other call a cause but the table's: with a block wanted point and points are accepted, and with none wanted promote, which
+  -- then answers the rule's outcome
+  pub accepted-point : (a : Area) (n : ℕ) (buffer : List ℕ) → ValidArea a → anyWanted (entriesOf a) ≡ true → n < blockSize (wantedIndex (entriesOf a))
+      → a .job .settings .axes ≤ length buffer → callOn a (point n buffer) .answer .reply ≡ accepted
+  pub accepted-points : (a : Area) (n : ℕ) (buffer : List ℕ) → ValidArea a → anyWanted (entriesOf a) ≡ true → n < blockSize (wantedIndex (entriesOf a))
+      → a .job .settings .axes ≤ length buffer → (written : ℕ) × WrotePoints a n buffer written
+  pub accepted-promotion : (a : Area) → ValidArea a → anyWanted (entriesOf a) ≡ false → callOn a promote .answer ≡ answer (promotion (rule.promote (machineOf a .log) .outcome))
+  pub accepted-result : (a : Area) → ValidArea a → callOn a result .answer ≡ answer (counts (countsOf (machineOf a)))
+  pub accepted-cross : (a : Area) → ValidArea a → callOn a crossTotal .answer ≡ answer (total (crossOf (entriesOf a)))
   -- "reports one fixed mean": the root's reading times 2^20 after its delivery
   pub means : (crossOf (deliverLog (startLog (settingsOf 3 0 9)) (pos 1 ∷ []) 7 .entries) ≡ pos (2 ^ 20)) × (crossOf (deliverLog (startLog (settingsOf 3 0 9)) (pos 2 ∷ []) 7 .entries) ≡ pos (2 * 2 ^ 20))
   -- "acknowledges calls, area untouched": the log changes (`LogFacts`), and the held records are the log's entries (`Found.entries`)
@@ -131,6 +144,38 @@ whole c = record { call = c; part = record { cells = 512 * 27; readings = 64 } }
 unfoldable pub answersAfter : Log → List Call → List Answer
 answersAfter l cs = answersBy l (map whole cs)
 
+-- A call in storage that is too short by one cell, and by one reading of a budget of 64.
+abbrev fewCells : Call → LentCall
+fewCells c = record { call = c; part = record { cells = 512 * 27 - 1; readings = 64 } }
+
+abbrev fewReadings : Call → LentCall
+fewReadings c = record { call = c; part = record { cells = 512 * 27; readings = 63 } }
+
+-- An exported call in 512 records and 64 readings.
+abbrev pub wholeExport : ExportCall → LentExport
+wholeExport c = record { call = c; part = record { cells = 512 * 27; readings = 64 } }
+
+-- What it returned, its own words as they are left, and its buffer.
+abbrev returned : ℕ → List ℕ → List ℕ → exports.ExportAnswer
+returned n words buffer = record { number = n; words = words; buffer = buffer }
+
+-- The file as exported calls, with a result and points after the first promotion. The words for the answers are lent as 9.
+unfoldable pub fileExports : List ExportCall
+fileExports =
+    exports.deliver (pos 4160 ∷ []) 100
+    ∷ exports.promote (9 ∷ [])
+    ∷ exports.result (9 ∷ 9 ∷ 9 ∷ 9 ∷ 9 ∷ 9 ∷ 9 ∷ 9 ∷ 9 ∷ [])
+    ∷ exports.points 0 (9 ∷ 9 ∷ []) (9 ∷ 9 ∷ 9 ∷ [])
+    ∷ exports.deliver (pos 64 ∷ pos 16448 ∷ []) 50
+    ∷ exports.deliver (pos 4096 ∷ pos 4224 ∷ []) 0
+    ∷ exports.promote (9 ∷ [])
+    ∷ exports.deliver (pos 1088 ∷ pos 9280 ∷ []) 10
+    ∷ exports.promote (9 ∷ [])
+    ∷ exports.result (9 ∷ 9 ∷ 9 ∷ 9 ∷ 9 ∷ 9 ∷ 9 ∷ 9 ∷ 9 ∷ [])
+    ∷ exports.crossTotal (9 ∷ 9 ∷ [])
+    ∷ exports.check
+    ∷ []
+
 -- Boundary cases about calls.
 pub record CallCases : Type 0 where
   -- before the first delivery the scaled mean is 0
@@ -149,6 +194,22 @@ pub record CallCases : Type 0 where
       ≡ record { reply = accepted; buffer = 64 ∷ 64 ∷ 3 ∷ [] } ∷ answer (refused 7) ∷ answer (refused 8) ∷ record { reply = refused 9; buffer = 1 ∷ 2 ∷ [] } ∷ answer (refused 6)
       ∷ answer (refused 3) ∷ answer accepted ∷ answer (refused 5)
       ∷ answer (verdict true) ∷ answer (refused 1) ∷ answer (total (pos (3 * 2 ^ 20))) ∷ answer accepted ∷ answer (total (pos 0)) ∷ []
+  -- where two causes apply at once, or three, the first in the table's order is returned: of start 1 before 2 and 3, and 2 before 3
+  pub start-order : answersBy (startLog (settingsOf 2 0 64))
+      (fewCells (start (settingsOf 9 0 64)) ∷ whole (start (settingsOf 9 0 0)) ∷ fewCells (start (settingsOf 9 0 0)) ∷ fewCells (start (settingsOf 2 0 0)) ∷ [])
+      ≡ answer (refused 1) ∷ answer (refused 1) ∷ answer (refused 1) ∷ answer (refused 2) ∷ []
+  -- with the root wanted: of deliver 7 before 8, and 3 before both; of promote 3 before 6; of point 3 before 9, for storage and for the buffer
+  pub wanted-order : answersBy (startLog (settingsOf 2 0 64))
+      (whole (deliver (pos 1048577 ∷ pos 0 ∷ []) 7) ∷ fewCells (deliver (pos 1048577 ∷ pos 0 ∷ []) 7) ∷ fewReadings (deliver [] 7) ∷ fewCells promote ∷ fewReadings promote
+      ∷ fewReadings (point 1 (1 ∷ 2 ∷ [])) ∷ whole (point 1 (1 ∷ [])) ∷ [])
+      ≡ answer (refused 7) ∷ answer (refused 3) ∷ answer (refused 3) ∷ answer (refused 3) ∷ answer (refused 3)
+      ∷ record { reply = refused 3; buffer = 1 ∷ 2 ∷ [] } ∷ record { reply = refused 3; buffer = 1 ∷ [] } ∷ []
+  -- with nothing wanted: of point 5 before 9, and 3 before both; of deliver 5 before 7 and 8, and 3 before all
+  pub delivered-order : answersBy (startLog (settingsOf 2 0 64))
+      (whole (deliver (pos 3 ∷ []) 7) ∷ whole (point 1 (1 ∷ 2 ∷ [])) ∷ whole (point 1 (1 ∷ [])) ∷ fewCells (point 1 (1 ∷ 2 ∷ [])) ∷ whole (points 1 (1 ∷ 2 ∷ []))
+      ∷ whole (deliver (pos 1048577 ∷ pos 0 ∷ []) 7) ∷ fewCells (deliver (pos 1048577 ∷ pos 0 ∷ []) 7) ∷ [])
+      ≡ answer accepted ∷ record { reply = refused 5; buffer = 1 ∷ 2 ∷ [] } ∷ record { reply = refused 3; buffer = 1 ∷ [] } ∷ record { reply = refused 3; buffer = 1 ∷ 2 ∷ [] }
+      ∷ record { reply = refused 5; buffer = 1 ∷ 2 ∷ [] } ∷ answer (refused 5) ∷ answer (refused 3) ∷ []
   -- points: of a block of two, one with room for one and a part, both, the last alone; past the block 9, a buffer under d 3
   pub many-points : answersAfter (startLog (settingsOf 2 0 64))
       (deliver (pos 3 ∷ []) 7 ∷ promote ∷ points 0 (9 ∷ 9 ∷ 9 ∷ []) ∷ points 0 (9 ∷ 9 ∷ 9 ∷ 9 ∷ 9 ∷ []) ∷ points 1 (9 ∷ 9 ∷ 9 ∷ 9 ∷ 9 ∷ []) ∷ points 2 (9 ∷ 9 ∷ []) ∷ points 0 (9 ∷ []) ∷ [])
@@ -171,3 +232,26 @@ pub record CallCases : Type 0 where
       ∷ answer (total (pos 5972688896))
       ∷ answer (verdict true)
       ∷ []
+  -- the file through the exported calls: what they return, and their words. The outcome's word is 2 promoted and 0 met; result's are pending
+  -- error and mean, low word first, old, active, wanted, reserved and ceiling; points' are written and size; cross total's its low word first
+  pub file-words : exportAnswersBy (startLog (settingsOf 2 40 64)) (map wholeExport fileExports)
+      ≡ returned 0 [] []
+      ∷ returned 0 (2 ∷ []) []
+      ∷ returned 0 (0 ∷ 0 ∷ 67108864 ∷ 1 ∷ 1 ∷ 0 ∷ 2 ∷ 5 ∷ 0 ∷ []) []
+      ∷ returned 0 (1 ∷ 2 ∷ []) (0 ∷ 64 ∷ 9 ∷ [])
+      ∷ returned 0 [] []
+      ∷ returned 0 [] []
+      ∷ returned 0 (2 ∷ []) []
+      ∷ returned 0 [] []
+      ∷ returned 0 (0 ∷ []) []
+      ∷ returned 0 (10 ∷ 0 ∷ 1677721600 ∷ 1 ∷ 2 ∷ 2 ∷ 0 ∷ 7 ∷ 0 ∷ []) []
+      ∷ returned 0 (1677721600 ∷ 1 ∷ []) []
+      ∷ returned 1 [] []
+      ∷ []
+  -- spent is 1, and a refusal, here 6, leaves the outcome's word; a negative mean is in two's complement
+  pub other-words : exportAnswersBy (startLog (settingsOf 2 0 4))
+      (wholeExport (exports.promote (9 ∷ [])) ∷ wholeExport (exports.deliver (negsuc 0 ∷ []) 7) ∷ wholeExport (exports.promote (9 ∷ []))
+      ∷ wholeExport (exports.crossTotal (9 ∷ 9 ∷ [])) ∷ [])
+      ≡ returned 6 (9 ∷ []) [] ∷ returned 0 [] [] ∷ returned 0 (1 ∷ []) [] ∷ returned 0 (4293918720 ∷ 4294967295 ∷ []) [] ∷ []
+  -- along how many of three axes the forward neighbour passes a ceiling: (5,5,5) has an excess of 12, (8,1,1) a level of 8, (1,1,1) is the root
+  pub ceiling-axes : (cappedAxes 3 (5 ∷ 5 ∷ 5 ∷ []) ≡ 3) × (cappedAxes 3 (8 ∷ 1 ∷ 1 ∷ []) ≡ 1) × (cappedAxes 3 (1 ∷ 1 ∷ 1 ∷ []) ≡ 0)
