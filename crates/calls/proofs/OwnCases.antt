@@ -33,6 +33,10 @@ module _ (a : Area) (c : Call) where
       (λ none e. absurd (accepted-reply (passesCheck (lengthsOf a) (isSound a) (machineOf a .log)) (machineOf a) c n e))
       (λ some e. let same : refusalOn a c ≡ n = same-number n e in (same, λ z. some (same ∙ z)))
 
+  -- so a call without a cause answers none
+  pub no-refusal : refusalOn a c ≡ 0 → NotRefused a c
+  no-refusal none n e = let s = refused-number n e in s .1 (sym (s .0) ∙ none)
+
   refused-there : (n : ℕ) → refusalOn a c ≡ n → (n ≡ 0 → ⊥) → callOn a c .answer .reply ≡ refused n
   refused-there n e f = ap (λ (x : CallResult). x .answer .reply) (sym (call-refuses a c n (sym e) f)) ∙ refused-reply n (row c)
 

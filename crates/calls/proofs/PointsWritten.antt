@@ -21,30 +21,21 @@ use Rattle.machine.specs.Points.{positionsOf, writtenOver}
 use Rattle.machine.specs.Causes.{firstCause, pointCauses}
 use Rattle.machine.proofs.Points.{point-length, bytes, bytes-length, bytes-at, taken-length, Fitting, fitting-count}
 use Rattle.machine.proofs.BlockSizes.{size-most}
-use Rattle.calls.specs.Replies.{refused, wrote, lengthsOf}
-use Rattle.calls.specs.Table.{Call, Answer, passesCheck, point, points, row, causesOf, refusal}
-use Rattle.calls.specs.Calls.{CallResult, refusalOn, callOn}
+use Rattle.calls.specs.Replies.{wrote, lengthsOf}
+use Rattle.calls.specs.Table.{Answer, point, points, row, causesOf, refusal}
+use Rattle.calls.specs.Calls.{refusalOn, callOn}
 use Rattle.calls.specs.Facts.{NotRefused}
 use Rattle.calls.specs.Points.{wantedSize, pointsBuffer, pointBuffer, WrotePoints, PointsFacts}
 use Rattle.calls.proofs.Causes.{point-fits, wanted-yes}
 use Rattle.calls.proofs.Accepted.{Pointable, pointable}
-use Rattle.calls.proofs.CauseCases.{call-ways}
 use Rattle.calls.proofs.Rows.{point-refuses, point-accepts, points-refuses, points-accepts}
 use Rattle.calls.proofs.Buffers.{clauses}
-use Rattle.calls.proofs.Numbers.{accepted-reply}
-use Rattle.calls.proofs.OwnCases.{no-cause}
+use Rattle.calls.proofs.OwnCases.{no-cause, no-refusal}
 use Rattle.calls.proofs.Facts.{call-facts}
 
 refused-alike : (a : Area) (n : ℕ) (buffer : List ℕ) → refusalOn a (points n buffer) ≡ refusalOn a (point n buffer)
 unfolding refusal causesOf row
 refused-alike a n buffer = refl
-
--- a call that no cause refuses answers no refusal
-not-refused : (a : Area) (c : Call) → refusalOn a c ≡ 0 → NotRefused a c
-not-refused a c none =
-    call-ways a c (λ (x : CallResult). (n : ℕ) → x .answer .reply ≡ refused n → ⊥)
-    (λ _ n e. accepted-reply (passesCheck (lengthsOf a) (isSound a) (machineOf a .log)) (machineOf a) c n e)
-    (λ some. absurd (some none))
 
 -- ---- where nothing refuses
 
@@ -130,7 +121,7 @@ module _ (a : Area) (n : ℕ) (buffer : List ℕ) (none : firstCause (pointCause
 
     accepted-there : NotRefused a (point (n + i) one)
     unfolding refusal causesOf row pointCauses
-    accepted-there = not-refused a (point (n + i) one) point-open
+    accepted-there = no-refusal a (point (n + i) one) point-open
 
     same : take d (drop (i * d) (pointsBuffer a n buffer)) ≡ take d (pointBuffer a (n + i) one)
     same =
