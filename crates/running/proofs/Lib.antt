@@ -9,3 +9,5 @@ pub mod Counted
 pub mod Ends
 pub mod NamedBytes
 pub mod Facts
+pub mod Replay
+pub mod Cases

@@ -3,3 +3,4 @@ pub mod Execution
 pub mod Report
 pub mod Code
 pub mod Facts
+pub mod Cases
