@@ -5,9 +5,9 @@ use Prim.Native.Nat.{ℕ}
 use lib.IntN.{ℤ, pos, negsuc}
 use lib.ListN.{set, take, replicate}
 use Rattle.sums.specs.Sums.{sumTo, sumOf}
-use Rattle.rule.specs.Points.{newPoints, newCount}
+use Rattle.rule.specs.Points.{newCount}
 use Rattle.rule.specs.Rules.{unit}
-use Rattle.rule.specs.Weights.{wholeWeight, endsOne, differenceWeight, endsMinusOne}
+use Rattle.rule.specs.Weights.{differenceWeight, endsMinusOne}
 use Rattle.grid.specs.Index.{root, lower, inFront, excess, levelsWithin, within, cappedAxes, forward, backward}
 use Rattle.grid.specs.Block.{blockSize}
 use Rattle.grid.specs.Difference.{units, differenceProduct, differenceSum, scaledDifference, behind}
@@ -51,7 +51,7 @@ abbrev ceilingEntries : List FileEntry
 ceilingEntries = zeros 8 1 ∷ zeros 7 2 ∷ zeros 6 2 ∷ zeros 5 4 ∷ zeros 4 8 ∷ zeros 3 16 ∷ zeros 2 32 ∷ zeros 1 64 ∷ zeros 0 1 ∷ zeros 0 1 ∷ []
 
 pub file-cases : FileCases
-unfolding bytesOf exampleFile negativeFile ceilingFile entriesFrom replay four eight signedFour field headerForm tableForm readingsForm formOf readingsAt entryOf fileOf digits decimal signedDecimal line endingWord reportText refusalText firstOutOfRange deliveryByte byOutcome startByte resultIn resultOf reportValuesOf textIn textOf axesFit budgetFit readingsFor readingCount leastStore startCauses deliverCauses firstCause short inRange anyWanted firstWanted wanted root started deliver promoteStep deliverAt delivered rule.promote rule.promoteAt rule.refine rule.makeOld rule.madeOld rule.selected rule.firstActive rule.largest rule.isMet rule.fits rule.admittedAxes rule.passing rule.admits rule.backwardOld rule.isOld within levelsWithin excess forward backward allFrom sameLevels countsOf countOf cappedAxes ceilingCount reservedBy pendingOf readingIn readingsOf sumOf units unit sumTo wholeWeight endsOne differenceWeight endsMinusOne differenceProduct differenceSum scaledDifference newCount newPoints behind blockSize lower inFront
+unfolding bytesOf exampleFile negativeFile ceilingFile entriesFrom replay four eight signedFour field headerForm tableForm readingsForm formOf readingsAt entryOf fileOf digits decimal signedDecimal line endingWord reportText refusalText firstOutOfRange deliveryByte byOutcome startByte resultIn resultOf reportValuesOf textIn textOf axesFit budgetFit readingsFor readingCount leastStore startCauses deliverCauses firstCause short inRange anyWanted firstWanted wanted root started deliver promoteStep deliverAt delivered rule.promote rule.promoteAt rule.refine rule.makeOld rule.madeOld rule.selected rule.firstActive rule.largest rule.isMet rule.fits rule.admittedAxes rule.passing rule.admits rule.backwardOld rule.isOld within levelsWithin excess forward backward allFrom sameLevels countsOf countOf cappedAxes ceilingCount reservedBy pendingOf readingIn readingsOf sumOf units unit sumTo differenceWeight endsMinusOne differenceProduct differenceSum scaledDifference newCount behind blockSize lower inFront
 file-cases =
     record {
       header = refl;
