@@ -28,7 +28,7 @@ use Rattle.calls.specs.Facts.{PastUnchanged, numbersOf, InBlock, NotRefu
 use Rattle.calls.proofs.Buffers.{laid-first, laid-length, laid-later}
 use Rattle.calls.proofs.Numbers.{row-numbers, cause-number, accepted-reply}
 use Rattle.calls.proofs.CauseCases.{call-accepts, call-ways}
-use Rattle.calls.proofs.OwnCases.{same-number, no-cause, own-case, no-other, none-applies, not-refused}
+use Rattle.calls.proofs.CausesApplied.{same-number, no-cause, own-case, no-other, none-applies, not-refused}
 use Rattle.calls.proofs.Rows.{promote-effect, point-accepts, start-accepts, start-refuses, promote-accepts}
 use Rattle.calls.proofs.Outcomes.{idle-area}
 use Rattle.calls.proofs.Next.{IsJob, Next, next-start, next-valid, allowed-there, valid-before, after-valid, after-state, after-lengths, after-past}

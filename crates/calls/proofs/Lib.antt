@@ -9,11 +9,12 @@ pub mod Outcomes
 pub mod CauseCases
 pub mod Rows
 pub mod Numbers
-pub mod OwnCases
+pub mod CausesApplied
 pub mod Buffers
 pub mod ResultValues
 pub mod Written
 pub mod Next
 pub mod StepEffects
 pub mod Facts
+pub mod OwnCases
 pub mod PointsWritten

@@ -30,7 +30,7 @@ use Rattle.calls.proofs.Causes.{point-fits, wanted-yes}
 use Rattle.calls.proofs.Accepted.{Pointable, pointable}
 use Rattle.calls.proofs.Rows.{point-refuses, point-accepts, points-refuses, points-accepts}
 use Rattle.calls.proofs.Buffers.{clauses}
-use Rattle.calls.proofs.OwnCases.{no-cause, no-refusal}
+use Rattle.calls.proofs.CausesApplied.{no-cause, no-refusal}
 use Rattle.calls.proofs.Facts.{call-facts}
 
 refused-alike : (a : Area) (n : ℕ) (buffer : List ℕ) → refusalOn a (points n buffer) ≡ refusalOn a (point n buffer)

@@ -3,4 +3,5 @@ pub mod Replies
 pub mod Table
 pub mod Calls
 pub mod Facts
+pub mod OwnCases
 pub mod Points

@@ -24,7 +24,7 @@ use Rattle.writing.proofs.After.{written-sound, written-long, written-machine}
 use Rattle.calls.specs.Replies.{accepted, refused, counts, total, lengthsOf}
 use Rattle.calls.specs.Table.{start, result, crossTotal, Row, row, causesOf, passesCheck, acceptedAnswer, refusal, answerOf, Answer, answer}
 use Rattle.calls.specs.Calls.{callOn}
-use Rattle.calls.proofs.OwnCases.{no-cause}
+use Rattle.calls.proofs.CausesApplied.{no-cause}
 use Rattle.calls.proofs.Tests as tests
 use Rattle.calls.proofs.Causes.{common-none}
 use Rattle.soundness.specs.Sound.{Sound, LongEnough}

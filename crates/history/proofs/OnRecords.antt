@@ -15,10 +15,11 @@ use Rattle.calls.specs.Replies.{accepted}
 use Rattle.calls.specs.Table.{start, result, crossTotal, answer}
 use Rattle.calls.specs.Calls.{callOn}
 use Rattle.records.specs.Lent.{areaOn}
+use Rattle.records.proofs.Unwritten.{unwritten}
 use Rattle.history.specs.Logged.{logAfter}
 use Rattle.history.specs.Storage.{Storage, areaLent, AllLent}
 use Rattle.history.specs.Found.{Found, LinksAgree, Demand}
-use Rattle.history.specs.OnRecords.{RecordStorage, inCells, callInCells, recordsAfter, RecordsFound, ThirdDemandOnRecords}
+use Rattle.history.specs.OnRecords.{RecordStorage, inCells, callInCells, recordsAfter, RecordsFound, ThirdDemandOnRecords, ThirdDemandOnTypedRecords}
 use Rattle.history.proofs.Demand.{third-demand}
 use Rattle.history.proofs.Published.{means-follow}
 use Rattle.history.proofs.Moments.{steps-follow}
@@ -67,3 +68,6 @@ third-demand-on-records w first later g f lent is taken =
       steps = steps-follow (inStorage w) (callInCells first) (map callInCells later) g all is begun;
       admissions = spent-exactly (inStorage w) (callInCells first) (map callInCells later) g all is begun;
     }
+
+pub third-demand-on-typed-records : ThirdDemandOnTypedRecords
+third-demand-on-typed-records w first later g typed = third-demand-on-records w first later g (unwritten .typed-run (w .records) typed)

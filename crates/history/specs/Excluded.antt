@@ -31,6 +31,7 @@ use Rattle.calls.specs.Calls.{callOn}
 use Rattle.calls.specs.Points.{WrotePoints}
 use Rattle.history.specs.LentCalls.{LentCall}
 use Rattle.history.specs.Logged.{stateOf, refusalBy, answersBy}
+use Rattle.wihupya.specs.Exports.{numberOf}
 use Rattle.history.specs.OnExports as exports
 use Rattle.history.specs.OnExports.{ExportCall, LentExport, exportAnswersBy}
 
@@ -253,5 +254,12 @@ pub record CallCases : Type 0 where
       (wholeExport (exports.promote (9 ∷ [])) ∷ wholeExport (exports.deliver (negsuc 0 ∷ []) 7) ∷ wholeExport (exports.promote (9 ∷ []))
       ∷ wholeExport (exports.crossTotal (9 ∷ 9 ∷ [])) ∷ [])
       ≡ returned 6 (9 ∷ []) [] ∷ returned 0 [] [] ∷ returned 0 (1 ∷ []) [] ∷ returned 0 (4293918720 ∷ 4294967295 ∷ []) [] ∷ []
+  -- a pending error of more than 32 bits, in both its words
+  pub large-pending : exportAnswersBy (startLog (settingsOf 2 0 64))
+      (wholeExport (exports.deliver (pos 0 ∷ []) 1) ∷ wholeExport (exports.promote (9 ∷ [])) ∷ wholeExport (exports.deliver (pos 0 ∷ pos 0 ∷ []) 4294967295)
+      ∷ wholeExport (exports.deliver (pos 0 ∷ pos 0 ∷ []) 4294967295) ∷ wholeExport (exports.result []) ∷ [])
+      ≡ returned 0 [] [] ∷ returned 0 (2 ∷ []) [] ∷ returned 0 [] [] ∷ returned 0 [] [] ∷ returned 0 (4294967294 ∷ 1 ∷ 0 ∷ 0 ∷ 1 ∷ 2 ∷ 0 ∷ 5 ∷ 0 ∷ []) [] ∷ []
+  -- an exported call returns the number of the cause itself
+  pub number-returned : (n : ℕ) → numberOf (refused n) ≡ n
   -- along how many of three axes the forward neighbour passes a ceiling: (5,5,5) has an excess of 12, (8,1,1) a level of 8, (1,1,1) is the root
   pub ceiling-axes : (cappedAxes 3 (5 ∷ 5 ∷ 5 ∷ []) ≡ 3) × (cappedAxes 3 (8 ∷ 1 ∷ 1 ∷ []) ≡ 1) × (cappedAxes 3 (1 ∷ 1 ∷ 1 ∷ []) ≡ 0)

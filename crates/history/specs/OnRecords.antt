@@ -23,6 +23,7 @@ use Rattle.calls.specs.Replies.{refused, accepted, counts, total}
 use Rattle.calls.specs.Table.{Call, start, result, crossTotal, Answer, answer}
 use Rattle.calls.specs.Calls.{CallResult, callOn}
 use Rattle.records.specs.Lent.{areaOn}
+use Rattle.records.specs.Unwritten.{TypedRun}
 use Rattle.history.specs.LentCalls.{Part, LentCall}
 use Rattle.history.specs.Logged.{stateOf, logAfter, answersBy}
 use Rattle.history.specs.Found.{Neighbours, LinksAgree}
@@ -129,4 +130,9 @@ pub record RecordsDemand (w : RecordStorage) (first : RecordCall) (later : List 
 -- `records`, specs/Unwritten.antt, `RecordTyped`), so that is asked of the list.
 abbrev pub ThirdDemandOnRecords : Type 0
 ThirdDemandOnRecords = (w : RecordStorage) (first : RecordCall) (later : List RecordCall) (g : Settings) → WellFormed (w .records) → AllLentRecords w (first ∷ later)
+    → first .call ≡ start g → callOn (recordsLent w (first .part)) (start g) .answer ≡ answer accepted → RecordsDemand w first later g
+
+-- So it holds of all records of the struct's type, which are what a caller lends.
+abbrev pub ThirdDemandOnTypedRecords : Type 0
+ThirdDemandOnTypedRecords = (w : RecordStorage) (first : RecordCall) (later : List RecordCall) (g : Settings) → TypedRun (w .records) → AllLentRecords w (first ∷ later)
     → first .call ≡ start g → callOn (recordsLent w (first .part)) (start g) .answer ≡ answer accepted → RecordsDemand w first later g

@@ -4,6 +4,7 @@ use mathlib.Core.List.{List, [], _∷_}
 use Prim.Native.Nat.{ℕ}
 use lib.IntN.{ℤ, pos, negsuc}
 use lib.ListN.{set, take, replicate}
+use lib.Seq.{sets}
 use Rattle.sums.specs.Sums.{sumTo, sumOf}
 use Rattle.rule.specs.Points.{newCount}
 use Rattle.rule.specs.Rules.{unit}
@@ -34,6 +35,14 @@ use Rattle.running.proofs.Replay.{entriesFrom, replay, prints}
 abbrev exampleEntries : ℤ → ℕ → List FileEntry
 exampleEntries x n = says 100 (pos 4160 ∷ []) ∷ says 50 (pos 64 ∷ x ∷ []) ∷ says n (pos 4096 ∷ pos 4224 ∷ []) ∷ says 10 (pos 1088 ∷ pos 9280 ∷ []) ∷ []
 
+abbrev largeEntries : List FileEntry
+largeEntries =
+    says 100 (pos 4160 ∷ [])
+    ∷ says 4294967295 (pos 64 ∷ pos 16448 ∷ [])
+    ∷ says 4294967295 (pos 4096 ∷ pos 4224 ∷ [])
+    ∷ says 10 (pos 1088 ∷ pos 9280 ∷ [])
+    ∷ []
+
 abbrev negativeEntries : List FileEntry
 negativeEntries =
     says 100 (negsuc 2 ∷ [])
@@ -63,6 +72,8 @@ file-cases =
       negative = prints negativeFile (settingsOf 4 40 8192) 5 negativeEntries _ refl refl refl refl refl (λ n. refl);
       ceiling = prints ceilingFile (settingsOf 1 0 129) 10 ceilingEntries _ refl refl refl refl refl (λ n. refl);
       wide-threshold = prints (set exampleFile 12 1) (settingsOf 2 4294967336 64) 4 (exampleEntries (pos 16448) 0) _ refl refl refl refl refl (λ n. refl);
+      large-pending =
+          prints (sets (sets (set exampleFile 4 5) 36 (255 ∷ 255 ∷ 255 ∷ 255 ∷ [])) 48 (255 ∷ 255 ∷ 255 ∷ 255 ∷ [])) (settingsOf 2 40 5) 4 largeEntries _ refl refl refl refl refl (λ n. refl);
       mean-zero = prints (take 24 (set exampleFile 16 0)) (settingsOf 2 40 64) 0 [] _ refl refl refl refl refl (λ n. refl);
       threshold-equal = prints (set exampleFile 8 100) (settingsOf 2 100 64) 4 (exampleEntries (pos 16448) 0) _ refl refl refl refl refl (λ n. refl);
       threshold-below = prints (set exampleFile 8 99) (settingsOf 2 99 64) 4 (exampleEntries (pos 16448) 0) _ refl refl refl refl refl (λ n. refl);

@@ -8,6 +8,7 @@ use Prim.Native.String as text
 use Prim.Native.String.{String}
 use lib.IntN.{ℤ, pos, negsuc}
 use lib.ListN.{length, set, take, replicate}
+use lib.Seq.{sets}
 use Rattle.jobfile.specs.File.{JobFile, FileEntry, fileOf, entryOf}
 use Rattle.running.specs.Report.{textOf}
 
@@ -95,6 +96,9 @@ pub record FileCases : Type 0 where
   pub ceiling : textOf ceilingFile ≡ bytesOf "axes 1\nold 8\nactive 0\nwanted 0\nreserved 129\npending 0\nceiling 1\nscaled 0\nunused 2\nend met\n"
   -- a threshold of more than 32 bits, 2^32 + 40
   pub wide-threshold : textOf (set exampleFile 12 1) ≡ bytesOf "axes 2\nold 0\nactive 1\nwanted 0\nreserved 1\npending 100\nceiling 0\nscaled 4362076160\nunused 3\nend met\n"
+  -- two indicators of 4294967295, and a budget of 5 that ends the run: a pending error of more than 32 bits
+  pub large-pending : textOf (sets (sets (set exampleFile 4 5) 36 (255 ∷ 255 ∷ 255 ∷ 255 ∷ [])) 48 (255 ∷ 255 ∷ 255 ∷ 255 ∷ []))
+      ≡ bytesOf "axes 2\nold 1\nactive 2\nwanted 0\nreserved 5\npending 8589934590\nceiling 0\nscaled 6509559808\nunused 1\nend spent\n"
   -- ---- boundary cases
 
   -- before the first delivery the scaled mean is 0: the header alone, with no entries
