@@ -9,6 +9,7 @@
 //! - [`rule`] and [`trapezoid`]: the rule along one axis, twice;
 //! - [`grid`] and [`sums`]: indices, blocks, differences, tensor rules;
 //! - [`area`] and [`soundness`]: the lent storage and what makes it sound;
+//! - [`doubles`]: the report of doubles, and doubles as exact fractions;
 //! - [`calls`]: the eight calls;
 //! - [`call`] and [`log`]: a list of calls and the log that predicts answers;
 //! - [`laws`]: what point says of points;
@@ -28,6 +29,7 @@ pub mod cases;
 pub mod choice;
 pub mod damage;
 pub mod demand;
+pub mod doubles;
 pub mod drive;
 pub mod examples;
 pub mod figures;
