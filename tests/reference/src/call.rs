@@ -3,6 +3,7 @@
 
 use crate::area::Area;
 use crate::calls::{self, Cause, PointCounts, Promotion, Totals};
+use crate::doubles::Report;
 
 #[derive(Clone, Debug, PartialEq, Eq)]
 pub enum Call {
@@ -13,6 +14,7 @@ pub enum Call {
     Promote,
     Result,
     CrossTotal,
+    Doubles,
     Check,
 }
 
@@ -30,6 +32,7 @@ pub enum Answer {
     Promotion(Promotion),
     Totals(Totals),
     CrossTotal(i64),
+    Doubles(Report),
     Sound(bool),
     Refused(Cause),
 }
@@ -51,6 +54,7 @@ impl Call {
             Call::Promote => "promote",
             Call::Result => "result",
             Call::CrossTotal => "cross total",
+            Call::Doubles => "doubles",
             Call::Check => "check",
         }
     }
@@ -92,6 +96,7 @@ pub fn perform(area: &mut Area, call: &Call, buffer: &mut [u8]) -> Answer {
         Call::Promote => answer(calls::promote(area), Answer::Promotion),
         Call::Result => answer(calls::result(area), Answer::Totals),
         Call::CrossTotal => answer(calls::cross_total(area), Answer::CrossTotal),
+        Call::Doubles => answer(calls::doubles(area), Answer::Doubles),
         Call::Check => Answer::Sound(calls::check(area)),
     }
 }

@@ -1,4 +1,4 @@
-//! The eight calls on a lent area. The storage lent is as long as the area's
+//! The nine calls on a lent area. The storage lent is as long as the area's
 //! lists of records and readings.
 //!
 //! Causes are tested in the order of the scope document's table, each in its
@@ -6,6 +6,7 @@
 //! on any content.
 
 use crate::area::{Area, IndexRecord, JobRecord, ACTIVE, OLD, WANTED};
+use crate::doubles::{ExactReport, Report};
 use crate::grid::{self, Levels, Point, BUDGET_LIMIT, HELD_LIMIT, MOST_AXES, ROOT};
 use crate::soundness;
 use crate::sums::{self, Readings};
@@ -58,6 +59,9 @@ pub struct Totals {
     pub mean: i64,
     pub ceiling: u32,
 }
+
+/// What doubles answers: refused, or reported.
+pub type Doubled = Result<Report, Cause>;
 
 /// Cause 3 but for the point buffer. Start brings its own budget; every other
 /// call goes by the recorded one, whatever that is.
@@ -307,6 +311,63 @@ pub fn cross_total(area: &Area) -> Result<i64, Cause> {
     let delivered = area.held().iter().filter(|record| record.is_delivered()).count();
     assert!(total.abs() <= delivered as i128 * sums::DIFFERENCE_LIMIT);
     Ok(i64::try_from(total).expect("at most 512 times 2^40"))
+}
+
+/// The delivered indices' places and their differences times 2^20, worked out
+/// from the readings. In a sound area.
+pub fn delivered_differences(area: &Area) -> Vec<(usize, i128)> {
+    let axes = area.job.axes as usize;
+    let known = delivered_readings(area);
+    let reading = |index: &Levels, number: usize| known.at(index, number);
+    let delivered = area.held().iter().enumerate().filter(|(_, record)| record.is_delivered());
+    delivered
+        .map(|(place, record)| (place, sums::difference(axes, &record.levels, &reading)))
+        .collect()
+}
+
+/// "Largest means largest in size, given with its sign, the lowest place among
+/// equals": that place and its difference times 2^20. In a sound area; none if
+/// nothing is delivered.
+pub fn largest_difference(area: &Area) -> Option<(usize, i128)> {
+    let differences = delivered_differences(area);
+    let size = differences.iter().map(|(_, difference)| difference.abs()).max()?;
+    differences.into_iter().find(|(_, difference)| difference.abs() == size)
+}
+
+/// What doubles reports, as exact fractions: the recorded mean and pending error
+/// and the largest delivered difference, 0 "with nothing delivered".
+pub fn exact_report(area: &Area) -> Result<ExactReport, Cause> {
+    refuse_storage_or_area(area)?;
+    Ok(ExactReport {
+        mean: area.job.mean.into(),
+        pending: i128::from(area.job.pending) << sums::SCALE,
+        largest: largest_difference(area).map_or(0, |(_, difference)| difference),
+    })
+}
+
+/// Doubles: the pending error as it is, and "mean and difference are the scaled
+/// numbers divided by 2^20". Nothing is lost, for a double holds whole numbers of
+/// up to 53 bits: the mean has at most 50, the pending error 41, a difference 41.
+pub fn doubles(area: &Area) -> Doubled {
+    const DIVISOR: f64 = 1_048_576.0;
+    let exact = exact_report(area)?;
+    Ok(Report {
+        mean: exact.mean as f64 / DIVISOR,
+        pending: area.job.pending as f64,
+        largest: exact.largest as f64 / DIVISOR,
+    })
+}
+
+/// Doubles as it is exported: 0 and the three in the array that is lent, or the
+/// cause's number and the array as it was.
+pub fn doubles_into(area: &Area, lent: &mut [f64; 3]) -> u32 {
+    match doubles(area) {
+        Ok(report) => {
+            *lent = report.array();
+            0
+        }
+        Err(cause) => cause.number(),
+    }
 }
 
 /// Check: yes exactly if the area is sound; "no to short storage".

@@ -1,16 +1,17 @@
 //! An independent reference for the sparse-grid integrator.
 //!
-//! Everything here is written from the scope document alone, the call points
-//! from the text that asks for it, and follows their sentences as literally as
-//! possible. It is a test and not a delivery: where a choice lay between clear
-//! and fast, it is clear.
+//! Everything here is written from the scope document alone, the calls points
+//! and doubles from the texts that ask for them, and follows their sentences as
+//! literally as possible. Each request changes it first, from the request's
+//! words. It is a test and not a delivery: where a choice lay between clear and
+//! fast, it is clear.
 //!
 //! From the inside out:
 //! - [`rule`] and [`trapezoid`]: the rule along one axis, twice;
 //! - [`grid`] and [`sums`]: indices, blocks, differences, tensor rules;
 //! - [`area`] and [`soundness`]: the lent storage and what makes it sound;
 //! - [`doubles`]: the report of doubles, and doubles as exact fractions;
-//! - [`calls`]: the eight calls;
+//! - [`calls`]: the nine calls;
 //! - [`call`] and [`log`]: a list of calls and the log that predicts answers;
 //! - [`laws`]: what point says of points;
 //! - [`jobfile`], [`jobtext`], [`program`], [`replay`]: job files and reports;

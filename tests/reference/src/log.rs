@@ -7,6 +7,7 @@
 
 use crate::call::{Answer, Call, Lengths};
 use crate::calls::{Cause, PointCounts, Promotion, Totals};
+use crate::doubles::ExactReport;
 use crate::grid::{self, Levels, ROOT};
 use crate::rule;
 use crate::sums::{self, Readings};
@@ -35,8 +36,16 @@ pub struct Job {
     pub threshold: u64,
     pub budget: u32,
     pub entries: Vec<Entry>,
-    /// The two sums below, once worked out; cleared when a block is delivered.
-    sums: OnceCell<(i64, i64)>,
+    /// The figures below, once worked out; cleared when a block is delivered.
+    sums: OnceCell<Sums>,
+}
+
+/// What is worked out from the delivered readings, times 2^20.
+#[derive(Clone, Copy, Debug)]
+struct Sums {
+    mean: i64,
+    tensor_sum: i64,
+    largest: i128,
 }
 
 /// What promote has to do by the log.
@@ -93,23 +102,40 @@ impl Job {
         Readings::new(delivered.map(|entry| (entry.levels, entry.readings.as_slice())))
     }
 
-    fn sums(&self) -> (i64, i64) {
+    fn sums(&self) -> Sums {
         *self.sums.get_or_init(|| {
             let readings = self.readings();
+            let reading = |index: &Levels, number: usize| readings.at(index, number);
+            let delivered = self.entries.iter().filter(|entry| entry.is_delivered());
+            let differences: Vec<i128> = delivered
+                .map(|entry| sums::difference(self.axes, &entry.levels, &reading))
+                .collect();
             let narrow = |sum: i128| i64::try_from(sum).expect("at most 512 times 2^40");
-            let differences = narrow(sums::sum_of_differences(self.axes, &readings));
-            (differences, narrow(sums::cross_total(self.axes, &readings)))
+            Sums {
+                mean: narrow(differences.iter().sum()),
+                tensor_sum: narrow(sums::cross_total(self.axes, &readings)),
+                largest: largest_in_size(&differences),
+            }
         })
     }
 
     /// The scaled mean: the sum of the delivered indices' differences.
     pub fn mean(&self) -> i64 {
-        self.sums().0
+        self.sums().mean
     }
 
     /// The same from coefficients and full tensor rules.
     pub fn tensor_sum(&self) -> i64 {
-        self.sums().1
+        self.sums().tensor_sum
+    }
+
+    /// What doubles reports by the log, as exact fractions.
+    pub fn exact_report(&self) -> ExactReport {
+        ExactReport {
+            mean: self.mean().into(),
+            pending: i128::from(self.pending()) << sums::SCALE,
+            largest: self.sums().largest,
+        }
     }
 
     pub fn ceiling(&self) -> u32 {
@@ -221,6 +247,18 @@ impl Job {
     }
 }
 
+/// The difference of largest size, 0 if there is none. From the last to the
+/// first, so that the lowest place wins a tie.
+fn largest_in_size(differences: &[i128]) -> i128 {
+    let mut largest = 0i128;
+    for &difference in differences.iter().rev() {
+        if difference.abs() >= largest.abs() {
+            largest = difference;
+        }
+    }
+    largest
+}
+
 impl Log {
     /// The answer that a call on storage of these lengths must give; makes the
     /// log's entries follow an accepted call. Before the first accepted start
@@ -282,6 +320,8 @@ impl Log {
             }
             Call::Result => Ok(Answer::Totals(job.totals())),
             Call::CrossTotal => Ok(Answer::CrossTotal(job.tensor_sum())),
+            // Put together from bits, where the call divides.
+            Call::Doubles => Ok(Answer::Doubles(job.exact_report().report())),
         }
     }
 

@@ -54,6 +54,7 @@ fn assert_all_refuse(area: &Area, cause: Cause) {
     assert_eq!(calls::promote(&mut copy), Err(cause), "promote");
     assert_eq!(calls::result(area), Err(cause), "result");
     assert_eq!(calls::cross_total(area), Err(cause), "cross total");
+    assert_eq!(calls::doubles(area), Err(cause), "doubles");
     assert_eq!(copy, *area);
 }
 
