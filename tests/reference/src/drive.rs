@@ -11,6 +11,7 @@ use crate::grid::{self, BUDGET_LIMIT};
 use crate::laws;
 use crate::log::{Log, Plan};
 use crate::rng::Rng;
+use crate::sums::SCALE;
 use std::collections::BTreeMap;
 
 /// How often each thing was seen, by name.
@@ -83,8 +84,14 @@ impl Driver {
             .collect();
         let mut buffer = buffer_before.clone();
         let answer = call::perform(&mut self.area, &call, &mut buffer);
-        if let Call::Points { n, .. } = call {
-            laws::assert_points(&self.area, n, &buffer_before);
+        match call {
+            Call::Points { n, .. } => laws::assert_points(&self.area, n, &buffer_before),
+            Call::Doubles => {
+                let rng = &mut self.chooser.rng;
+                let content = std::array::from_fn(|_| f64::from_bits(rng.number()));
+                laws::assert_doubles(&self.area, content);
+            }
+            _ => {}
         }
         self.area.records.extend(records_kept);
         self.area.store.extend(store_kept);
@@ -154,6 +161,7 @@ impl Driver {
             assert_eq!(self.area.job.mean, mean, "the recorded mean");
             assert_eq!(calls::result(&self.area).map(|totals| totals.mean), Ok(mean), "result");
             assert_eq!(calls::cross_total(&self.area), Ok(mean), "cross total");
+            assert_eq!(calls::doubles(&self.area), Ok(job.exact_report().report()), "doubles");
         }
     }
 
@@ -206,6 +214,7 @@ impl Driver {
             Answer::Promotion(Promotion::Met | Promotion::Spent) => self.ended = true,
             Answer::Totals(totals) => self.highest("ceiling count", u64::from(totals.ceiling)),
             Answer::Points { counts, .. } => self.note_points(call, *counts),
+            Answer::Doubles(_) => self.note_doubles(),
             _ => {}
         }
         if self.log.job.is_some() {
@@ -237,6 +246,31 @@ impl Driver {
             self.count(format!("points {what}"));
         }
         self.highest("points written", u64::from(written));
+    }
+
+    /// What the largest delivered difference was, and what came near it.
+    fn note_doubles(&mut self) {
+        let Some((place, largest)) = calls::largest_difference(&self.area) else {
+            return self.count("doubles of nothing delivered".to_string());
+        };
+        let differences = calls::delivered_differences(&self.area);
+        let others = || differences.iter().filter(|(other, _)| *other != place);
+        let so = [
+            ("of a largest above 0", largest > 0),
+            ("of a largest below 0", largest < 0),
+            ("of differences that are all 0", largest == 0),
+            ("of a largest that is not the root's", place > 0),
+            ("of a largest that is not whole", largest % (1 << SCALE) != 0),
+            ("of a largest that a later one equals", others().any(|(_, d)| *d == largest)),
+            (
+                "of a largest that a later one has with the other sign",
+                largest != 0 && others().any(|(_, d)| *d == -largest),
+            ),
+            ("while a block is wanted", calls::first_wanted(&self.area).is_some()),
+        ];
+        for (what, _) in so.into_iter().filter(|(_, seen)| *seen) {
+            self.count(format!("doubles {what}"));
+        }
     }
 
     /// The lengths to lend: mostly all there is, at times just enough or less.
@@ -280,9 +314,10 @@ impl Driver {
             29..=38 => chooser.damaged_deliver(wanted),
             39..=46 => chooser.carry_on(wanted),
             47..=55 => Call::Promote,
-            56..=67 => Call::Result,
-            68..=78 => Call::CrossTotal,
-            79..=88 => Call::Check,
+            56..=63 => Call::Result,
+            64..=71 => Call::CrossTotal,
+            72..=80 => Call::Doubles,
+            81..=88 => Call::Check,
             89..=95 => chooser.damaged_start(),
             96 if chooser.parameters.steps < 95 => {
                 chooser.draw_parameters();

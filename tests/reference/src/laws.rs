@@ -1,10 +1,20 @@
-//! What point says of points, as laws: both are refused alike; the i-th point
-//! that points writes from n on is the one that point writes for n + i; a
-//! buffer of one point gets what point writes. Together they leave points no
-//! freedom, and they hold on any area, altered ones included.
+//! What point says of points, and what result and the differences say of
+//! doubles, as laws. They leave those two calls no freedom, and they hold on any
+//! area, altered ones included.
+//!
+//! Point and points are refused alike; the i-th point that points writes from n
+//! on is the one that point writes for n + i; a buffer of one point gets what
+//! point writes.
+//!
+//! Doubles is refused as result is; its mean and pending error are result's,
+//! exactly; its largest is a delivered difference that no other passes in size,
+//! the one of the lowest place; a zero is never -0.
 
 use crate::area::Area;
-use crate::calls::{self, Cause, PointCounts};
+use crate::calls::{self, Cause, Doubled, PointCounts};
+use crate::doubles;
+use crate::grid::Levels;
+use crate::sums;
 
 /// Asserts the laws for a call of points from n on, whose buffer is lent with
 /// this content.
@@ -63,4 +73,55 @@ fn point(area: &Area, n: u64) -> Result<Vec<u8>, Cause> {
 fn some(written: u32) -> impl Iterator<Item = u32> {
     let last = written - 1;
     (0..last).step_by(1 + written as usize / 16).chain([last])
+}
+
+/// Asserts the laws for a call of doubles whose array is lent with this content.
+pub fn assert_doubles(area: &Area, content: [f64; 3]) {
+    let answer = calls::doubles(area);
+    assert_eq!(broken_by_doubles(area, &answer), None, "{answer:?}");
+    let (number, due) = match answer {
+        Ok(report) => (0, report.array()),
+        Err(cause) => (cause.number(), content),
+    };
+    let mut lent = content;
+    assert_eq!(calls::doubles_into(area, &mut lent), number, "0 or the cause");
+    assert_eq!(lent.map(f64::to_bits), due.map(f64::to_bits), "written, or left if refused");
+}
+
+/// The first law that an answer of doubles breaks on this area, in words.
+pub fn broken_by_doubles(area: &Area, answer: &Doubled) -> Option<&'static str> {
+    let (totals, report) = match (calls::result(area), answer) {
+        (Ok(totals), Ok(report)) => (totals, report),
+        (Err(cause), Err(other)) if cause == *other => return None,
+        _ => return Some("doubles is refused as result is"),
+    };
+    let Some(exact) = report.exact() else {
+        return Some("each of the three is a fraction over 2^20");
+    };
+    let differences = first_differences(area, (totals.old + totals.active) as usize);
+    let size = exact.largest.abs();
+    let first = differences.iter().find(|difference| difference.abs() == size);
+    let plus_0 = |double: f64| doubles::numerator(double) != Some(0) || double.to_bits() == 0;
+    let laws = [
+        ("the mean is result's over 2^20", exact.mean == totals.mean.into()),
+        ("the pending error is result's", exact.pending == i128::from(totals.pending) << 20),
+        ("a zero is +0", report.array().into_iter().all(plus_0)),
+        ("nothing delivered is +0", !differences.is_empty() || report.bits() == [0; 3]),
+        ("no difference is larger in size", differences.iter().all(|d| d.abs() <= size)),
+        (
+            "the lowest place of that size has it",
+            differences.is_empty() || first == Some(&exact.largest),
+        ),
+    ];
+    laws.into_iter().find(|(_, holds)| !holds).map(|(law, _)| law)
+}
+
+/// The differences of so many first records times 2^20: of the delivered, since
+/// wanted records come last.
+fn first_differences(area: &Area, delivered: usize) -> Vec<i128> {
+    let known = calls::delivered_readings(area);
+    let reading = |index: &Levels, number: usize| known.at(index, number);
+    let axes = area.job.axes as usize;
+    let records = area.records[..delivered].iter();
+    records.map(|record| sums::difference(axes, &record.levels, &reading)).collect()
 }

@@ -13,7 +13,8 @@
 //! - [`doubles`]: the report of doubles, and doubles as exact fractions;
 //! - [`calls`]: the nine calls;
 //! - [`call`] and [`log`]: a list of calls and the log that predicts answers;
-//! - [`laws`]: what point says of points;
+//! - [`laws`]: what point says of points, and what result and the differences
+//!   say of doubles;
 //! - [`jobfile`], [`jobtext`], [`program`], [`replay`]: job files and reports;
 //! - [`rng`], [`style`], [`generate`], [`damage`], [`survey`]: job files by seed;
 //! - [`cases`], [`vectors`]: job files by name, and many in one;

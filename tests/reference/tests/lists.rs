@@ -16,6 +16,19 @@ const POINTS: [&str; 7] = [
     "wrote all with room for more",
 ];
 
+/// What doubles finds: each sign, equals of either sign, fractions, nothing.
+const DOUBLES: [&str; 9] = [
+    "of nothing delivered",
+    "of a largest above 0",
+    "of a largest below 0",
+    "of differences that are all 0",
+    "of a largest that is not the root's",
+    "of a largest that is not whole",
+    "of a largest that a later one equals",
+    "of a largest that a later one has with the other sign",
+    "while a block is wanted",
+];
+
 #[test]
 fn random_lists_of_calls() {
     let mut seen = std::collections::BTreeMap::new();
@@ -36,6 +49,10 @@ fn random_lists_of_calls() {
     }
     for answer in POINTS {
         assert!(seen[&format!("points {answer}")] > 20, "{answer}: {seen:?}");
+    }
+    assert!(seen["refused 3 by doubles"] > 20, "refused 3: {seen:?}");
+    for answer in DOUBLES {
+        assert!(seen[&format!("doubles {answer}")] > 5, "{answer}: {seen:?}");
     }
 }
 
