@@ -21,6 +21,7 @@
 //! - [`choice`], [`drive`] and [`demand`]: lists of calls by seed and the third
 //!   demand;
 //! - [`sample`], [`alter`], [`figures`]: areas by seed, altered, with figures;
+//! - [`reports`]: areas by name, with what doubles must answer;
 //! - [`pump`] and [`examples`]: the example jobs.
 
 pub mod alter;
@@ -44,6 +45,7 @@ pub mod log;
 pub mod program;
 pub mod pump;
 pub mod replay;
+pub mod reports;
 pub mod rng;
 pub mod rule;
 pub mod sample;
