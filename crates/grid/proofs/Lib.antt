@@ -11,6 +11,7 @@ pub mod Differences
 pub mod Blocks
 pub mod Sampled
 pub mod LevelOne
+pub mod Largest
 pub mod Axes
 pub mod Trapezoidal
 pub mod Masks

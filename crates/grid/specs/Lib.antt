@@ -6,6 +6,7 @@ pub mod Coefficient
 pub mod Tensor
 pub mod Cross
 pub mod Terms
+pub mod Largest
 pub mod Facts
 pub mod Trapezoidal
 pub mod Smolyak

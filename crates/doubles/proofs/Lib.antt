@@ -1,0 +1,4 @@
+-- The laws, lowest first.
+pub mod Unique
+pub mod Exactly
+pub mod Facts
