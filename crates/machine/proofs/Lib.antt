@@ -21,3 +21,4 @@ pub mod Refined
 pub mod Facts
 pub mod Promotes
 pub mod Means
+pub mod Largest

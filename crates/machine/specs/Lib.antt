@@ -10,3 +10,4 @@ pub mod Causes
 pub mod Counts
 pub mod Facts
 pub mod Means
+pub mod Largest
