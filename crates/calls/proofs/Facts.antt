@@ -22,7 +22,7 @@ use Rattle.machine.specs.Causes.{firstCause, startCauses, pointCauses, deliverC
 use Rattle.machine.specs.Areas.{startOn, deliverOn, promoteOn}
 use Rattle.writing.specs.ValidArea.{ValidArea}
 use Rattle.calls.specs.Replies.{refused, accepted, promotion, lengthsOf}
-use Rattle.calls.specs.Table.{Call, Answer, changed, unchanged, start, point, points, deliver, promote, result, crossTotal, check, answer, row, causesOf, effectOf, passesCheck, acceptedAnswer, refusedAnswer, refusal, stateAfter}
+use Rattle.calls.specs.Table.{Call, Answer, changed, unchanged, start, point, points, deliver, promote, result, doubles, crossTotal, check, answer, row, causesOf, effectOf, passesCheck, acceptedAnswer, refusedAnswer, refusal, stateAfter}
 use Rattle.calls.specs.Calls.{CallResult, areaAfter, refusalOn, callOn}
 use Rattle.calls.specs.Facts.{PastUnchanged, numbersOf, InBlock, NotRefused, CallFacts}
 use Rattle.calls.proofs.Buffers.{laid-first, laid-length, laid-later}
@@ -130,6 +130,7 @@ module _ (a : Area) (well-formed : WellFormed (heldOf a)) where
   by-call (deliver rs i) none h = job-leaves-valid (deliver rs i) (unfold row in tt) none
   by-call promote none h = job-leaves-valid promote (unfold row in tt) none
   by-call result none h = job-leaves-valid result (unfold row in tt) none
+  by-call doubles none h = job-leaves-valid doubles (unfold row in tt) none
   by-call crossTotal none h = job-leaves-valid crossTotal (unfold row in tt) none
   by-call check none h = absurd (h refl)
 
@@ -231,6 +232,7 @@ module _ (a : Area) (n : ℕ) (well-formed : WellFormed (heldOf a)) where
       outside (no h) (no k) = inr (omega arith)
   store promote f = ap (λ (s : List ℤ). getD s n (pos 0)) (promote-store a well-formed)
   store result f = looked result refl
+  store doubles f = looked doubles refl
   store crossTotal f = looked crossTotal refl
   store check f = looked check refl
 

@@ -20,7 +20,7 @@ use Rattle.machine.proofs.Facts.{step-facts}
 use Rattle.writing.specs.ValidArea.{ValidArea}
 use Rattle.writing.proofs.After.{machine-sound}
 use Rattle.calls.specs.Replies.{lengthsOf}
-use Rattle.calls.specs.Table.{Call, start, point, points, deliver, promote, result, crossTotal, check, Effect, unchanged, becomes, promotionEffect, row, causesOf, effectOf, refusal, changed, Row, anyArea, onJob}
+use Rattle.calls.specs.Table.{Call, start, point, points, deliver, promote, result, doubles, crossTotal, check, Effect, unchanged, becomes, promotionEffect, row, causesOf, effectOf, refusal, changed, Row, anyArea, onJob}
 use Rattle.calls.specs.Calls.{areaAfter, refusalOn}
 use Rattle.calls.specs.Facts.{PastUnchanged}
 use Rattle.calls.proofs.Accepted.{missed, neither, startable, first-two, long-enough, promotable, deliverable}
@@ -96,6 +96,7 @@ module _ (z : Lengths) (sound : Bool) (m : Machine) (known : firstCause (resultC
   allowed (deliver rs i) none = next-deliver rs i none
   allowed promote none = by-outcome (rule.promote (m .log) .outcome) (steps.promoteStep m) (next-promote none)
   allowed result none = tt
+  allowed doubles none = tt
   allowed crossTotal none = tt
   allowed check none = tt
 

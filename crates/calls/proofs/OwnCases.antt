@@ -25,7 +25,7 @@ use Rattle.soundness.proofs.Clauses.{clause-facts}
 use Rattle.machine.specs.Log.{anyWanted, wantedIndex}
 use Rattle.machine.specs.Causes.{Lengths, firstCause, short, inRange, resultCauses, pointCauses, deliverCauses, promoteCauses}
 use Rattle.calls.specs.Replies.{lengthsOf}
-use Rattle.calls.specs.Table.{Call, JobRow, onJob, start, point, points, deliver, promote, result, crossTotal, check, row, causesOf, refusal}
+use Rattle.calls.specs.Table.{Call, JobRow, onJob, start, point, points, deliver, promote, result, doubles, crossTotal, check, row, causesOf, refusal}
 use Rattle.calls.specs.Calls.{refusalOn}
 use Rattle.calls.specs.OwnCases.{RefusedBy, OnJob, BufferFits, Short, OwnCases}
 use Rattle.calls.proofs.Tests.{hit, miss, axes-out, budget-out, few-records, few-readings, enough}
@@ -80,6 +80,7 @@ module _ (a : Area) where
   storage (deliver rs i) j h = storage-by (deliver rs i) _ refl h
   storage promote j h = storage-by promote _ refl h
   storage result j h = storage-by result _ refl h
+  storage doubles j h = storage-by doubles _ refl h
   storage crossTotal j h = storage-by crossTotal _ refl h
   storage check j h = absurd j
 
@@ -100,6 +101,7 @@ module _ (a : Area) where
     not-sound (deliver rs i) j b n = unsound-by (deliver rs i) _ refl refl n
     not-sound promote j b n = unsound-by promote _ refl refl n
     not-sound result j b n = unsound-by result _ refl refl n
+    not-sound doubles j b n = unsound-by doubles _ refl refl n
     not-sound crossTotal j b n = unsound-by crossTotal _ refl refl n
     not-sound check j b n = absurd j
 

@@ -22,8 +22,8 @@ use Rattle.machine.specs.Facts.{FirstToApply}
 use Rattle.machine.specs.Counts.{Counts}
 use Rattle.machine.specs.Means.{meanOf}
 use Rattle.writing.specs.ValidArea.{ValidArea}
-use Rattle.calls.specs.Replies.{refused, accepted, promotion, counts, total, verdict, lengthsOf}
-use Rattle.calls.specs.Table.{Call, start, point, points, deliver, promote, result, crossTotal, check, answer, row, causesOf, refusedAnswer, stateAfter}
+use Rattle.calls.specs.Replies.{refused, accepted, promotion, counts, doubled, total, verdict, lengthsOf}
+use Rattle.calls.specs.Table.{Call, start, point, points, deliver, promote, result, doubles, crossTotal, check, answer, row, causesOf, refusedAnswer, stateAfter}
 use Rattle.calls.specs.Calls.{callOn}
 
 -- Records past the last then held, and the cells past the last record, are as they were.
@@ -39,6 +39,7 @@ numbersOf (points n buffer) = 3 ∷ 4 ∷ 5 ∷ 9 ∷ []
 numbersOf (deliver rs i) = 3 ∷ 4 ∷ 5 ∷ 7 ∷ 8 ∷ []
 numbersOf promote = 3 ∷ 4 ∷ 6 ∷ []
 numbersOf result = 3 ∷ 4 ∷ []
+numbersOf doubles = 3 ∷ 4 ∷ []
 numbersOf crossTotal = 3 ∷ 4 ∷ []
 numbersOf check = []
 
@@ -54,6 +55,7 @@ InBlock a (points k buffer) n = ⊥
 InBlock a (deliver rs i) n = (recordAt (heldOf a) (firstWanted (entriesOf a)) .first ≤ n) × (n < recordAt (heldOf a) (firstWanted (entriesOf a)) .first + length rs)
 InBlock a promote n = ⊥
 InBlock a result n = ⊥
+InBlock a doubles n = ⊥
 InBlock a crossTotal n = ⊥
 InBlock a check n = ⊥
 

@@ -16,7 +16,7 @@ use Rattle.soundness.specs.Sound.{Sound, LongEnough}
 use Rattle.machine.specs.Log.{anyWanted, wantedIndex}
 use Rattle.machine.specs.Causes.{inRange}
 use Rattle.calls.specs.Replies.{refused}
-use Rattle.calls.specs.Table.{Call, start, point, points, deliver, promote, result, crossTotal, check}
+use Rattle.calls.specs.Table.{Call, start, point, points, deliver, promote, result, doubles, crossTotal, check}
 use Rattle.calls.specs.Calls.{callOn}
 
 abbrev pub RefusedBy : Area → Call → ℕ → Type 0
@@ -30,6 +30,7 @@ OnJob (points n buffer) = Unit {0}
 OnJob (deliver rs i) = Unit {0}
 OnJob promote = Unit {0}
 OnJob result = Unit {0}
+OnJob doubles = Unit {0}
 OnJob crossTotal = Unit {0}
 OnJob check = ⊥
 
@@ -41,6 +42,7 @@ BufferFits a (points n buffer) = a .job .settings .axes ≤ length buffer
 BufferFits a (deliver rs i) = Unit {0}
 BufferFits a promote = Unit {0}
 BufferFits a result = Unit {0}
+BufferFits a doubles = Unit {0}
 BufferFits a crossTotal = Unit {0}
 BufferFits a check = Unit {0}
 

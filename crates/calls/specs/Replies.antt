@@ -3,6 +3,7 @@ use mathlib.Core.Bool.{Bool}
 use Prim.Native.Nat.{ℕ}
 use lib.IntN.{ℤ}
 use lib.ListN.{length}
+use Rattle.doubles.specs.declared.Report.{Report}
 use Rattle.area.specs.Encoding.{Area}
 use Rattle.machine.specs.Promote.{Outcome, met, spent, promoted}
 use Rattle.machine.specs.Causes.{Lengths}
@@ -18,13 +19,14 @@ use Rattle.calls.specs.declared.TotalAnswer as summed
 use Rattle.calls.specs.declared.TotalAnswer.the-variants as totals
 
 -- A refusal has the number of its cause. Start, point and deliver are otherwise accepted; points says how many it wrote and how many the block
--- has; promote has its outcome, result its counts, cross total its total; check says yes or no.
+-- has; promote has its outcome, result its counts, doubles its report, cross total its total; check says yes or no.
 pub data Reply : Type 0 where
   refused : ℕ → Reply
   accepted : Reply
   wrote : (written size : ℕ) → Reply
   promotion : Outcome → Reply
   counts : Counts → Reply
+  doubled : Report → Reply
   total : ℤ → Reply
   verdict : Bool → Reply
 

@@ -17,7 +17,8 @@ use Rattle.machine.specs.Points.{pointsFitting, positionsOf, writtenOver}
 use Rattle.machine.specs.Causes.{Cause, Lengths, firstCause, short, jobCauses, startCauses, pointOwnCauses, pointBufferShort, deliverOwnCauses, promoteOwnCauses}
 use Rattle.machine.specs.Counts.{countsOf}
 use Rattle.machine.specs.Means.{crossOf}
-use Rattle.calls.specs.Replies.{Reply, refused, accepted, wrote, promotion, counts, total, verdict}
+use Rattle.counting.specs.Doubles.{doublesOf}
+use Rattle.calls.specs.Replies.{Reply, refused, accepted, wrote, promotion, counts, doubled, total, verdict}
 
 -- A call with its arguments. A call that is added later joins these.
 pub data Call : Type 0 where
@@ -27,6 +28,7 @@ pub data Call : Type 0 where
   deliver : (readings : List ℤ) (indicator : ℕ) → Call
   promote : Call
   result : Call
+  doubles : Call
   crossTotal : Call
   check : Call
 
@@ -106,6 +108,8 @@ row (deliver rs i) = withoutBuffer (λ l. deliverOwnCauses l rs) (λ m. becomes 
 row promote = withoutBuffer (λ l. promoteOwnCauses l) (λ m. promotionEffect (rule.promote (m .log) .outcome) (steps.promoteStep m)) (λ m. promotion (rule.promote (m .log) .outcome))
 -- **Result** gives the counts.
 row result = withoutBuffer (λ l. []) (λ m. unchanged) (λ m. counts (countsOf m))
+-- **Doubles** gives mean, pending error and largest delivered difference as doubles; it is refused as result is.
+row doubles = withoutBuffer (λ l. []) (λ m. unchanged) (λ m. doubled (doublesOf m))
 -- **Cross total**: the scaled mean worked out from the readings, as the combination sum.
 row crossTotal = withoutBuffer (λ l. []) (λ m. unchanged) (λ m. total (crossOf (m .log .entries)))
 -- **Check** answers yes exactly if the area is sound, and no to short storage.

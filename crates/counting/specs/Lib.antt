@@ -1,2 +1,3 @@
--- What the counts of the code stand for.
+-- What the counts of the code stand for, and the report of doubles.
 pub mod Answer
+pub mod Doubles

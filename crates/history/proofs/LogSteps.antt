@@ -8,7 +8,7 @@ use lib.Dec.{eqb}
 use Rattle.area.specs.Log.{Log, Machine}
 use Rattle.machine.specs.Promote as rule
 use Rattle.machine.specs.Steps as steps
-use Rattle.calls.specs.Table.{Call, start, point, points, deliver, promote, result, crossTotal, check, unchanged, row, effectOf, refusal, changed, stateAfter}
+use Rattle.calls.specs.Table.{Call, start, point, points, deliver, promote, result, doubles, crossTotal, check, unchanged, row, effectOf, refusal, changed, stateAfter}
 use Rattle.calls.proofs.Outcomes.{same-log}
 use Rattle.calls.proofs.Rows.{promote-effect}
 use Rattle.history.specs.LentCalls.{LentCall, lengthsLent}
@@ -56,6 +56,7 @@ log-facts =
       after-point = λ l x n buffer is. looks-only l x (point n buffer) is (unfold effectOf row in refl);
       after-points = λ l x n buffer is. looks-only l x (points n buffer) is (unfold effectOf row in refl);
       after-result = λ l x is. looks-only l x result is (unfold effectOf row in refl);
+      after-doubles = λ l x is. looks-only l x doubles is (unfold effectOf row in refl);
       after-cross = λ l x is. looks-only l x crossTotal is (unfold effectOf row in refl);
       after-check = λ l x is. looks-only l x check is (unfold effectOf row in refl);
       after-refusal = refused-step;

@@ -25,7 +25,7 @@ use Rattle.published.specs.Turns.{wantedOf, SettingsMatch, SuppliedSoFar}
 use Rattle.published.proofs.Problems.{posed-so-far, posed}
 use Rattle.published.proofs.Moments.{OnCourse, start-course, deliver-course, promote-course, course-simulates}
 use Rattle.published.proofs.Underway.{UnderwayNow, course-underway}
-use Rattle.calls.specs.Table.{Call, start, point, points, deliver, promote, result, crossTotal, check, row, causesOf, effectOf, refusal, changed, stateAfter}
+use Rattle.calls.specs.Table.{Call, start, point, points, deliver, promote, result, doubles, crossTotal, check, row, causesOf, effectOf, refusal, changed, stateAfter}
 use Rattle.calls.proofs.Rows.{promote-effect}
 use Rattle.history.specs.LentCalls.{LentCall, lengthsLent}
 use Rattle.history.specs.Source.{FollowsSoFar, StepsFollow, StepsFollowAll}
@@ -45,6 +45,7 @@ module _ (m : Machine) (f : MachineInvariant m) (c : OnCourse m) where
   moved-course z (deliver rs i) e = deliver-course m rs i (deliverable z true (m .log) rs e .wanted) (moved-fine m f z (deliver rs i) e .sound) c
   moved-course z promote e = subst OnCourse (sym (promote-effect m)) (promote-course m (f .sound) (promotable z true (m .log) e .free) c)
   moved-course z result e = c
+  moved-course z doubles e = c
   moved-course z crossTotal e = c
   moved-course z check e = c
 

@@ -16,7 +16,7 @@ use Rattle.encoding.specs.Entries.{SoundMachine}
 use Rattle.machine.specs.Means.{meanOf, crossOf}
 use Rattle.machine.specs.Causes.{Lengths, deliverCauses}
 use Rattle.machine.proofs.Means.{mean-facts}
-use Rattle.calls.specs.Table.{Call, start, point, points, deliver, promote, result, crossTotal, check, Effect, unchanged, becomes, row, causesOf, effectOf, refusal, changed, stateAfter}
+use Rattle.calls.specs.Table.{Call, start, point, points, deliver, promote, result, doubles, crossTotal, check, Effect, unchanged, becomes, row, causesOf, effectOf, refusal, changed, stateAfter}
 use Rattle.calls.proofs.Accepted.{deliverable}
 use Rattle.calls.proofs.Rows.{promote-effect}
 use Rattle.calls.proofs.Next.{Allowed, allowed}
@@ -43,6 +43,7 @@ moved-log m n e promote =
     ∙ unfold steps.promoteStep in ap (λ (l : Log). rule.promote l .log) e
     ∙ ap (λ (y : Machine). y .log) (sym (promote-effect n))
 moved-log m n e result = e
+moved-log m n e doubles = e
 moved-log m n e crossTotal = e
 moved-log m n e check = e
 
@@ -91,6 +92,7 @@ module _ (m : Machine) (f : MachineInvariant m) where
         ∙ sym (mean-facts .deliver m rs i (f .sound) (deliverable z true (m .log) rs e .wanted))
     mean-kept promote e = subst (λ (n : Machine). n .mean ≡ meanOf (n .log .entries)) (sym (promote-effect m)) (unfold steps.promoteStep in f .mean ∙ sym (mean-facts .promote m (f .sound)))
     mean-kept result e = f .mean
+    mean-kept doubles e = f .mean
     mean-kept crossTotal e = f .mean
     mean-kept check e = f .mean
 

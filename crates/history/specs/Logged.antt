@@ -12,7 +12,7 @@ use Rattle.machine.specs.Promote as rule
 use Rattle.machine.specs.Steps.{startLog, deliverLog}
 use Rattle.machine.specs.Causes.{Lengths}
 use Rattle.machine.specs.Means.{crossOf}
-use Rattle.calls.specs.Table.{Call, start, point, points, deliver, promote, result, crossTotal, check, Answer, refusal, answerOf, stateAfter}
+use Rattle.calls.specs.Table.{Call, start, point, points, deliver, promote, result, doubles, crossTotal, check, Answer, refusal, answerOf, stateAfter}
 use Rattle.history.specs.LentCalls.{LentCall, lengthsLent}
 
 -- The state that a log stands for. The mean is the combination sum over the delivered entries, from their readings; so result and cross
@@ -62,6 +62,7 @@ pub record LogFacts : Type 0 where
   pub after-point : (l : Log) (x : LentCall) (n : ℕ) (buffer : List ℕ) → x .call ≡ point n buffer → logStep l x ≡ l
   pub after-points : (l : Log) (x : LentCall) (n : ℕ) (buffer : List ℕ) → x .call ≡ points n buffer → logStep l x ≡ l
   pub after-result : (l : Log) (x : LentCall) → x .call ≡ result → logStep l x ≡ l
+  pub after-doubles : (l : Log) (x : LentCall) → x .call ≡ doubles → logStep l x ≡ l
   pub after-cross : (l : Log) (x : LentCall) → x .call ≡ crossTotal → logStep l x ≡ l
   pub after-check : (l : Log) (x : LentCall) → x .call ≡ check → logStep l x ≡ l
   pub after-refusal : (l : Log) (x : LentCall) → (AcceptedBy l x → ⊥) → logStep l x ≡ l

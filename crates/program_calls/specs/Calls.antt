@@ -9,8 +9,8 @@ use Rattle.machine.specs.Log.{anyWanted}
 use Rattle.machine.specs.Promote as rule
 use Rattle.machine.specs.Steps.{startLog}
 use Rattle.machine.specs.Causes.{Lengths}
-use Rattle.calls.specs.Replies.{Reply, refused, accepted, wrote, promotion, counts, total, verdict}
-use Rattle.calls.specs.Table.{Call, start, point, points, deliver, promote, result, crossTotal, check}
+use Rattle.calls.specs.Replies.{Reply, refused, accepted, wrote, promotion, counts, doubled, total, verdict}
+use Rattle.calls.specs.Table.{Call, start, point, points, deliver, promote, result, doubles, crossTotal, check}
 use Rattle.history.specs.LentCalls.{Part, LentCall, lengthsLent}
 use Rattle.history.specs.Logged.{logStep, logAfter, answerBy}
 use Rattle.history.specs.Source.{lendAll}
@@ -48,6 +48,7 @@ goesOn accepted = true
 goesOn (wrote n size) = false
 goesOn (promotion o) = goesOnAfter o
 goesOn (counts x) = false
+goesOn (doubled r) = false
 goesOn (total x) = false
 goesOn (verdict b) = false
 
@@ -80,6 +81,7 @@ nextEntry i (points n buffer) = i
 nextEntry i (deliver rs k) = i + 1
 nextEntry i promote = i
 nextEntry i result = i
+nextEntry i doubles = i
 nextEntry i crossTotal = i
 nextEntry i check = i
 

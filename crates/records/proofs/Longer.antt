@@ -23,7 +23,7 @@ use Rattle.machine.specs.Promote as rule
 use Rattle.machine.specs.Steps as steps
 use Rattle.machine.specs.Causes.{Lengths, firstCause, short, startCauses}
 use Rattle.calls.specs.Replies.{verdict, lengthsOf}
-use Rattle.calls.specs.Table.{Call, start, point, points, deliver, promote, result, crossTotal, check, Effect, unchanged, becomes, promotionEffect, JobRow, onJob, answer, row, causesOf, effectOf, passesCheck, acceptedAnswer, refusal}
+use Rattle.calls.specs.Table.{Call, start, point, points, deliver, promote, result, doubles, crossTotal, check, Effect, unchanged, becomes, promotionEffect, JobRow, onJob, answer, row, causesOf, effectOf, passesCheck, acceptedAnswer, refusal}
 use Rattle.calls.specs.Calls.{CallResult, areaAfter, refusalOn, callOn}
 use Rattle.calls.proofs.CauseCases.{acceptedCall, refusedCall, either, call-refuses}
 use Rattle.calls.proofs.ResultValues.{check-answer}
@@ -97,6 +97,7 @@ effect-few m h (deliver rs i) =
     omega (arith, h, length-set (m .log .entries) (firstWanted (m .log .entries)) (steps.delivered (entryAt (m .log .entries) (firstWanted (m .log .entries))) rs i))
 effect-few m h promote = outcome-few m h (rule.promote (m .log) .outcome)
 effect-few m h result = tt
+effect-few m h doubles = tt
 effect-few m h crossTotal = tt
 effect-few m h check = tt
 
@@ -199,5 +200,6 @@ module _ (a : Area) (more : List IndexRecord) (room : 512 ≤ length (a .run .re
   call-longer (deliver rs i) = job-longer (deliver rs i) _ refl
   call-longer promote = job-longer promote _ refl
   call-longer result = job-longer result _ refl
+  call-longer doubles = job-longer doubles _ refl
   call-longer crossTotal = job-longer crossTotal _ refl
   call-longer check = check-longer

@@ -23,7 +23,7 @@ use Rattle.machine.specs.Steps.{started}
 use Rattle.calls.specs.declared.Answer as code
 use Rattle.calls.specs.declared.Answer.the-variants as answers
 use Rattle.calls.specs.declared.CallOutput.{CallOutput}
-use Rattle.calls.specs.Replies.{Reply, refused, accepted, wrote, promotion, counts, total, verdict, replyOf}
+use Rattle.calls.specs.Replies.{Reply, refused, accepted, wrote, promotion, counts, doubled, total, verdict, replyOf}
 use Rattle.calls.specs.Table.{start, answer, row, causesOf, effectOf, acceptedAnswer, refusedAnswer, refusal}
 use Rattle.calls.specs.Calls.{CallResult, areaAfter, refusalOn, callOn}
 use Rattle.calls.proofs.CauseCases.{acceptedCall, refusedCall, either}
@@ -42,6 +42,7 @@ way accepted = 1
 way (wrote w n) = 2
 way (promotion o) = 2
 way (counts c) = 2
+way (doubled r) = 2
 way (total x) = 2
 way (verdict b) = 2
 

@@ -17,7 +17,7 @@ use Rattle.machine.specs.Promote.{met, spent}
 use Rattle.calls.specs.declared.Answer as code
 use Rattle.calls.specs.declared.Answer.the-variants as answers
 use Rattle.calls.specs.declared.CallOutput.{CallOutput}
-use Rattle.calls.specs.Replies.{Reply, refused, accepted, wrote, promotion, counts, total, verdict, replyOf}
+use Rattle.calls.specs.Replies.{Reply, refused, accepted, wrote, promotion, counts, doubled, total, verdict, replyOf}
 use Rattle.calls.specs.Table.{Call, deliver, Row, anyArea, onJob, row, acceptedAnswer, refusedAnswer}
 use Rattle.calls.specs.Calls.{CallResult, refusalOn, callOn}
 use Rattle.calls.proofs.CauseCases.{acceptedCall, call-ways}
@@ -97,6 +97,7 @@ outcomes accepted = 0
 outcomes (wrote w n) = 0
 outcomes (promotion o) = 1
 outcomes (counts c) = 0
+outcomes (doubled r) = 0
 outcomes (total x) = 0
 outcomes (verdict b) = 0
 

@@ -8,7 +8,7 @@ use Rattle.area.specs.Encoding.{Area, areaOf}
 use Rattle.calls.specs.declared.Answer as code
 use Rattle.calls.specs.declared.Answer.the-variants as answers
 use Rattle.calls.specs.declared.CallOutput.{CallOutput}
-use Rattle.calls.specs.Replies.{Reply, refused, accepted, wrote, promotion, counts, total, verdict, replyOf}
+use Rattle.calls.specs.Replies.{Reply, refused, accepted, wrote, promotion, counts, doubled, total, verdict, replyOf}
 use Rattle.calls.specs.Table.{Call}
 use Rattle.calls.specs.Calls.{CallResult, callOn, callResultOf}
 use Rattle.calls.proofs.Facts.{call-facts}
@@ -49,5 +49,6 @@ refused-number accepted f = absurd (f refl)
 refused-number (wrote n size) f = absurd (f refl)
 refused-number (promotion o) f = absurd (f refl)
 refused-number (counts c) f = absurd (f refl)
+refused-number (doubled r) f = absurd (f refl)
 refused-number (total x) f = absurd (f refl)
 refused-number (verdict b) f = absurd (f refl)

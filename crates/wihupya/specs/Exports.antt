@@ -8,7 +8,7 @@ use mir.Syntax.{w64}
 use mir.Val.{ofZ}
 use Rattle.area.specs.Records.{Run}
 use Rattle.machine.specs.Promote.{Outcome, met, spent, promoted}
-use Rattle.calls.specs.Replies.{Reply, refused, accepted, wrote, promotion, counts, total, verdict}
+use Rattle.calls.specs.Replies.{Reply, refused, accepted, wrote, promotion, counts, doubled, total, verdict}
 use Rattle.calls.specs.Calls.{CallResult}
 use Rattle.wihupya.specs.Words.{lowWord, highWord, wordsOf}
 
@@ -18,6 +18,7 @@ numberOf accepted = 0
 numberOf (wrote written size) = 0
 numberOf (promotion o) = 0
 numberOf (counts c) = 0
+numberOf (doubled r) = 0
 numberOf (total x) = 0
 numberOf (verdict b) = 0
 
@@ -37,6 +38,7 @@ pointsAfter accepted w = w
 pointsAfter (wrote written size) w = written ∷ size ∷ []
 pointsAfter (promotion o) w = w
 pointsAfter (counts c) w = w
+pointsAfter (doubled r) w = w
 pointsAfter (total x) w = w
 pointsAfter (verdict b) w = w
 
@@ -53,6 +55,7 @@ outcomeAfter accepted w = w
 outcomeAfter (wrote written size) w = w
 outcomeAfter (promotion o) w = outcomeWord o ∷ []
 outcomeAfter (counts c) w = w
+outcomeAfter (doubled r) w = w
 outcomeAfter (total x) w = w
 outcomeAfter (verdict b) w = w
 
@@ -74,6 +77,7 @@ countsAfter (counts c) w =
     ∷ c .reserved
     ∷ c .ceiling
     ∷ []
+countsAfter (doubled r) w = w
 countsAfter (total x) w = w
 countsAfter (verdict b) w = w
 
@@ -84,5 +88,6 @@ totalAfter accepted w = w
 totalAfter (wrote written size) w = w
 totalAfter (promotion o) w = w
 totalAfter (counts c) w = w
+totalAfter (doubled r) w = w
 totalAfter (total x) w = lowWord (ofZ w64 x) ∷ highWord (ofZ w64 x) ∷ []
 totalAfter (verdict b) w = w
