@@ -2,3 +2,4 @@
 pub mod Tallies
 pub mod Heads
 pub mod Cross
+pub mod Doubles

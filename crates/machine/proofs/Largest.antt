@@ -121,8 +121,12 @@ module _ (es : List Entry) where
       empty [] f = unfold largestDifference in refl
       empty (k ∷ ks) f = absurd (f (omega arith))
 
+  -- the list of the delivered is empty if no place is delivered
+  pub none-delivered : ((p : ℕ) → DeliveredAt es p → ⊥) → 0 < length (deliveredOf es) → ⊥
+  none-delivered f h = f (place-of es 0 h .place) (place-of es 0 h .there)
+
   none : ((p : ℕ) → DeliveredAt es p → ⊥) → largestOf es ≡ pos 0
-  none f = none-of (λ h. f (place-of es 0 h .place) (place-of es 0 h .there))
+  none f = none-of (none-delivered f)
 
 small : (m : Machine) → SoundMachine m → natAbs (largestOf (m .log .entries)) ≤ 2 ^ 40
 small m sound = by (decLt 0 (length (deliveredOf es)))
