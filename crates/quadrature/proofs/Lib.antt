@@ -12,6 +12,7 @@ pub mod Raised
 pub mod Delivered
 pub mod Subsets
 pub mod Totals
+pub mod Largest
 pub mod Encoded
 pub mod Required
 pub mod Facts

@@ -1,5 +1,5 @@
-// Numbers over storage: the difference of an index, its full tensor rule, its combination coefficient, the sum of differences, and
-// the sum of coefficient times full tensor rule, which is the same mean worked out another way.
+// Numbers over storage: the difference of an index, its full tensor rule, its combination coefficient, the sum of differences, the
+// largest of them, and the sum of coefficient times full tensor rule, which is the same mean worked out another way.
 // An index is reached along forward links, from the root or, for a coefficient, from the index itself: in a sound area they name
 // every held neighbour.
 ghost use mathlib.Core.Path.{_≡_};
@@ -10,6 +10,7 @@ ghost use Rattle.rule.specs.Points.{newCount};
 ghost use Rattle.grid.specs.Index.{level as levelOf, Within};
 ghost use Rattle.grid.specs.Terms.{IsReading};
 ghost use Rattle.grid.specs.Difference.{units, scaledDifference, scaledMean};
+ghost use Rattle.grid.specs.Largest.{largestDifference};
 ghost use Rattle.grid.specs.Tensor.{tensorSum, tensorRule};
 ghost use Rattle.grid.specs.Coefficient.{raisedOn, marks, coefficient as coefficientOf};
 ghost use Rattle.grid.specs.Cross.{crossTotal};
@@ -315,6 +316,38 @@ pub fn difference_total(axes: usize, held: usize, cells: &[u32], store: &[i32]) 
         place += 1;
     }
     total
+}
+
+// The size of a number. Below 0 it is taken from -1 - z, since -z does not fit where z is the least number.
+fn size_of(z: i64) -> u64
+    ensures { λ r. ⌜ r ≡ natAbs z ⌝ }
+{
+    if z < 0 {
+        let below = (-1 - z) as u64;
+        below + 1
+    } else {
+        z as u64
+    }
+}
+
+// The largest difference of the delivered indices among the held, times 2^20: largest in size, with its sign, of the lowest place
+// among equals. It goes from the last place down, so that an equal one at a lower place takes over; the 0 of a wanted index takes
+// over only from 0. Whole numbers only: no double is ever compared.
+pub fn largest_difference(axes: usize, held: usize, cells: &[u32], store: &[i32]) -> i64
+    requires { ⌜ AllReady axes held (recordsOf (now cells)) (now store) ⌝ }
+    ensures is { λ r. ⌜ r ≡ largestDifference (deliveredIn (heldIn (now (cells .entry)) held)) (storedReading (recordsOf (now (cells .entry))) (now (store .entry))) ⌝ }
+    ensures small { λ r. ⌜ natAbs r ≤ 2 ^ 40 ⌝ }
+{
+    let mut largest: i64 = 0;
+    let mut place = held;
+    while 0 < place {
+        place -= 1;
+        let difference = delivered_difference(axes, place, cells, store);
+        if size_of(largest) <= size_of(difference) {
+            largest = difference;
+        }
+    }
+    largest
 }
 
 // The full tensor rule of the index at a place, times its combination coefficient and 2^20; 0 while the index is wanted.
