@@ -10,8 +10,10 @@ use Rattle.grid.specs.Difference.{scaledDifference, scaledMean}
 use Rattle.grid.specs.Tensor.{tensorRule}
 use Rattle.grid.specs.Coefficient.{coefficient}
 use Rattle.grid.specs.Cross.{crossTotal}
+use Rattle.grid.specs.Largest.{largestDifference}
 use Rattle.grid.specs.Terms.{Agree}
 use Rattle.grid.proofs.Facts.{difference-facts}
+use Rattle.grid.proofs.Largest.{largest-facts}
 use Rattle.area.specs.declared.JobRecord.{JobRecord}
 use Rattle.area.specs.Records.{recordsOf, heldIn}
 use Rattle.area.specs.Entry.{deliveredOf, readingIn}
@@ -61,6 +63,13 @@ module _ (j : JobRecord) (c : List ℕ) (s : List ℤ) where
       sumOf-cong-in J (λ k. coefficient J k *ℤ tensorRule k (storedReading (recordsOf c) s)) (λ k. coefficient J k *ℤ tensorRule k (readingIn (entriesOf (areaOf j c s)))) (λ k m. ap (λ x. coefficient J k *ℤ x) (tensor-same d k (w k m)))
       ∙ ap (λ K. crossTotal K (readingIn (entriesOf (areaOf j c s)))) delivered-entries
 
+  largest-same : (d : ℕ) → ((k : List ℕ) → List·Memᴰ k (deliveredIn (heldIn c (j .held))) → Ready d (heldIn c (j .held)) s k)
+      → largestDifference (deliveredIn (heldIn c (j .held))) (storedReading (recordsOf c) s)
+      ≡ largestDifference (deliveredOf (entriesOf (areaOf j c s))) (readingIn (entriesOf (areaOf j c s)))
+  largest-same d w =
+      largest-facts .only (deliveredIn (heldIn c (j .held))) (storedReading (recordsOf c) s) (readingIn (entriesOf (areaOf j c s))) (λ k m. agree d k (w k m))
+      ∙ ap (λ J. largestDifference J (readingIn (entriesOf (areaOf j c s)))) delivered-entries
+
   pub entry-facts : EntryFacts j c s
   entry-facts =
       record {
@@ -71,4 +80,5 @@ module _ (j : JobRecord) (c : List ℕ) (s : List ℤ) where
         tensor = tensor-same;
         mean = mean-same;
         cross = cross-same;
+        largest = largest-same;
       }

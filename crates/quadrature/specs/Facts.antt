@@ -7,6 +7,7 @@ use Rattle.grid.specs.Index.{root}
 use Rattle.grid.specs.Difference.{scaledDifference, scaledMean}
 use Rattle.grid.specs.Tensor.{tensorRule}
 use Rattle.grid.specs.Cross.{crossTotal}
+use Rattle.grid.specs.Largest.{largestDifference}
 use Rattle.grid.specs.Terms.{Agree, IsReading}
 use Rattle.area.specs.declared.JobRecord.{JobRecord}
 use Rattle.area.specs.Records.{recordsOf, heldIn}
@@ -38,6 +39,10 @@ pub record EntryFacts (j : JobRecord) (c : List ℕ) (s : List ℤ) : Type 0 whe
   pub cross : (d : ℕ) → ((k : List ℕ) → List·Memᴰ k (deliveredIn (heldIn c (j .held))) → Ready d (heldIn c (j .held)) s k)
       → crossTotal (deliveredIn (heldIn c (j .held))) (storedReading (recordsOf c) s)
       ≡ crossTotal (deliveredOf (entriesOf (areaOf j c s))) (readingIn (entriesOf (areaOf j c s)))
+  -- and the largest difference is that of the entries
+  pub largest : (d : ℕ) → ((k : List ℕ) → List·Memᴰ k (deliveredIn (heldIn c (j .held))) → Ready d (heldIn c (j .held)) s k)
+      → largestDifference (deliveredIn (heldIn c (j .held))) (storedReading (recordsOf c) s)
+      ≡ largestDifference (deliveredOf (entriesOf (areaOf j c s))) (readingIn (entriesOf (areaOf j c s)))
 
 -- The entries of a job whose root is delivered, and nothing else is held.
 unfoldable pub rootAlone : ℤ → List Entry
