@@ -63,12 +63,14 @@ module _ (h : ℕ) (rs : List IndexRecord) (s : List ℤ) where
     unfolding deliveredDifference
     step = ap (λ ks. largestDifference (deliveredIn ks) (storedReading rs s)) front ∙ in-front (recordAt rs (p - 1)) (drop p (take h rs))
 
-    -- `a` is the largest so far, `d` the difference in front of it
-    module _ (a d : ℤ) (so-far : a ≡ largestFrom p) (is : d ≡ deliveredDifference rs s (p - 1)) where
+    -- `a` is the largest so far and m its size, `d` the difference in front of it and n its size
+    module _ (a d : ℤ) (m n : ℕ) (so-far : a ≡ largestFrom p) (is : d ≡ deliveredDifference rs s (p - 1)) (a-size : m ≡ natAbs a) (d-size : n ≡ natAbs d) where
       -- it takes over where it is as large
-      pub largest-new : natAbs a ≤ natAbs d → d ≡ largestFrom (p - 1)
-      largest-new q = is ∙ sym (step ∙ larger-first (deliveredDifference rs s (p - 1)) (largestFrom p) (omega (arith, ap natAbs so-far, ap natAbs is, q)))
+      pub largest-new : m ≤ n → d ≡ largestFrom (p - 1)
+      largest-new q =
+          is ∙ sym (step ∙ larger-first (deliveredDifference rs s (p - 1)) (largestFrom p) (omega (arith, ap natAbs so-far, ap natAbs is, a-size, d-size, q)))
 
-      pub largest-kept : natAbs d < natAbs a → a ≡ largestFrom (p - 1)
+      pub largest-kept : n < m → a ≡ largestFrom (p - 1)
       largest-kept q =
-          so-far ∙ sym (step ∙ larger-second (deliveredDifference rs s (p - 1)) (largestFrom p) (omega (arith, ap natAbs so-far, ap natAbs is, q)))
+          so-far
+          ∙ sym (step ∙ larger-second (deliveredDifference rs s (p - 1)) (largestFrom p) (omega (arith, ap natAbs so-far, ap natAbs is, a-size, d-size, q)))

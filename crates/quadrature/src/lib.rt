@@ -343,7 +343,9 @@ pub fn largest_difference(axes: usize, held: usize, cells: &[u32], store: &[i32]
     while 0 < place {
         place -= 1;
         let difference = delivered_difference(axes, place, cells, store);
-        if size_of(largest) <= size_of(difference) {
+        let so_far = size_of(largest);
+        let here = size_of(difference);
+        if so_far <= here {
             largest = difference;
         }
     }

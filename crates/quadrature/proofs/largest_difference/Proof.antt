@@ -51,8 +51,8 @@ loop-again c =
       omega arith,
       omega (arith, ap natAbs e, d .ensures .1),
       largest-new (s .args .held) (recordsOf (now (s .args .cells))) (now (s .args .store)) (s .pre .room) (l .place) (l .inv .0) (omega arith)
-          (toZ w64 (l .largest)) (toZ w64 (ofZ w64 (d .result))) (l .inv .2) (e ∙ d .ensures .0)
-          (omega (arith, c .before .before .size-of .ensures, c .before .size-of2 .ensures, c .if1 .taken)),
+          (toZ w64 (l .largest)) (toZ w64 (ofZ w64 (d .result))) (c .before .before .size-of .result) (c .before .size-of2 .result) (l .inv .2) (e ∙ d .ensures .0)
+          (c .before .before .size-of .ensures) (c .before .size-of2 .ensures) (omega arith),
     )
 
 loop-less-2 : tie.Need-loop-less-2 Inv-loop μ-loop
@@ -67,8 +67,8 @@ loop-again-2 c =
       omega arith,
       l .inv .1,
       largest-kept (s .args .held) (recordsOf (now (s .args .cells))) (now (s .args .store)) (s .pre .room) (l .place) (l .inv .0) (omega arith)
-          (toZ w64 (l .largest)) (toZ w64 (ofZ w64 (d .result))) (l .inv .2) (e ∙ d .ensures .0)
-          (omega (arith, c .before .before .size-of .ensures, c .before .size-of2 .ensures, c .if1 .left)),
+          (toZ w64 (l .largest)) (toZ w64 (ofZ w64 (d .result))) (c .before .before .size-of .result) (c .before .size-of2 .result) (l .inv .2) (e ∙ d .ensures .0)
+          (c .before .before .size-of .ensures) (c .before .size-of2 .ensures) (omega arith),
     )
 
 returns : tie.Need-returns Inv-loop μ-loop
