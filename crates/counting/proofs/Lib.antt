@@ -2,4 +2,5 @@
 pub mod Tallies
 pub mod Heads
 pub mod Cross
-pub mod Doubles
+pub mod Reported
+pub mod NothingLost

@@ -1,4 +1,4 @@
-// Result and cross total on an area that is known to be sound. The public calls are those of the crate `calls`.
+// Result, doubles and cross total on an area that is known to be sound. The public calls are those of the crate `calls`.
 ghost use mathlib.Core.Path.{_≡_};
 ghost use Prim.Native.Nat.{ℕ, _*_, _<_, _≤_};
 ghost use lib.ListN.{length};
@@ -11,6 +11,7 @@ ghost use Rattle.machine.specs.Means.{crossOf};
 ghost use Rattle.writing.specs.Heads.{headsOf};
 ghost use Rattle.writing.specs.ValidArea.{ValidArea};
 ghost use Rattle.counting.specs.Answer.{countsIn};
+ghost use Rattle.counting.specs.Doubles.{doublesOf};
 
 pub struct Counts {
     pub old: u32,
@@ -75,6 +76,17 @@ pub fn result(job: area::JobRecord, cells: &[u32], store: &[i32]) -> Counts
         mean: job.mean,
         ceiling,
     }
+}
+
+// The report of doubles of an area: the recorded mean and pending error, and the largest delivered difference, worked out from the readings.
+pub fn doubles(job: area::JobRecord, cells: &[u32], store: &[i32]) -> doubles::Report
+    requires { ⌜ ValidArea (areaOf job (now cells) (now store)) ⌝ }
+    ensures { λ r. ⌜ r ≡ doublesOf (machineOf (areaOf job (now (cells .entry)) (now (store .entry)))) ⌝ }
+{
+    let axes = job.settings.axes as usize;
+    let held = job.held as usize;
+    let largest = quadrature::largest_difference(axes, held, cells, store);
+    doubles::report_of(job.mean, job.pending, largest)
 }
 
 // The cross total of an area: its mean as worked from the readings, whatever mean is recorded.
