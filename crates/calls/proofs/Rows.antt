@@ -20,8 +20,9 @@ use Rattle.machine.specs.Causes.{firstCause, startCauses, pointCauses, deliverC
 use Rattle.machine.specs.Areas.{startOn, deliverOn, changedBy, promoteOn}
 use Rattle.machine.specs.Counts.{countsOf}
 use Rattle.machine.specs.Means.{crossOf}
-use Rattle.calls.specs.Replies.{refused, accepted, wrote, promotion, counts, total, lengthsOf}
-use Rattle.calls.specs.Table.{start, point, points, deliver, promote, result, crossTotal, answer, promotionEffect, row, causesOf, effectOf, acceptedAnswer, refusedAnswer, refusal, changed}
+use Rattle.counting.specs.Doubles.{doublesOf}
+use Rattle.calls.specs.Replies.{refused, accepted, wrote, promotion, counts, doubled, total, lengthsOf}
+use Rattle.calls.specs.Table.{start, point, points, deliver, promote, result, doubles, crossTotal, answer, promotionEffect, row, causesOf, effectOf, acceptedAnswer, refusedAnswer, refusal, changed}
 use Rattle.calls.specs.Calls.{CallResult, areaAfter, callOn}
 use Rattle.calls.proofs.Outcomes.{same-log}
 use Rattle.calls.proofs.CauseCases.{call-accepts, call-refuses}
@@ -108,6 +109,14 @@ module _ (a : Area) (m : ℕ) (is : m ≡ firstCause (resultCauses (lengthsOf a)
   pub result-accepts : m ≡ 0 → answer (counts (countsOf (machineOf a))) ≡ callOn a result .answer
   unfolding row causesOf refusal acceptedAnswer resultCauses
   result-accepts e = ap (λ (x : CallResult). x .answer) (call-accepts a result m is e)
+
+  pub doubles-refuses : (m ≡ 0 → ⊥) → answer (refused m) ≡ callOn a doubles .answer
+  unfolding row causesOf refusal refusedAnswer resultCauses
+  doubles-refuses f = ap (λ (x : CallResult). x .answer) (call-refuses a doubles m is f)
+
+  pub doubles-accepts : m ≡ 0 → answer (doubled (doublesOf (machineOf a))) ≡ callOn a doubles .answer
+  unfolding row causesOf refusal acceptedAnswer resultCauses
+  doubles-accepts e = ap (λ (x : CallResult). x .answer) (call-accepts a doubles m is e)
 
   pub cross-refuses : (m ≡ 0 → ⊥) → answer (refused m) ≡ callOn a crossTotal .answer
   unfolding row causesOf refusal refusedAnswer resultCauses

@@ -49,6 +49,6 @@ deliverCause a rs = firstCause (deliverCauses (lengthsOf a) (isSound a) (machine
 abbrev pub promoteCause : Area → ℕ
 promoteCause a = firstCause (promoteCauses (lengthsOf a) (isSound a) (machineOf a .log))
 
--- Result and cross total ask for storage and area alone.
+-- Result, doubles and cross total ask for storage and area alone.
 abbrev pub areaCause : Area → ℕ
 areaCause a = firstCause (resultCauses (lengthsOf a) (isSound a) (machineOf a .log))

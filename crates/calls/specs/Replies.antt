@@ -15,6 +15,8 @@ use Rattle.calls.specs.declared.PointsAnswer as pointed
 use Rattle.calls.specs.declared.PointsAnswer.the-variants as pointeds
 use Rattle.calls.specs.declared.ResultAnswer as coded
 use Rattle.calls.specs.declared.ResultAnswer.the-variants as results
+use Rattle.calls.specs.declared.Doubled as reported
+use Rattle.calls.specs.declared.Doubled.the-variants as reports
 use Rattle.calls.specs.declared.TotalAnswer as summed
 use Rattle.calls.specs.declared.TotalAnswer.the-variants as totals
 
@@ -44,6 +46,10 @@ replyOfPoints (pointeds.Wrote c) = wrote (c .written) (c .size)
 unfoldable pub replyOfResult : coded.ResultAnswer → Reply
 replyOfResult (results.Refused n) = refused n
 replyOfResult (results.Counted c) = counts (countsIn c)
+
+unfoldable pub replyOfDoubles : reported.Doubled → Reply
+replyOfDoubles (reports.Refused n) = refused n
+replyOfDoubles (reports.Reported r) = doubled r
 
 unfoldable pub replyOfTotal : summed.TotalAnswer → Reply
 replyOfTotal (totals.Refused n) = refused n

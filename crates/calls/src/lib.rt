@@ -1,11 +1,11 @@
-// The calls start, point, points, deliver, promote, result and cross total. Each first looks for a cause to refuse; a refused call changes
-// nothing.
+// The calls start, point, points, deliver, promote, result, doubles and cross total. Each first looks for a cause to refuse; a refused call
+// changes nothing.
 ghost use mathlib.Core.Path.{_≡_};
 ghost use Rattle.area.specs.Encoding.{areaOf};
 ghost use Rattle.machine.specs.Causes.{firstCause, inRange, startCauses};
 ghost use Rattle.promotion.specs.Outcomes.{outcomeOf};
-ghost use Rattle.calls.specs.Replies.{promotion as outcomeReply, replyOf, replyOfPoints, replyOfResult, replyOfTotal};
-ghost use Rattle.calls.specs.Table.{start, point, points, deliver, promote, result, crossTotal, answer};
+ghost use Rattle.calls.specs.Replies.{promotion as outcomeReply, replyOf, replyOfPoints, replyOfResult, replyOfDoubles, replyOfTotal};
+ghost use Rattle.calls.specs.Table.{start, point, points, deliver, promote, result, doubles, crossTotal, answer};
 ghost use Rattle.calls.specs.Calls.{callOn, callResultOf, pointCause, deliverCause, promoteCause, areaCause};
 
 // What a call answers; `Refused` carries the number of the cause.
@@ -33,6 +33,12 @@ pub enum PointsAnswer {
 pub enum ResultAnswer {
     Refused(u32),
     Counted(counting::Counts),
+}
+
+// The answer of doubles.
+pub enum Doubled {
+    Refused(u32),
+    Reported(doubles::Report),
 }
 
 // Cross total's answer.
@@ -286,6 +292,17 @@ pub fn result(job: area::JobRecord, cells: &[u32], store: &[i32]) -> ResultAnswe
         return ResultAnswer::Refused(cause);
     }
     ResultAnswer::Counted(counting::result(job, cells, store))
+}
+
+// The report of doubles of the area.
+pub fn doubles(job: area::JobRecord, cells: &[u32], store: &[i32]) -> Doubled
+    ensures { λ r. ⌜ answer (replyOfDoubles r) ≡ callOn (areaOf job (now (cells .entry)) (now (store .entry))) doubles .answer ⌝ }
+{
+    let cause = area_cause(job, cells, store);
+    if cause != 0 {
+        return Doubled::Refused(cause);
+    }
+    Doubled::Reported(counting::doubles(job, cells, store))
 }
 
 // The scaled mean worked out from the readings, whatever mean is recorded.
