@@ -1,9 +1,10 @@
 -- What an exported call leaves: a number, 0 if it was not refused and else the number of the cause; the job record's words, the cells'
--- records and rest, and the store. Points, promote, result and cross total write their answer into words of their own, which a refusal
--- leaves.
+-- records and rest, and the store. Points, promote, result and cross total write their answer into words of their own, doubles into
+-- three doubles, which a refusal leaves.
 use mathlib.Core.List.{List, [], _∷_}
 use Prim.Native.Nat.{ℕ}
 use lib.IntN.{ℤ}
+use lib.Ieee.{Float}
 use mir.Syntax.{w64}
 use mir.Val.{ofZ}
 use Rattle.area.specs.Records.{Run}
@@ -91,3 +92,14 @@ totalAfter (counts c) w = w
 totalAfter (doubled r) w = w
 totalAfter (total x) w = lowWord (ofZ w64 x) ∷ highWord (ofZ w64 x) ∷ []
 totalAfter (verdict b) w = w
+
+-- The three doubles after doubles: mean, pending error and largest delivered difference.
+unfoldable pub doublesAfter : Reply → List Float → List Float
+doublesAfter (refused n) d = d
+doublesAfter accepted d = d
+doublesAfter (wrote written size) d = d
+doublesAfter (promotion o) d = d
+doublesAfter (counts c) d = d
+doublesAfter (doubled r) d = r .mean ∷ r .pending ∷ r .largest ∷ []
+doublesAfter (total x) d = d
+doublesAfter (verdict b) d = d

@@ -11,11 +11,11 @@ ghost use Rattle.area.specs.Encoding.{areaOf};
 ghost use Rattle.soundness.specs.Clauses.{checked};
 ghost use Rattle.area.specs.Records.{runOf};
 ghost use Rattle.counting.specs.Answer.{countsIn};
-ghost use Rattle.calls.specs.Replies.{wrote, counts as countsReply, total as totalReply, replyOf};
-ghost use Rattle.calls.specs.Table.{start, point, points, deliver, promote, result, crossTotal};
+ghost use Rattle.calls.specs.Replies.{wrote, counts as countsReply, doubled as doubledReply, total as totalReply, replyOf};
+ghost use Rattle.calls.specs.Table.{start, point, points, deliver, promote, result, doubles, crossTotal};
 ghost use Rattle.calls.specs.Calls.{callOn};
 ghost use Rattle.wihupya.specs.Words.{jobOf, lowWord, highWord, wordsOf};
-ghost use Rattle.wihupya.specs.Exports.{numberOf, exported, pointsAfter, outcomeAfter, countsAfter, totalAfter};
+ghost use Rattle.wihupya.specs.Exports.{numberOf, exported, pointsAfter, outcomeAfter, countsAfter, totalAfter, doublesAfter};
 
 // Two words as a 64-bit number.
 fn wide(low: u32, high: u32) -> u64
@@ -156,6 +156,17 @@ fn count_words(counts: counting::Counts) -> [u32; 9]
     words[7] = counts.reserved;
     words[8] = counts.ceiling;
     words
+}
+
+// A report as three doubles.
+fn three_doubles(found: doubles::Report) -> [f64; 3]
+    ensures { λ r. ⌜ r ≡ doublesAfter (doubledReply found) [] ⌝ }
+{
+    let mut report = [0.0f64; 3];
+    report[0] = found.mean;
+    report[1] = found.pending;
+    report[2] = found.largest;
+    report
 }
 
 // A total as two words.
@@ -308,6 +319,26 @@ pub extern "C" fn wihupya_result(
         calls::ResultAnswer::Refused(number) => number,
         calls::ResultAnswer::Counted(found) => {
             *counts = count_words(found);
+            0
+        }
+    }
+}
+
+// The mean, the pending error and the largest delivered difference as doubles.
+#[no_mangle]
+pub extern "C" fn wihupya_doubles(
+    job: &[u32; 10],
+    report: &mut [f64; 3],
+    cells: &[u32],
+    store: &[i32],
+) -> u32
+    ensures { λ r. ⌜ (r ≡ numberOf (callOn (areaOf (jobOf (now (job .entry))) (now (cells .entry)) (now (store .entry))) doubles .answer .reply)) × (now (report .exit) ≡ doublesAfter (callOn (areaOf (jobOf (now (job .entry))) (now (cells .entry)) (now (store .entry))) doubles .answer .reply) (now (report .entry))) ⌝ }
+{
+    let doubled = calls::doubles(job_of(job), cells, store);
+    match doubled {
+        calls::Doubled::Refused(number) => number,
+        calls::Doubled::Reported(found) => {
+            *report = three_doubles(found);
             0
         }
     }
