@@ -6,8 +6,8 @@ ghost use Prim.Native.Nat.{_*_, _<_, _≤_};
 ghost use lib.ListN.{length, getD, set, take};
 ghost use Rattle.area.specs.Records.{recordsOf, runOf, blank};
 ghost use Rattle.soundness.specs.Clauses.{checked};
-ghost use Rattle.calls.specs.Replies.{replyOf, replyOfPoints, replyOfResult, replyOfTotal};
-ghost use Rattle.calls.specs.Table.{start, point, points, deliver, promote, result, crossTotal, answer};
+ghost use Rattle.calls.specs.Replies.{replyOf, replyOfPoints, replyOfResult, replyOfDoubles, replyOfTotal};
+ghost use Rattle.calls.specs.Table.{start, point, points, deliver, promote, result, doubles, crossTotal, answer};
 ghost use Rattle.calls.specs.Calls.{callOn};
 ghost use Rattle.records.specs.Lent.{areaOn, callResultOn, min, over, overRun, front, storedBy, StartedOver};
 
@@ -220,6 +220,14 @@ fn flat_result(job: area::JobRecord, flat: Flat, store: &[i32]) -> calls::Result
     calls::result(job, &words[..flat.count * 27], store)
 }
 
+fn flat_doubles(job: area::JobRecord, flat: Flat, store: &[i32]) -> calls::Doubled
+    requires { ⌜ flat .count ≤ 512 ⌝ }
+    ensures { λ r. ⌜ answer (replyOfDoubles r) ≡ callOn (areaOn job (front (flat .count) (flat .words)) (now (store .entry))) doubles .answer ⌝ }
+{
+    let words = flat.words;
+    calls::doubles(job, &words[..flat.count * 27], store)
+}
+
 fn flat_cross_total(job: area::JobRecord, flat: Flat, store: &[i32]) -> calls::TotalAnswer
     requires { ⌜ flat .count ≤ 512 ⌝ }
     ensures { λ r. ⌜ answer (replyOfTotal r) ≡ callOn (areaOn job (front (flat .count) (flat .words)) (now (store .entry))) crossTotal .answer ⌝ }
@@ -321,6 +329,14 @@ pub fn result(
 {
     let flat = flatten(records);
     flat_result(job, flat, store)
+}
+
+// The report of doubles of the area.
+pub fn doubles(job: area::JobRecord, records: &[area::IndexRecord], store: &[i32]) -> calls::Doubled
+    ensures { λ r. ⌜ answer (replyOfDoubles r) ≡ callOn (areaOn job (now (records .entry)) (now (store .entry))) doubles .answer ⌝ }
+{
+    let flat = flatten(records);
+    flat_doubles(job, flat, store)
 }
 
 // The scaled mean worked out from the readings, whatever mean is recorded.
