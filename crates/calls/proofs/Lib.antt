@@ -18,3 +18,4 @@ pub mod StepEffects
 pub mod Facts
 pub mod OwnCases
 pub mod PointsWritten
+pub mod ReportTold

@@ -5,3 +5,4 @@ pub mod Calls
 pub mod Facts
 pub mod OwnCases
 pub mod Points
+pub mod Doubles

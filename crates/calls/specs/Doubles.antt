@@ -1,0 +1,37 @@
+-- What doubles tells of any area that does not refuse it, altered or not.
+use mathlib.Core.Path.{_≡_}
+use Prim.Native.Nat.{ℕ, _^_, _<_, _≤_}
+use lib.IntN.{pos, natAbs}
+use lib.ListN.{length}
+use Rattle.doubles.specs.declared.Report.{Report}
+use Rattle.doubles.specs.Exact.{Exactly}
+use Rattle.area.specs.Encoding.{Area, heldOf, entriesOf}
+use Rattle.quadrature.specs.Readings.{recordAt}
+use Rattle.machine.specs.Counts.{Counts}
+use Rattle.machine.specs.Largest.{largestOf, DeliveredAt, differenceAt, LowestLargest}
+use Rattle.counting.specs.Doubles.{plusZero}
+use Rattle.calls.specs.Replies.{counts, doubled}
+use Rattle.calls.specs.Table.{result, doubles}
+use Rattle.calls.specs.Calls.{refusalOn, callOn}
+
+-- Doubles answered the report r.
+abbrev pub Reports : Area → Report → Type 0
+Reports a r = callOn a doubles .answer .reply ≡ doubled r
+
+pub record ReportFacts : Type 0 where
+  -- refused exactly as result is, and it changes nothing, refused or not
+  pub refused-alike : (a : Area) → refusalOn a doubles ≡ refusalOn a result
+  pub changes-nothing : (a : Area) → callOn a doubles .area ≡ a
+  -- mean and pending error are the recorded ones, with nothing lost; for the pending error indicators are 32-bit numbers, as their type has it
+  pub mean : (a : Area) (r : Report) → Reports a r → Exactly (r .mean) (a .job .mean) (2 ^ 20)
+  pub pending : (a : Area) (r : Report) → Reports a r → ((p : ℕ) → p < length (heldOf a) → recordAt (heldOf a) p .indicator < 2 ^ 32) → Exactly (r .pending) (pos (a .job .pending)) 1
+  -- they are those that result gives
+  pub as-result : (a : Area) (r : Report) → Reports a r → (c : Counts) × (callOn a result .answer .reply ≡ counts c) × (c .mean ≡ a .job .mean) × (c .pending ≡ a .job .pending)
+  -- the largest delivered difference is worked out from the readings, with nothing lost
+  pub largest : (a : Area) (r : Report) → Reports a r → Exactly (r .largest) (largestOf (entriesOf a)) (2 ^ 20)
+  -- no delivered difference is larger in size
+  pub no-larger : (a : Area) (p : ℕ) → DeliveredAt (entriesOf a) p → natAbs (differenceAt (entriesOf a) p) ≤ natAbs (largestOf (entriesOf a))
+  -- if something is delivered, a delivered place has it, and no lower one has one of that size
+  pub lowest : (a : Area) (p : ℕ) → DeliveredAt (entriesOf a) p → LowestLargest (entriesOf a)
+  -- with nothing delivered all three are +0
+  pub nothing : (a : Area) (r : Report) → Reports a r → ((p : ℕ) → DeliveredAt (entriesOf a) p → ⊥) → r ≡ record { mean = plusZero; pending = plusZero; largest = plusZero }
