@@ -14,7 +14,8 @@ use Rattle.grid.specs.Block.{blockSize}
 use Rattle.area.specs.declared.Settings.{Settings}
 use Rattle.area.specs.Settings.{settingsOf, SettingsFit, readingsFor, readingCount, leastStore}
 use Rattle.area.specs.Records.{blank}
-use Rattle.area.specs.Entry.{deliveredOf}
+use Rattle.doubles.specs.Double.{reportOf}
+use Rattle.area.specs.Entry.{deliveredOf, pendingOf}
 use Rattle.area.specs.Log.{Machine}
 use Rattle.area.specs.Encoding.{Area, entriesOf, machineOf}
 use Rattle.soundness.specs.Sound.{Sound}
@@ -26,10 +27,12 @@ use Rattle.machine.specs.Steps as steps
 use Rattle.machine.specs.Causes.{inRange}
 use Rattle.machine.specs.Counts.{countsOf}
 use Rattle.machine.specs.Means.{meanOf}
+use Rattle.machine.specs.Largest.{largestOf}
+use Rattle.counting.specs.Doubles.{doublesOf}
 use Rattle.machine.proofs.Means.{mean-facts}
 use Rattle.writing.specs.ValidArea.{ValidArea}
-use Rattle.calls.specs.Replies.{Reply, refused, accepted, counts, total, lengthsOf}
-use Rattle.calls.specs.Table.{Answer, start, deliver, result, crossTotal, answer}
+use Rattle.calls.specs.Replies.{Reply, refused, accepted, counts, doubled, total, lengthsOf}
+use Rattle.calls.specs.Table.{Answer, start, deliver, result, doubles, crossTotal, answer}
 use Rattle.calls.specs.Calls.{areaCause, callOn}
 use Rattle.calls.specs.Facts.{NotRefused}
 use Rattle.calls.proofs.Tests as tests
@@ -88,6 +91,10 @@ module _ (a : Area) (x : ℤ) (v : ValidArea a) (fits : MeanFits a x) where
 
   result-with : callOn (withMean a x) result .answer ≡ answer (counts (countsOf (record { log = machineOf a .log; mean = x })))
   result-with = result-is (withMean a x) valid-with ∙ ap (λ m. answer (counts (countsOf m))) state-with
+
+  doubles-with : callOn (withMean a x) doubles .answer ≡ answer (doubled (reportOf x (pendingOf (entriesOf a)) (largestOf (entriesOf a))))
+  unfolding doublesOf machineOf
+  doubles-with = excluded .accepted-doubles (withMean a x) valid-with ∙ ap (λ m. answer (doubled (doublesOf m))) state-with
 
   cross-with : callOn (withMean a x) crossTotal .answer ≡ answer (total (meanOf (entriesOf a)))
   cross-with = cross-is (withMean a x) valid-with ∙ ap (λ es. answer (total (meanOf es))) same-entries
@@ -203,6 +210,7 @@ altered-means =
     record {
       valid = valid-with;
       by-result = result-with;
+      by-doubles = doubles-with;
       by-cross = λ a x v fits. (cross-with a x v fits ∙ sym (cross-is a v), cross-is a v);
       another = another;
       root-delivered = root-delivered;

@@ -15,14 +15,16 @@ use Rattle.area.specs.Settings.{leastStore}
 use Rattle.area.specs.Records.{recordsOf, runOf}
 use Rattle.area.specs.Encoding.{Area, areaOf, entriesOf, storeWith, jobWith, written, machineOf}
 use Rattle.area.specs.Log.{Log, Machine}
+use Rattle.encoding.specs.Entries.{SoundMachine}
 use Rattle.machine.specs.Steps as steps
 use Rattle.machine.specs.Causes.{Lengths, firstCause, startCauses, resultCauses}
 use Rattle.machine.specs.Counts.{countsOf}
 use Rattle.machine.specs.Means.{crossOf}
+use Rattle.counting.specs.Doubles.{doublesOf}
 use Rattle.machine.proofs.Means.{mean-facts}
 use Rattle.writing.proofs.After.{written-sound, written-long, written-machine}
-use Rattle.calls.specs.Replies.{accepted, refused, counts, total, lengthsOf}
-use Rattle.calls.specs.Table.{start, result, crossTotal, Row, row, causesOf, passesCheck, acceptedAnswer, refusal, answerOf, Answer, answer}
+use Rattle.calls.specs.Replies.{accepted, refused, counts, doubled, total, lengthsOf}
+use Rattle.calls.specs.Table.{start, result, doubles, crossTotal, Row, row, causesOf, passesCheck, acceptedAnswer, refusal, answerOf, Answer, answer}
 use Rattle.calls.specs.Calls.{callOn}
 use Rattle.calls.proofs.CausesApplied.{no-cause}
 use Rattle.calls.proofs.Tests as tests
@@ -37,6 +39,7 @@ use Rattle.history.specs.Storage.{Storage, areaLent, Lent, AllLent, retu
 use Rattle.history.specs.Found.{Neighbours, LinksAgree, Found, ThirdDemand}
 use Rattle.history.proofs.Holding.{Holds, Kept, front-small, run-over}
 use Rattle.history.proofs.Moves.{MachineInvariant, from-log}
+use Rattle.history.proofs.Doubles.{report-by-log}
 use Rattle.history.proofs.Steps.{lengths, answered, first-holds}
 use Rattle.history.proofs.Shorts.{rowAnswer}
 use Rattle.history.proofs.Lists.{machineAfter, lent-too, after-log, after-keeps, after-answers}
@@ -77,7 +80,7 @@ module _ (w : Storage) (m : Machine) (h : Holds w m) where
   links : LinksAgree (l .entries) (recordsOf (w .cells))
   links = subst (λ es. LinksAgree es (recordsOf (w .cells))) entries-there (links-agree all all-sound)
 
-  -- ---- result and cross total, where enough is lent
+  -- ---- result, doubles and cross total, where enough is lent
   module _ (x : Part) (lent : Lent w x) (long : 512 * 27 ≤ x .cells) (room : leastStore (l .settings) ≤ x .readings) where
     abbrev z : Lengths
     z = lengthsLent x
@@ -85,7 +88,7 @@ module _ (w : Storage) (m : Machine) (h : Holds w m) where
     none : firstCause (resultCauses z true l) ≡ 0
     none = common-none z true l (tests.enough z (l .settings) (omega (arith, long)) room) refl
 
-    -- neither is refused
+    -- none is refused
     given : (r : Row) → causesOf z true l r ≡ resultCauses z true l → rowAnswer z true (stateOf l) r ≡ acceptedAnswer (passesCheck z true l) (stateOf l) r
     unfolding stateOf
     given r is = rw (is, none) refl
@@ -93,6 +96,10 @@ module _ (w : Storage) (m : Machine) (h : Holds w m) where
     result-is : callOn (areaLent w x) result .answer ≡ answer (counts (countsOf (stateOf l)))
     unfolding answerBy answerOf refusal row causesOf acceptedAnswer resultCauses
     result-is = answered w x lent m h result ∙ given (row result) refl
+
+    doubles-are : callOn (areaLent w x) doubles .answer ≡ answer (doubled (doublesOf (stateOf l)))
+    unfolding answerBy answerOf refusal row causesOf acceptedAnswer resultCauses
+    doubles-are = answered w x lent m h doubles ∙ given (row doubles) refl
 
     cross-is : callOn (areaLent w x) crossTotal .answer ≡ answer (total (crossOf (l .entries)))
     unfolding answerBy answerOf refusal row causesOf acceptedAnswer resultCauses stateOf
@@ -113,22 +120,28 @@ module _ (w : Storage) (m : Machine) (h : Holds w m) where
   unfolding countsOf stateOf
   counted-mean = refl
 
+  by-log : m ≡ stateOf l
+  by-log = from-log m (record { sound = h .sound; mean = h .mean })
+
   pub found : Found w l
   found =
       record {
         entries = entries-there;
         wanted-indicator-zero = h .sound .wanted-indicator-zero;
-        job = h .job ∙ ap jobWith (from-log m (record { sound = h .sound; mean = h .mean }));
+        job = h .job ∙ ap jobWith by-log;
         sound = checked-there;
         neighbours = neighbours;
         links = links;
         enough = (h .long, h .room);
         result = result-is;
+        doubles = doubles-are;
         cross = cross-is;
         mean = sym (mean-facts .cross m (h .sound));
         whole-result = ap (λ (a : Area). callOn a result .answer) (sym whole-area) ∙ result-is wholly lent-wholly (h .long) (h .room);
+        whole-doubles = ap (λ (a : Area). callOn a doubles .answer) (sym whole-area) ∙ doubles-are wholly lent-wholly (h .long) (h .room);
         whole-cross = ap (λ (a : Area). callOn a crossTotal .answer) (sym whole-area) ∙ cross-is wholly lent-wholly (h .long) (h .room);
         alike = counted-mean;
+        report = report-by-log l (subst SoundMachine by-log (h .sound));
       }
 
 -- ---- an accepted start

@@ -36,8 +36,9 @@ use Rattle.machine.specs.Areas.{promoteOn}
 use Rattle.machine.specs.Causes.{firstCause, short, inRange, startCauses, pointCauses, deliverCauses, resultCauses}
 use Rattle.machine.specs.Counts.{countOf, ceilingCount, countsOf}
 use Rattle.machine.specs.Means.{crossOf}
-use Rattle.calls.specs.Replies.{refused, accepted, promotion, counts, total, lengthsOf}
-use Rattle.calls.specs.Table.{point, points, deliver, promote, result, crossTotal, Answer, answer, promotionEffect, row, causesOf, effectOf, passesCheck, acceptedAnswer, refusedAnswer, refusal, answerOf, changed, stateAfter}
+use Rattle.counting.specs.Doubles.{doublesOf}
+use Rattle.calls.specs.Replies.{refused, accepted, promotion, counts, doubled, total, lengthsOf}
+use Rattle.calls.specs.Table.{point, points, deliver, promote, result, doubles, crossTotal, Answer, answer, promotionEffect, row, causesOf, effectOf, passesCheck, acceptedAnswer, refusedAnswer, refusal, answerOf, changed, stateAfter}
 use Rattle.published.proofs.Outcomes.{promoted-log}
 use Rattle.wihupya.specs.Words.{lowWord, highWord}
 use Rattle.wihupya.specs.Exports.{numberOf, pointsAfter, outcomeWord, outcomeAfter, countsAfter, totalAfter}
@@ -50,11 +51,12 @@ use mathlib.Core.List.{List}
 use Rattle.calls.specs.Calls.{CallResult, callOn}
 use Rattle.calls.proofs.Tests as tests
 use Rattle.calls.specs.Points.{WrotePoints}
+use Rattle.calls.proofs.CauseCases.{call-accepts}
 use Rattle.calls.proofs.Causes.{common-none, start-fits, deliver-fits, point-fits, promote-free}
 use Rattle.calls.proofs.Rows.{start-accepts, deliver-accepts, point-accepts, points-accepts, promote-accepts, result-accepts, cross-accepts}
 use Rattle.calls.proofs.PointsWritten.{points-facts}
 use Rattle.history.specs.Logged.{stateOf, logStep, answerBy, answersBy}
-use Rattle.history.specs.OnExports.{callOf, verdictNumber, exportAnswer, exportAnswersBy}
+use Rattle.history.specs.ExportCalls.{callOf, verdictNumber, exportAnswer, exportAnswersBy}
 use Rattle.history.specs.Excluded.{refined, SelectsIndex, ListsNext, Excluded, fileCalls, answersAfter, fileExports, CallCases}
 
 -- a promotion that is spent is above the threshold
@@ -143,6 +145,10 @@ module _ (a : Area) (s : ValidArea a) where
   result-accepted : callOn a result .answer ≡ answer (counts (countsOf (machineOf a)))
   result-accepted = sym (result-accepts a _ refl clear)
 
+  doubles-accepted : callOn a doubles .answer ≡ answer (doubled (doublesOf (machineOf a)))
+  unfolding acceptedAnswer row refusal causesOf resultCauses
+  doubles-accepted = ap (λ (y : CallResult). y .answer) (sym (call-accepts a doubles _ refl clear))
+
   cross-accepted : callOn a crossTotal .answer ≡ answer (total (crossOf (entriesOf a)))
   cross-accepted = sym (cross-accepts a _ refl clear)
 
@@ -157,6 +163,7 @@ excluded =
       accepted-points = λ a n buffer s. points-accepted a s n buffer;
       accepted-promotion = promotion-accepted;
       accepted-result = result-accepted;
+      accepted-doubles = doubles-accepted;
       accepted-cross = cross-accepted;
       deliveries = λ z l rs i long room some whole range. unfold refusal causesOf row deliverCauses in deliver-fits z true l rs (common-none z true l (tests.enough z (l .settings) long room) refl) some whole range;
       means = unfold crossOf grid-cross.crossTotal deliveredOf readingIn readingsOf deliverAt delivered firstWanted wanted root coefficient sumOf subsets sign raisedOn isIn sameLevels tensorRule tensorSum units unit sumTo wholeWeight endsOne newCount behind blockSize in (refl, refl);

@@ -8,10 +8,12 @@ pub mod Steps
 pub mod Lists
 pub mod LinksBothWays
 pub mod NeverUnsound
+pub mod Doubles
 pub mod Demand
 pub mod Accepts
 pub mod Runs
 pub mod Excluded
+pub mod DoublesCases
 pub mod Altered
 pub mod Spent
 pub mod Answered

@@ -10,6 +10,7 @@ use Prim.Native.Nat.{ℕ, _+_, _*_, _^_, _<_, _≤_}
 use native.Mathlib.Omega.{arith}
 use lib.IntN.{natAbs}
 use lib.ListN.{length}
+use lib.Ieee.{Float}
 use mir.Syntax.{w64}
 use mir.Val.{toZ, ofZ}
 use Rattle.sums.proofs.Words.{back-small}
@@ -23,21 +24,23 @@ use Rattle.machine.specs.Steps as steps
 use Rattle.machine.specs.Causes.{firstCause, startCauses}
 use Rattle.machine.specs.Counts.{countsOf}
 use Rattle.machine.specs.Means.{crossOf}
-use Rattle.calls.specs.Replies.{Reply, refused, accepted, wrote, promotion, counts, total, verdict}
+use Rattle.counting.specs.Doubles.{doublesOf}
+use Rattle.calls.specs.Replies.{Reply, refused, accepted, wrote, promotion, counts, doubled, total, verdict}
 use Rattle.calls.specs.Table as table
 use Rattle.calls.specs.Table.{Call, Answer, answer, row, effectOf, acceptedAnswer}
 use Rattle.calls.specs.Calls.{CallResult, refusalOn, callOn}
 use Rattle.calls.proofs.Facts.{looks-only}
 use Rattle.calls.proofs.CauseCases.{call-ways, refused-reply}
 use Rattle.wihupya.specs.Words.{jobOf, lowWord, highWord, wordsOf}
-use Rattle.wihupya.specs.Exports.{numberOf, countsAfter, totalAfter}
+use Rattle.wihupya.specs.Exports.{numberOf, countsAfter, totalAfter, doublesAfter}
 use Rattle.wihupya.proofs.Facts.{both}
 use Rattle.wihupya.proofs.Refusals.{refused-number}
 use Rattle.history.specs.LentCalls.{Part, lengthsLent}
 use Rattle.history.specs.Logged.{stateOf, logStep, logAfter, answerBy}
 use Rattle.history.specs.Storage.{Storage, areaLent, Lent, AllLent, returned, callIn, storageStep}
 use Rattle.history.specs.Found.{Found}
-use Rattle.history.specs.OnExports.{ExportStorage, readStorage, ExportCall, start, point, points, deliver, promote, result, crossTotal, check, callOf, Typed, LentExport, lentCall, AllTyped, AllLentExports, ExportAnswer, verdictNumber, exportAnswer, exported, wordsAfter, exportStep, exportsAfter, exportAnswers, exportAnswersBy, wholePart, signedAt, ExportsFound, ExportsDemand, ThirdDemandOnExports}
+use Rattle.history.specs.ExportCalls.{ExportStorage, readStorage, ExportCall, start, point, points, deliver, promote, result, doubles, crossTotal, check, callOf, Typed, LentExport, lentCall, AllTyped, AllLentExports, ExportAnswer, verdictNumber, exportAnswer, exported, wordsAfter, exportStep, exportsAfter, exportAnswers, exportAnswersBy}
+use Rattle.history.specs.OnExports.{wholePart, signedAt, reported, ExportsFound, ExportsDemand, ThirdDemandOnExports}
 use Rattle.history.proofs.Holding.{Holds, Kept}
 use Rattle.history.proofs.Moves.{machineStep, step-log, MachineInvariant, combined, from-log}
 use Rattle.history.proofs.Steps.{call-answer, call-keeps}
@@ -49,7 +52,7 @@ use Rattle.history.proofs.Published.{means-follow}
 use Rattle.history.proofs.Moments.{steps-follow}
 use Rattle.history.proofs.Spent.{spent-exactly}
 use Rattle.history.proofs.Contracts.{answers-met, storage-met}
-use Rattle.history.proofs.WordRanges.{InRange, reads-back, started-range, step-range}
+use Rattle.history.proofs.WordRanges.{small-at, InRange, reads-back, started-range, step-range}
 
 -- ---- the words after one call
 
@@ -76,6 +79,7 @@ module _ (w : ExportStorage) (x : LentExport) where
       by (deliver rs i) is = refl
       by (promote outcome) is = refl
       by (result given) is = own ∙ ap wordsOf (same-job table.result (ap callOf is) refl)
+      by (doubles given) is = own ∙ ap wordsOf (same-job table.doubles (ap callOf is) refl)
       by (crossTotal given) is = own ∙ ap wordsOf (same-job table.crossTotal (ap callOf is) refl)
       by check is = own ∙ ap wordsOf (same-job table.check (ap callOf is) refl)
 
@@ -202,6 +206,11 @@ module _ (w : ExportStorage) (m : Machine) (h : Hand w m) where
     cross-mean : signedAt (exported w (record { call = crossTotal given; part = x }) .words) 0 ≡ crossOf (l .entries)
     cross-mean = ap (λ (u : List ℕ). signedAt u 0) cross-words ∙ cross-signed
 
+  doubles-report : (x : Part) (given : List Float) → Lent (readStorage w) x → 512 * 27 ≤ x .cells → leastStore (l .settings) ≤ x .readings
+      → exported w (record { call = doubles given; part = x }) ≡ reported (doublesOf (stateOf l))
+  unfolding exported exportAnswer callOf callIn numberOf doublesAfter
+  doubles-report x given lent long room = ap (exportAnswer (doubles given)) (there .doubles x lent long room)
+
   lent-wholly : Lent (readStorage w) (wholePart w)
   lent-wholly = record { cells = omega arith; readings = omega arith }
 
@@ -214,6 +223,11 @@ module _ (w : ExportStorage) (m : Machine) (h : Hand w m) where
         cross-mean = cross-mean;
         whole-result-mean = λ given. result-mean (wholePart w) given lent-wholly (there .enough .0) (there .enough .1);
         whole-cross-mean = λ given. cross-mean (wholePart w) given lent-wholly (there .enough .0) (there .enough .1);
+        doubles-report = doubles-report;
+        whole-doubles-report = λ given. doubles-report (wholePart w) given lent-wholly (there .enough .0) (there .enough .1);
+        exact-mean = there .report .mean;
+        exact-pending = there .report .pending (λ p inside. small-at (l .entries) (h .range .indicators) p);
+        exact-largest = there .report .largest;
       }
 
 -- ---- 4 is never returned
@@ -228,6 +242,7 @@ not-verdict accepted e = omega (arith, e)
 not-verdict (wrote n size) e = omega (arith, e)
 not-verdict (promotion o) e = omega (arith, e)
 not-verdict (counts c) e = omega (arith, e)
+not-verdict (doubled r) e = omega (arith, e)
 not-verdict (total z) e = omega (arith, e)
 not-verdict (verdict true) e = omega (arith, e)
 not-verdict (verdict false) e = omega (arith, e)
@@ -240,6 +255,7 @@ not-four (points n given buffer) y f e = f (four-reply (y .reply) e)
 not-four (deliver rs i) y f e = f (four-reply (y .reply) e)
 not-four (promote outcome) y f e = f (four-reply (y .reply) e)
 not-four (result given) y f e = f (four-reply (y .reply) e)
+not-four (doubles given) y f e = f (four-reply (y .reply) e)
 not-four (crossTotal given) y f e = f (four-reply (y .reply) e)
 not-four check y f e = not-verdict (y .reply) e
 

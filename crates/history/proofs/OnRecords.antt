@@ -12,7 +12,7 @@ use Rattle.area.specs.Log.{Log}
 use Rattle.machine.specs.Steps.{startLog}
 use Rattle.soundness.specs.Clauses.{checked}
 use Rattle.calls.specs.Replies.{accepted}
-use Rattle.calls.specs.Table.{start, result, crossTotal, answer}
+use Rattle.calls.specs.Table.{start, result, doubles, crossTotal, answer}
 use Rattle.calls.specs.Calls.{callOn}
 use Rattle.records.specs.Lent.{areaOn}
 use Rattle.records.proofs.Unwritten.{unwritten}
@@ -42,11 +42,14 @@ module _ (w : RecordStorage) (l : Log) (f : WellFormed (w .records)) (found : Fo
         links = subst (LinksAgree (l .entries)) (ap (λ (u : Run). u .records) (cells-run (w .records) f)) (found .links);
         enough = (omega (arith, cells-length (w .records) f, found .enough .0), found .enough .1);
         result = λ x lent long room. ap (λ (a : Area). callOn a result .answer) (sym (lent-area w x f lent)) ∙ found .result (inCells x) (lent-cells w x f lent) (omega (arith, long)) room;
+        doubles = λ x lent long room. ap (λ (a : Area). callOn a doubles .answer) (sym (lent-area w x f lent)) ∙ found .doubles (inCells x) (lent-cells w x f lent) (omega (arith, long)) room;
         cross = λ x lent long room. ap (λ (a : Area). callOn a crossTotal .answer) (sym (lent-area w x f lent)) ∙ found .cross (inCells x) (lent-cells w x f lent) (omega (arith, long)) room;
         mean = found .mean;
         whole-result = ap (λ (a : Area). callOn a result .answer) (sym same-area) ∙ found .whole-result;
+        whole-doubles = ap (λ (a : Area). callOn a doubles .answer) (sym same-area) ∙ found .whole-doubles;
         whole-cross = ap (λ (a : Area). callOn a crossTotal .answer) (sym same-area) ∙ found .whole-cross;
         alike = found .alike;
+        report = found .report;
       }
 
 pub third-demand-on-records : ThirdDemandOnRecords

@@ -4,16 +4,16 @@
 use mathlib.Core.Path.{_≡_, refl, sym, subst}
 use mathlib.Core.Bool.{Bool, true, false, cond}
 use mathlib.Core.List.{List, [], _∷_, _++_, map}
-use Prim.Native.Nat.{ℕ, zero, suc, _+_, _*_, _^_, _<_, _≤_}
+use Prim.Native.Nat.{ℕ, zero, suc, _^_, _<_}
 use native.Mathlib.Omega.{arith}
 use borrow.Author.Tests.{eqb-true, eqb-false}
 use lib.Dec.{eqb}
 use lib.IntN.{ℤ}
-use lib.ListN.{length, set}
+use lib.ListN.{set}
 use Rattle.sums.proofs.Words.{small-fits}
 use Rattle.grid.specs.Index.{forward}
 use Rattle.area.specs.Settings.{settingsOf}
-use Rattle.area.specs.Entry.{Entry, pendingOf}
+use Rattle.area.specs.Entry.{Entry}
 use Rattle.area.specs.Log.{Log, Machine, withEntries}
 use Rattle.area.specs.Encoding.{jobWith}
 use Rattle.encoding.specs.Entries.{noEntry, entryAt, SoundMachine}
@@ -21,12 +21,12 @@ use Rattle.encoding.proofs.Ranges.{delivered-few}
 use Rattle.machine.specs.Log.{wanted, firstWanted}
 use Rattle.machine.specs.Promote as rule
 use Rattle.machine.specs.Steps.{startLog, delivered, deliverAt, deliverLog}
+use Rattle.counting.proofs.Doubles.{pending-few}
 use Rattle.wihupya.specs.Words.{jobOf, wordsOf}
 use Rattle.wihupya.proofs.Facts.{word-facts}
-use Rattle.calls.specs.Table as table
 use Rattle.history.specs.LentCalls.{lengthsLent}
 use Rattle.history.specs.Logged.{refusalBy, logStep}
-use Rattle.history.specs.OnExports.{ExportCall, start, point, points, deliver, promote, result, crossTotal, check, callOf, Typed, LentExport, lentCall}
+use Rattle.history.specs.ExportCalls.{ExportCall, start, point, points, deliver, promote, result, doubles, crossTotal, check, callOf, Typed, LentExport, lentCall}
 use Rattle.history.proofs.LogSteps.{log-facts}
 
 -- ---- entries with indicators of 32 bits
@@ -35,7 +35,7 @@ abbrev pub AllSmall : List Entry → Type 0
 AllSmall [] = Unit {0}
 AllSmall (e ∷ es) = (e .indicator < 2 ^ 32) × AllSmall es
 
-small-at : (es : List Entry) → AllSmall es → (p : ℕ) → entryAt es p .indicator < 2 ^ 32
+pub small-at : (es : List Entry) → AllSmall es → (p : ℕ) → entryAt es p .indicator < 2 ^ 32
 small-at [] s p = unfold noEntry in omega arith
 small-at (e ∷ es) s zero = s .0
 small-at (e ∷ es) s (suc p) = small-at es (s .1) p
@@ -53,15 +53,6 @@ small-wanted : (k : ℕ → List ℕ) (axes : List ℕ) → AllSmall (map (λ a.
 small-wanted k [] = tt
 small-wanted k (a ∷ axes) = (unfold wanted in omega arith, small-wanted k axes)
 
-pending-small : (es : List Entry) → AllSmall es → pendingOf es ≤ length es * 4294967295
-unfolding pendingOf
-pending-small [] s = omega arith
-pending-small (e ∷ es) s = step (eqb (e .state) 1) (s .0) (pending-small es (s .1))
-  where
-    step : (t : Bool) → e .indicator < 2 ^ 32 → pendingOf es ≤ length es * 4294967295 → cond t (e .indicator) 0 + pendingOf es ≤ suc (length es) * 4294967295
-    step true i h = omega arith
-    step false i h = omega arith
-
 -- ---- a log in range
 
 pub record InRange (l : Log) : Type 0 where
@@ -72,7 +63,7 @@ pub record InRange (l : Log) : Type 0 where
 pub reads-back : (m : Machine) → SoundMachine m → InRange (m .log) → jobOf (wordsOf (jobWith m)) ≡ jobWith m
 reads-back m v r =
     word-facts .job-round-trip (jobWith m) (unfold jobWith in r .threshold)
-    (unfold jobWith in omega (arith, pending-small (m .log .entries) (r .indicators), v .count .1))
+    (unfold jobWith in omega (arith, pending-few (m .log .entries) (λ p inside. small-at (m .log .entries) (r .indicators) p), v .count .1))
     (unfold jobWith in small-fits (m .mean) (omega (arith, v .mean, delivered-few (m .log .entries), v .count .1)))
 
 -- ---- the steps
@@ -114,6 +105,7 @@ step-range l r x h = split (eqb (refusalBy (lengthsLent (x .part)) l (callOf (x 
     by (deliver rs i) t is none = subst InRange (sym (log-facts .accepted-deliver l (lentCall x) rs i is none)) (delivered-range l r rs i t)
     by (promote outcome) t is none = subst InRange (sym (log-facts .accepted-promote l (lentCall x) is none)) (promoted-range l r)
     by (result given) t is none = subst InRange (sym (log-facts .after-result l (lentCall x) is)) r
+    by (doubles given) t is none = subst InRange (sym (log-facts .after-doubles l (lentCall x) is)) r
     by (crossTotal given) t is none = subst InRange (sym (log-facts .after-cross l (lentCall x) is)) r
     by check t is none = subst InRange (sym (log-facts .after-check l (lentCall x) is)) r
 

@@ -1,6 +1,6 @@
--- "An altered area can be sound with another mean": soundness asks of the recorded mean its size alone. Result gives the recorded mean, whatever
--- it is; the cross total is worked out from the readings. That both are the sum over the delivered indices is found after a list of calls that
--- alter nothing in between (`Found`).
+-- "An altered area can be sound with another mean": soundness asks of the recorded mean its size alone. Result and doubles give the recorded
+-- mean, whatever it is; the cross total and the largest delivered difference are worked out from the readings. That the means are all the sum
+-- over the delivered indices is found after a list of calls that alter nothing in between (`Found`).
 use mathlib.Core.Path.{_≡_}
 use mathlib.Core.Bool.{true}
 use mathlib.Core.List.{List}
@@ -10,15 +10,17 @@ use lib.ListN.{length}
 use Rattle.grid.specs.Index.{root}
 use Rattle.area.specs.declared.Settings.{Settings}
 use Rattle.area.specs.Settings.{SettingsFit, readingCount, leastStore}
-use Rattle.area.specs.Entry.{deliveredOf}
+use Rattle.doubles.specs.Double.{reportOf}
+use Rattle.area.specs.Entry.{deliveredOf, pendingOf}
 use Rattle.area.specs.Encoding.{Area, entriesOf, machineOf}
 use Rattle.soundness.specs.Clauses.{checked}
 use Rattle.machine.specs.Causes.{inRange}
 use Rattle.machine.specs.Counts.{Counts, countsOf}
 use Rattle.machine.specs.Means.{meanOf}
+use Rattle.machine.specs.Largest.{largestOf}
 use Rattle.writing.specs.ValidArea.{ValidArea}
-use Rattle.calls.specs.Replies.{counts, total}
-use Rattle.calls.specs.Table.{start, deliver, result, crossTotal, answer}
+use Rattle.calls.specs.Replies.{counts, doubled, total}
+use Rattle.calls.specs.Table.{start, deliver, result, doubles, crossTotal, answer}
 use Rattle.calls.specs.Calls.{callOn}
 
 -- The area with its recorded mean altered, and nothing else.
@@ -49,6 +51,9 @@ pub record AlteredMeans : Type 0 where
   -- result then answers this mean, and all else as before
   pub by-result : (a : Area) (x : ℤ) → ValidArea a → MeanFits a x
       → callOn (withMean a x) result .answer ≡ answer (counts (countsOf (record { log = machineOf a .log; mean = x })))
+  -- and so does doubles, with the pending error and the largest delivered difference as before
+  pub by-doubles : (a : Area) (x : ℤ) → ValidArea a → MeanFits a x
+      → callOn (withMean a x) doubles .answer ≡ answer (doubled (reportOf x (pendingOf (entriesOf a)) (largestOf (entriesOf a))))
   -- and cross total what it answered before, the sum over the delivered indices
   pub by-cross : (a : Area) (x : ℤ) → ValidArea a → MeanFits a x
       → (callOn (withMean a x) crossTotal .answer ≡ callOn a crossTotal .answer) × (callOn a crossTotal .answer ≡ answer (total (meanOf (entriesOf a))))

@@ -24,16 +24,17 @@ use Rattle.machine.specs.Steps.{startLog, deliverLog}
 use Rattle.machine.specs.Causes.{Lengths, inRange}
 use Rattle.machine.specs.Counts.{countsOf}
 use Rattle.machine.specs.Means.{crossOf}
+use Rattle.counting.specs.Doubles.{doublesOf}
 use Rattle.writing.specs.ValidArea.{ValidArea}
-use Rattle.calls.specs.Replies.{refused, accepted, wrote, promotion, counts, total, verdict}
-use Rattle.calls.specs.Table.{Call, start, point, points, deliver, promote, result, crossTotal, check, Answer, answer}
+use Rattle.calls.specs.Replies.{refused, accepted, wrote, promotion, counts, doubled, total, verdict}
+use Rattle.calls.specs.Table.{Call, start, point, points, deliver, promote, result, doubles, crossTotal, check, Answer, answer}
 use Rattle.calls.specs.Calls.{callOn}
 use Rattle.calls.specs.Points.{WrotePoints}
 use Rattle.history.specs.LentCalls.{LentCall}
 use Rattle.history.specs.Logged.{stateOf, refusalBy, answersBy}
 use Rattle.wihupya.specs.Exports.{numberOf}
-use Rattle.history.specs.OnExports as exports
-use Rattle.history.specs.OnExports.{ExportCall, LentExport, exportAnswersBy}
+use Rattle.history.specs.ExportCalls as exports
+use Rattle.history.specs.ExportCalls.{ExportCall, LentExport, withoutDoubles, exportAnswersBy}
 
 -- The entries with the selected refined.
 abbrev pub refined : Log → List Entry
@@ -81,6 +82,7 @@ pub record Excluded : Type 0 where
       → a .job .settings .axes ≤ length buffer → (written : ℕ) × WrotePoints a n buffer written
   pub accepted-promotion : (a : Area) → ValidArea a → anyWanted (entriesOf a) ≡ false → callOn a promote .answer ≡ answer (promotion (rule.promote (machineOf a .log) .outcome))
   pub accepted-result : (a : Area) → ValidArea a → callOn a result .answer ≡ answer (counts (countsOf (machineOf a)))
+  pub accepted-doubles : (a : Area) → ValidArea a → callOn a doubles .answer ≡ answer (doubled (doublesOf (machineOf a)))
   pub accepted-cross : (a : Area) → ValidArea a → callOn a crossTotal .answer ≡ answer (total (crossOf (entriesOf a)))
   -- "reports one fixed mean": the root's reading times 2^20 after its delivery
   pub means : (crossOf (deliverLog (startLog (settingsOf 3 0 9)) (pos 1 ∷ []) 7 .entries) ≡ pos (2 ^ 20)) × (crossOf (deliverLog (startLog (settingsOf 3 0 9)) (pos 2 ∷ []) 7 .entries) ≡ pos (2 * 2 ^ 20))
@@ -158,7 +160,7 @@ wholeExport c = record { call = c; part = record { cells = 512 * 27; readings = 
 
 -- What it returned, its own words as they are left, and its buffer.
 abbrev returned : ℕ → List ℕ → List ℕ → exports.ExportAnswer
-returned n words buffer = record { number = n; words = words; buffer = buffer }
+returned n words buffer = withoutDoubles n words buffer
 
 -- The file as exported calls, with a result and points after the first promotion. The words for the answers are lent as 9.
 unfoldable pub fileExports : List ExportCall

@@ -19,11 +19,13 @@ use Rattle.encoding.specs.Entries.{entryAt, Has, Entered, EnteredOld}
 use Rattle.machine.specs.Steps.{startLog}
 use Rattle.machine.specs.Counts.{countsOf}
 use Rattle.machine.specs.Means.{meanOf, crossOf}
-use Rattle.calls.specs.Replies.{refused, accepted, counts, total}
-use Rattle.calls.specs.Table.{start, result, crossTotal, Answer, answer}
+use Rattle.counting.specs.Doubles.{doublesOf}
+use Rattle.calls.specs.Replies.{refused, accepted, counts, doubled, total}
+use Rattle.calls.specs.Table.{start, result, doubles, crossTotal, Answer, answer}
 use Rattle.calls.specs.Calls.{callOn}
 use Rattle.history.specs.LentCalls.{Part, LentCall}
 use Rattle.history.specs.Logged.{stateOf, logAfter, answersBy}
+use Rattle.history.specs.Doubles.{ReportByLog}
 use Rattle.history.specs.Storage.{Storage, areaLent, Lent, AllLent, storageAfter, answersOf}
 
 -- About neighbours: d is the number of axes, es the log's entries.
@@ -68,12 +70,18 @@ pub record Found (w : Storage) (l : Log) : Type 0 where
   pub whole-result : callOn (areaOf (w .job) (w .cells) (w .store)) result .answer ≡ answer (counts (countsOf (stateOf l)))
   pub whole-cross : callOn (areaOf (w .job) (w .cells) (w .store)) crossTotal .answer ≡ answer (total (crossOf (l .entries)))
   pub alike : countsOf (stateOf l) .mean ≡ crossOf (l .entries)
+  -- and doubles answers the report of the log's state
+  pub whole-doubles : callOn (areaOf (w .job) (w .cells) (w .store)) doubles .answer ≡ answer (doubled (doublesOf (stateOf l)))
   -- and so they do on any part that is long enough
   pub result : (x : Part) → Lent w x → 512 * 27 ≤ x .cells → leastStore (l .settings) ≤ x .readings
       → callOn (areaLent w x) result .answer ≡ answer (counts (countsOf (stateOf l)))
   pub cross : (x : Part) → Lent w x → 512 * 27 ≤ x .cells → leastStore (l .settings) ≤ x .readings → callOn (areaLent w x) crossTotal .answer ≡ answer (total (crossOf (l .entries)))
-  -- which is also the sum of the delivered indices' differences
+  pub doubles : (x : Part) → Lent w x → 512 * 27 ≤ x .cells → leastStore (l .settings) ≤ x .readings
+      → callOn (areaLent w x) doubles .answer ≡ answer (doubled (doublesOf (stateOf l)))
+  -- the mean is also the sum of the delivered indices' differences
   pub mean : crossOf (l .entries) ≡ meanOf (l .entries)
+  -- the report's doubles are exactly that mean, the pending error and the largest delivered difference
+  pub report : ReportByLog l
 
 -- After `first`, a start with the settings g, and `later`:
 pub record Demand (w : Storage) (first : LentCall) (later : List LentCall) (g : Settings) : Type 0 where

@@ -19,13 +19,15 @@ use Rattle.encoding.specs.Entries.{entryAt}
 use Rattle.machine.specs.Steps.{startLog}
 use Rattle.machine.specs.Counts.{countsOf}
 use Rattle.machine.specs.Means.{meanOf, crossOf}
-use Rattle.calls.specs.Replies.{refused, accepted, counts, total}
-use Rattle.calls.specs.Table.{Call, start, result, crossTotal, Answer, answer}
+use Rattle.counting.specs.Doubles.{doublesOf}
+use Rattle.calls.specs.Replies.{refused, accepted, counts, doubled, total}
+use Rattle.calls.specs.Table.{Call, start, result, doubles, crossTotal, Answer, answer}
 use Rattle.calls.specs.Calls.{CallResult, callOn}
 use Rattle.records.specs.Lent.{areaOn}
 use Rattle.records.specs.Unwritten.{TypedRun}
 use Rattle.history.specs.LentCalls.{Part, LentCall}
 use Rattle.history.specs.Logged.{stateOf, logAfter, answersBy}
+use Rattle.history.specs.Doubles.{ReportByLog}
 use Rattle.history.specs.Found.{Neighbours, LinksAgree}
 use Rattle.history.specs.Source.{MeanFollows, StepsFollow}
 use Rattle.history.specs.Spent.{Admissions}
@@ -104,12 +106,18 @@ pub record RecordsFound (w : RecordStorage) (l : Log) : Type 0 where
   pub whole-result : callOn (areaOn (w .job) (w .records) (w .store)) result .answer ≡ answer (counts (countsOf (stateOf l)))
   pub whole-cross : callOn (areaOn (w .job) (w .records) (w .store)) crossTotal .answer ≡ answer (total (crossOf (l .entries)))
   pub alike : countsOf (stateOf l) .mean ≡ crossOf (l .entries)
+  -- and doubles answers the report of the log's state
+  pub whole-doubles : callOn (areaOn (w .job) (w .records) (w .store)) doubles .answer ≡ answer (doubled (doublesOf (stateOf l)))
   -- and so they do on any part that is long enough
   pub result : (x : RecordPart) → LentRecords w x → 512 ≤ x .records → leastStore (l .settings) ≤ x .readings
       → callOn (recordsLent w x) result .answer ≡ answer (counts (countsOf (stateOf l)))
   pub cross : (x : RecordPart) → LentRecords w x → 512 ≤ x .records → leastStore (l .settings) ≤ x .readings → callOn (recordsLent w x) crossTotal .answer ≡ answer (total (crossOf (l .entries)))
-  -- which is also the sum of the delivered indices' differences
+  pub doubles : (x : RecordPart) → LentRecords w x → 512 ≤ x .records → leastStore (l .settings) ≤ x .readings
+      → callOn (recordsLent w x) doubles .answer ≡ answer (doubled (doublesOf (stateOf l)))
+  -- the mean is also the sum of the delivered indices' differences
   pub mean : crossOf (l .entries) ≡ meanOf (l .entries)
+  -- the report's doubles are exactly that mean, the pending error and the largest delivered difference
+  pub report : ReportByLog l
 
 -- After `first`, a start with the settings g, and `later`:
 pub record RecordsDemand (w : RecordStorage) (first : RecordCall) (later : List RecordCall) (g : Settings) : Type 0 where
