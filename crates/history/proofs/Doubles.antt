@@ -3,7 +3,7 @@
 use Rattle.area.specs.Log.{Log}
 use Rattle.encoding.specs.Entries.{SoundMachine}
 use Rattle.machine.proofs.Largest.{largest-delivered}
-use Rattle.counting.proofs.Doubles.{doubles-facts}
+use Rattle.counting.proofs.NothingLost.{doubles-facts}
 use Rattle.history.specs.Logged.{stateOf}
 use Rattle.history.specs.Doubles.{ReportByLog}
 

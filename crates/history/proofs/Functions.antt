@@ -14,6 +14,7 @@ function-contracts =
       of-deliver = λ κs a r s m. (m .0, m .1, refl, refl, refl);
       of-promote = λ κs a r s m. (m .0, m .1 .0, m .1 .1, refl, refl, refl);
       of-result = λ κs a r s m. (m .0, m .1, (refl, refl, refl), refl, refl);
+      of-doubles = λ κs a r s m. (m .0, m .1, (refl, refl, refl), refl, refl);
       of-cross = λ κs a r s m. (m .0, m .1, (refl, refl, refl), refl, refl);
       of-check = λ κs a r s m. (ap (λ (b : Bool). cond {A = ℕ} b 1 0) m, (refl, refl, refl), refl, refl, refl);
     }

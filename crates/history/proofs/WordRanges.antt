@@ -21,7 +21,7 @@ use Rattle.encoding.proofs.Ranges.{delivered-few}
 use Rattle.machine.specs.Log.{wanted, firstWanted}
 use Rattle.machine.specs.Promote as rule
 use Rattle.machine.specs.Steps.{startLog, delivered, deliverAt, deliverLog}
-use Rattle.counting.proofs.Doubles.{pending-few}
+use Rattle.counting.proofs.NothingLost.{pending-few}
 use Rattle.wihupya.specs.Words.{jobOf, wordsOf}
 use Rattle.wihupya.proofs.Facts.{word-facts}
 use Rattle.history.specs.LentCalls.{lengthsLent}

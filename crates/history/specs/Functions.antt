@@ -20,11 +20,13 @@ use Rattle.wihupya.proofs.wihupya_promote.Kinds as promote-kinds
 use Rattle.wihupya.proofs.wihupya_promote.Reads as promote-reads
 use Rattle.wihupya.proofs.wihupya_result.Kinds as result-kinds
 use Rattle.wihupya.proofs.wihupya_result.Reads as result-reads
+use Rattle.wihupya.proofs.wihupya_doubles.Kinds as doubles-kinds
+use Rattle.wihupya.proofs.wihupya_doubles.Reads as doubles-reads
 use Rattle.wihupya.proofs.wihupya_cross_total.Kinds as cross-kinds
 use Rattle.wihupya.proofs.wihupya_cross_total.Reads as cross-reads
 use Rattle.wihupya.proofs.wihupya_check.Kinds as check-kinds
 use Rattle.wihupya.proofs.wihupya_check.Reads as check-reads
-use Rattle.history.specs.ExportCalls.{start, point, points, deliver, promote, result, crossTotal, check}
+use Rattle.history.specs.ExportCalls.{start, point, points, deliver, promote, result, doubles, crossTotal, check}
 use Rattle.history.specs.ExportContracts.{Contract}
 
 pub record FunctionContracts : Type 0 where
@@ -52,6 +54,10 @@ pub record FunctionContracts : Type 0 where
   pub of-result : (κs : Lfts 4) (a : Dens κs result-kinds.ps) (r : ℕ) (s : AtExit (endedOf 4 result-kinds.ps result-kinds.r) κs) → result-reads.Learnt κs a r s
       → Contract (now (a .0)) (now (a .1 .1 .0)) (now (a .1 .1 .1 .0)) (result (now (a .1 .0)))
       (record { number = r; job = now (a .0); cells = now (a .1 .1 .0); store = now (a .1 .1 .1 .0); words = now (s .1 .0); buffer = []; doubles = [] })
+  -- wihupya_doubles: job, report, cells, store
+  pub of-doubles : (κs : Lfts 4) (a : Dens κs doubles-kinds.ps) (r : ℕ) (s : AtExit (endedOf 4 doubles-kinds.ps doubles-kinds.r) κs) → doubles-reads.Learnt κs a r s
+      → Contract (now (a .0)) (now (a .1 .1 .0)) (now (a .1 .1 .1 .0)) (doubles (now (a .1 .0)))
+      (record { number = r; job = now (a .0); cells = now (a .1 .1 .0); store = now (a .1 .1 .1 .0); words = []; buffer = []; doubles = now (s .1 .0) })
   -- wihupya_cross_total: job, total, cells, store
   pub of-cross : (κs : Lfts 4) (a : Dens κs cross-kinds.ps) (r : ℕ) (s : AtExit (endedOf 4 cross-kinds.ps cross-kinds.r) κs) → cross-reads.Learnt κs a r s
       → Contract (now (a .0)) (now (a .1 .1 .0)) (now (a .1 .1 .1 .0)) (crossTotal (now (a .1 .0)))
