@@ -1,18 +1,20 @@
 -- What doubles tells of an area that does not refuse it.
--- The idea: such an area is sound, so the report is that of a sound state (`DoublesFacts`, crate `counting`), whose figures are the recorded ones.
+-- The idea: such an area is sound, so the report is that of a sound state (`NothingLost`, crate `counting`), whose figures are the recorded ones.
 -- Assumes nothing.
 use mathlib.Core.Path.{_≡_, refl, sym, ap, _∙_, subst}
+use mathlib.Core.List.{List}
 use Prim.Native.Nat.{ℕ, _^_, _<_}
 use native.Mathlib.Omega.{arith}
 use lib.Dec.{lit≤}
-use lib.IntN.{pos}
-use lib.ListN.{length}
+use lib.IntN.{ℤ, pos}
+use lib.ListN.{length, getD}
 use Rattle.doubles.specs.declared.Report.{Report}
-use Rattle.doubles.specs.Double.{reportOf}
-use Rattle.doubles.specs.Exact.{Exactly}
+use Rattle.doubles.specs.Double.{double, reportOf}
+use Rattle.doubles.specs.Exact.{LosesNothing, AllNumbers}
 use Rattle.doubles.proofs.Facts.{double-facts}
 use Rattle.area.specs.Entry.{pendingOf}
-use Rattle.area.specs.Encoding.{Area, heldOf, entriesOf, machineOf}
+use Rattle.area.specs.declared.JobRecord.{JobRecord}
+use Rattle.area.specs.Encoding.{Area, areaOf, heldOf, entriesOf, machineOf}
 use Rattle.quadrature.specs.Readings.{recordAt}
 use Rattle.soundness.specs.Sound.{Sound}
 use Rattle.soundness.specs.Clauses.{isSound}
@@ -23,12 +25,13 @@ use Rattle.machine.specs.Counts.{Counts, countsOf}
 use Rattle.machine.specs.Largest.{largestOf, DeliveredAt}
 use Rattle.machine.proofs.Largest.{largest-delivered}
 use Rattle.counting.specs.Doubles.{doublesOf, plusZero}
-use Rattle.counting.proofs.NothingLost.{doubles-facts}
+use Rattle.counting.proofs.NothingLost.{nothing-lost}
+use Rattle.counting.proofs.Reported.{indicators-small}
 use Rattle.calls.specs.Replies.{counts, doubled, lengthsOf}
 use Rattle.calls.specs.Table.{Answer, result, doubles, row, causesOf, effectOf, acceptedAnswer, refusedAnswer, refusal}
 use Rattle.calls.specs.Calls.{CallResult, refusalOn, callOn}
 use Rattle.calls.specs.Doubles.{Reports, ReportFacts}
-use Rattle.calls.proofs.Validity.{sound-there, long-there}
+use Rattle.calls.proofs.Validity.{sound-there, long-there, valid}
 use Rattle.calls.proofs.CauseCases.{call-ways}
 use Rattle.calls.proofs.Rows.{result-accepts}
 use Rattle.calls.proofs.Facts.{call-facts, looks-only}
@@ -59,26 +62,43 @@ module _ (a : Area) (r : Report) (told : Reports a r) where
   clauses : SoundMachine (machineOf a)
   clauses = encoding-facts .clauses a sound (long-there a (accepted .0) .store)
 
-  mean : Exactly (r .mean) (a .job .mean) (2 ^ 20)
+  mean : LosesNothing (r .mean) (a .job .mean) (2 ^ 20)
   unfolding machineOf
-  mean = subst (λ (x : Report). Exactly (x .mean) (a .job .mean) (2 ^ 20)) (sym (accepted .1)) (doubles-facts .mean (machineOf a) clauses)
+  mean = subst (λ (x : Report). LosesNothing (x .mean) (a .job .mean) (2 ^ 20)) (sym (accepted .1)) (nothing-lost .mean (machineOf a) clauses)
 
-  pending : ((p : ℕ) → p < length (heldOf a) → recordAt (heldOf a) p .indicator < 2 ^ 32) → Exactly (r .pending) (pos (a .job .pending)) 1
-  pending h = subst (λ (x : Report). Exactly (x .pending) (pos (a .job .pending)) 1) (sym (accepted .1)) recorded
+  pending : ((p : ℕ) → p < length (heldOf a) → recordAt (heldOf a) p .indicator < 2 ^ 32) → LosesNothing (r .pending) (pos (a .job .pending)) 1
+  pending h = subst (λ (x : Report). LosesNothing (x .pending) (pos (a .job .pending)) 1) (sym (accepted .1)) recorded
     where
-      recorded : Exactly (doublesOf (machineOf a) .pending) (pos (a .job .pending)) 1
+      recorded : LosesNothing (doublesOf (machineOf a) .pending) (pos (a .job .pending)) 1
       recorded =
           unfold doublesOf reportOf machineOf in
-          subst (λ n. Exactly (reportOf (a .job .mean) n (largestOf (entriesOf a)) .pending) (pos (a .job .pending)) 1) (sound .numbers .pending)
+          subst (λ n. LosesNothing (reportOf (a .job .mean) n (largestOf (entriesOf a)) .pending) (pos (a .job .pending)) 1) (sound .numbers .pending)
           (double-facts .exact (pos (a .job .pending)) 0 (omega (arith, range-facts .pending a sound h)) (lit≤ tt))
 
-  largest : Exactly (r .largest) (largestOf (entriesOf a)) (2 ^ 20)
+  largest : LosesNothing (r .largest) (largestOf (entriesOf a)) (2 ^ 20)
   unfolding machineOf
-  largest = subst (λ (x : Report). Exactly (x .largest) (largestOf (entriesOf a)) (2 ^ 20)) (sym (accepted .1)) (doubles-facts .largest (machineOf a) clauses)
+  largest = subst (λ (x : Report). LosesNothing (x .largest) (largestOf (entriesOf a)) (2 ^ 20)) (sym (accepted .1)) (nothing-lost .largest (machineOf a) clauses)
+
+  numbers : AllNumbers r
+  numbers = subst AllNumbers (sym (accepted .1)) (unfold doublesOf in double-facts .all-numbers (machineOf a .mean) (pendingOf (machineOf a .log .entries)) (largestOf (machineOf a .log .entries)))
+
+  -- ---- zero
+
+  zero-mean : a .job .mean ≡ pos 0 → r .mean ≡ plusZero
+  unfolding doublesOf reportOf machineOf
+  zero-mean e = ap (λ (x : Report). x .mean) (accepted .1) ∙ ap (λ z. double z (2 ^ 20)) e ∙ double-facts .zero 20 (lit≤ tt)
+
+  zero-pending : a .job .pending ≡ 0 → r .pending ≡ plusZero
+  unfolding doublesOf reportOf machineOf
+  zero-pending e = ap (λ (x : Report). x .pending) (accepted .1) ∙ ap (λ n. double (pos n) 1) (sym (sound .numbers .pending) ∙ e) ∙ double-facts .zero 0 (lit≤ tt)
+
+  zero-largest : largestOf (entriesOf a) ≡ pos 0 → r .largest ≡ plusZero
+  unfolding doublesOf reportOf machineOf
+  zero-largest e = ap (λ (x : Report). x .largest) (accepted .1) ∙ ap (λ z. double z (2 ^ 20)) e ∙ double-facts .zero 20 (lit≤ tt)
 
   nothing : ((p : ℕ) → DeliveredAt (entriesOf a) p → ⊥) → r ≡ record { mean = plusZero; pending = plusZero; largest = plusZero }
   unfolding machineOf
-  nothing f = accepted .1 ∙ doubles-facts .nothing (machineOf a) clauses f
+  nothing f = accepted .1 ∙ nothing-lost .nothing (machineOf a) clauses f
 
   as-result : (c : Counts) × (callOn a result .answer .reply ≡ counts c) × (c .mean ≡ a .job .mean) × (c .pending ≡ a .job .pending)
   as-result =
@@ -86,16 +106,24 @@ module _ (a : Area) (r : Report) (told : Reports a r) where
       let told = call-facts .result-recorded a (countsOf (machineOf a)) is in
       (countsOf (machineOf a), is, told .2, told .1)
 
+pending-cells : (j : JobRecord) (c : List ℕ) (s : List ℤ) (r : Report) → Reports (areaOf j c s) r → ((n : ℕ) → getD c n 0 < 2 ^ 32) → LosesNothing (r .pending) (pos (j .pending)) 1
+pending-cells j c s r told words = pending (areaOf j c s) r told (indicators-small j c s (valid j c s (accepted (areaOf j c s) r told .0)) words)
+
 pub report-facts : ReportFacts
 report-facts =
     record {
       refused-alike = refused-alike;
       changes-nothing = changes-nothing;
+      numbers = numbers;
       mean = mean;
       pending = pending;
+      pending-cells = pending-cells;
       as-result = as-result;
       largest = largest;
       no-larger = λ a p x. largest-delivered .no-larger (entriesOf a) p x;
       lowest = λ a p x. largest-delivered .lowest (entriesOf a) p x;
+      zero-mean = zero-mean;
+      zero-pending = zero-pending;
+      zero-largest = zero-largest;
       nothing = nothing;
     }

@@ -22,7 +22,7 @@ use Rattle.machine.specs.Facts.{FirstToApply}
 use Rattle.machine.specs.Counts.{Counts}
 use Rattle.machine.specs.Means.{meanOf}
 use Rattle.writing.specs.ValidArea.{ValidArea}
-use Rattle.calls.specs.Replies.{refused, accepted, promotion, counts, doubled, total, verdict, lengthsOf}
+use Rattle.calls.specs.Replies.{refused, accepted, promotion, counts, total, verdict, lengthsOf}
 use Rattle.calls.specs.Table.{Call, start, point, points, deliver, promote, result, doubles, crossTotal, check, answer, row, causesOf, refusedAnswer, stateAfter}
 use Rattle.calls.specs.Calls.{callOn}
 

@@ -13,7 +13,7 @@ use lib.ListN.{length}
 use lib.Ieee.{Float}
 use Rattle.doubles.specs.declared.Report.{Report}
 use Rattle.doubles.specs.Double.{double, reportOf}
-use Rattle.doubles.specs.Exact.{Exactly}
+use Rattle.doubles.specs.Exact.{LosesNothing}
 use Rattle.doubles.proofs.Facts.{double-facts}
 use Rattle.area.specs.Entry.{Entry, deliveredOf, pendingOf}
 use Rattle.area.specs.Log.{Machine}
@@ -21,7 +21,7 @@ use Rattle.encoding.specs.Entries.{entryAt, SoundMachine}
 use Rattle.encoding.proofs.Ranges.{delivered-few}
 use Rattle.machine.specs.Largest.{largestOf, DeliveredAt}
 use Rattle.machine.proofs.Largest.{largest-delivered, none-delivered}
-use Rattle.counting.specs.Doubles.{doublesOf, plusZero, DoublesFacts}
+use Rattle.counting.specs.Doubles.{doublesOf, plusZero, NothingLost}
 
 -- ---- the pending error
 
@@ -53,15 +53,15 @@ module _ (m : Machine) (sound : SoundMachine m) where
   mean-small : natAbs (m .mean) < 2 ^ 53
   mean-small = omega (arith, sound .mean, delivered-few es, sound .count .1)
 
-  mean : Exactly (doublesOf m .mean) (m .mean) (2 ^ 20)
+  mean : LosesNothing (doublesOf m .mean) (m .mean) (2 ^ 20)
   unfolding doublesOf reportOf
   mean = double-facts .exact (m .mean) 20 mean-small (lit≤ tt)
 
-  pending : ((p : ℕ) → p < length es → entryAt es p .indicator < 2 ^ 32) → Exactly (doublesOf m .pending) (pos (pendingOf es)) 1
+  pending : ((p : ℕ) → p < length es → entryAt es p .indicator < 2 ^ 32) → LosesNothing (doublesOf m .pending) (pos (pendingOf es)) 1
   unfolding doublesOf reportOf
   pending h = double-facts .exact (pos (pendingOf es)) 0 (omega (arith, pending-few es h, sound .count .1)) (lit≤ tt)
 
-  largest : Exactly (doublesOf m .largest) (largestOf es) (2 ^ 20)
+  largest : LosesNothing (doublesOf m .largest) (largestOf es) (2 ^ 20)
   unfolding doublesOf reportOf
   largest = double-facts .exact (largestOf es) 20 (omega (arith, largest-delivered .small m sound)) (lit≤ tt)
 
@@ -86,5 +86,5 @@ module _ (m : Machine) (sound : SoundMachine m) where
       mean-none : natAbs (m .mean) ≤ 0
       mean-none = omega (arith, sound .mean, none-delivered es f)
 
-pub doubles-facts : DoublesFacts
-doubles-facts = record { mean = mean; pending = pending; largest = largest; nothing = nothing }
+pub nothing-lost : NothingLost
+nothing-lost = record { mean = mean; pending = pending; largest = largest; nothing = nothing }

@@ -8,7 +8,7 @@ use lib.ListN.{length}
 use lib.Ieee.{Float, fin}
 use Rattle.doubles.specs.declared.Report.{Report}
 use Rattle.doubles.specs.Double.{reportOf}
-use Rattle.doubles.specs.Exact.{Exactly}
+use Rattle.doubles.specs.Exact.{LosesNothing}
 use Rattle.area.specs.Entry.{pendingOf}
 use Rattle.area.specs.Log.{Machine}
 use Rattle.encoding.specs.Entries.{entryAt, SoundMachine}
@@ -22,12 +22,12 @@ abbrev pub plusZero : Float
 plusZero = fin false 0 (pos 0)
 
 -- All three lose nothing: they are finite and exactly the numbers.
-pub record DoublesFacts : Type 0 where
-  pub mean : (m : Machine) → SoundMachine m → Exactly (doublesOf m .mean) (m .mean) (2 ^ 20)
+pub record NothingLost : Type 0 where
+  pub mean : (m : Machine) → SoundMachine m → LosesNothing (doublesOf m .mean) (m .mean) (2 ^ 20)
   -- where indicators are 32-bit numbers, as their type has it
   pub pending : (m : Machine) → SoundMachine m → ((p : ℕ) → p < length (m .log .entries) → entryAt (m .log .entries) p .indicator < 2 ^ 32)
-      → Exactly (doublesOf m .pending) (pos (pendingOf (m .log .entries))) 1
-  pub largest : (m : Machine) → SoundMachine m → Exactly (doublesOf m .largest) (largestOf (m .log .entries)) (2 ^ 20)
+      → LosesNothing (doublesOf m .pending) (pos (pendingOf (m .log .entries))) 1
+  pub largest : (m : Machine) → SoundMachine m → LosesNothing (doublesOf m .largest) (largestOf (m .log .entries)) (2 ^ 20)
   -- with nothing delivered all three are zero
   pub nothing : (m : Machine) → SoundMachine m → ((p : ℕ) → DeliveredAt (m .log .entries) p → ⊥)
       → doublesOf m ≡ record { mean = plusZero; pending = plusZero; largest = plusZero }

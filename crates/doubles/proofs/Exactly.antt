@@ -9,20 +9,20 @@ use lib.IntN.{ℤ, pos, negsuc, natAbs, negℤ}
 use lib.Ieee.{Float, nan, inf, fin, up, down}
 use lib.Ieee.Fits.{down-pos}
 use lib.Ieee.Exact.{HasValue}
-use Rattle.doubles.specs.Exact.{signed, Exactly}
+use Rattle.doubles.specs.Exact.{signed, LosesNothing}
 
 -- the same with z's sign, + for 0
 abbrev pub Signed : Float → ℤ → ℕ → Type 0
 Signed x (pos n) c = HasValue x false n c
 Signed x (negsuc n) c = HasValue x true (suc n) c
 
-pub exactly-of : (x : Float) (z : ℤ) (c : ℕ) → Signed x z c → Exactly x z c
-exactly-of nan (pos n) c v = v
-exactly-of nan (negsuc n) c v = v
-exactly-of (inf s) (pos n) c v = v
-exactly-of (inf s) (negsuc n) c v = v
-exactly-of (fin s m e) (pos n) c v = ap (λ (b : Bool). signed b (m * up e * c)) (v .0) ∙ ap pos (v .1)
-exactly-of (fin s m e) (negsuc n) c v = ap (λ (b : Bool). signed b (m * up e * c)) (v .0) ∙ ap (λ (k : ℕ). negℤ (pos k)) (v .1)
+pub nothing-lost-of : (x : Float) (z : ℤ) (c : ℕ) → Signed x z c → LosesNothing x z c
+nothing-lost-of nan (pos n) c v = v
+nothing-lost-of nan (negsuc n) c v = v
+nothing-lost-of (inf s) (pos n) c v = v
+nothing-lost-of (inf s) (negsuc n) c v = v
+nothing-lost-of (fin s m e) (pos n) c v = ap (λ (b : Bool). signed b (m * up e * c)) (v .0) ∙ ap pos (v .1)
+nothing-lost-of (fin s m e) (negsuc n) c v = ap (λ (b : Bool). signed b (m * up e * c)) (v .0) ∙ ap (λ (k : ℕ). negℤ (pos k)) (v .1)
 
 abbrev IsPos : ℤ → Type 0
 IsPos (pos n) = Unit {0}
@@ -37,7 +37,7 @@ abs-minus : (a : ℕ) → natAbs (negℤ (pos a)) ≡ a
 abs-minus zero = refl
 abs-minus (suc a) = refl
 
-pub signed-of : (x : Float) (z : ℤ) (c : ℕ) → (z ≡ pos 0 → ⊥) → Exactly x z c → Signed x z c
+pub signed-of : (x : Float) (z : ℤ) (c : ℕ) → (z ≡ pos 0 → ⊥) → LosesNothing x z c → Signed x z c
 signed-of nan z c nonzero v = absurd v
 signed-of (inf s) z c nonzero v = absurd v
 signed-of (fin s m e) (pos zero) c nonzero v = absurd (nonzero refl)

@@ -1,22 +1,51 @@
 -- The double nearest to z / 2^k: it is z / 2^k, alone; and it is what a cast and a division by 2^k give. Assumes nothing.
 use mathlib.Core.Path.{_≡_, refl, sym, ap, _∙_, subst}
-use mathlib.Core.Bool.{Bool, true, false}
-use Prim.Native.Nat.{ℕ, suc, _+_, _-_, _*_, _^_, _≤_, _<_}
+use mathlib.Core.Bool.{Bool, true, false, cond}
+use Prim.Native.Nat.{ℕ, zero, suc, _+_, _-_, _*_, _^_, _≤_, _<_}
 use native.Mathlib.Nat.{lt-of-lt-of-le, one-mul, zero-mul, mul-assoc, mul-pos, mul-right-comm}
 use native.Mathlib.Omega.{arith}
-use lib.Dec.{T, lit≤, le→leb, lt→ltb}
+use lib.Dec.{T, ltb, lit≤, le→leb, lt→ltb}
 use lib.IntN.{ℤ, pos, negsuc, natAbs}
 use lib.Pow.{pow-add, pow-pos, pow-mono, shl-lt}
-use lib.Ieee.{Float, nan, inf, fin, Format, binary64, prec, emax, low, up, down, round, div, ofInt, inFloat, fits, toBits}
+use lib.Ieee.{Float, nan, inf, fin, Format, binary64, prec, emax, low, up, down, odd, units, round, div, ofInt, inFloat, fits, isNan, toBits, ofBits}
 use lib.Ieee.Fits.{down-pos, reach, round-fits}
+use lib.Ieee.Bits.{ofBits-toBits}
 use lib.Ieee.Exact.{HasValue, round-exact}
 use lib.Ieee.Scale.{round-same}
 use lib.Ieee.Back.{round-whole}
-use Rattle.doubles.specs.Exact.{Exactly}
-use Rattle.doubles.specs.Double.{double}
+use Rattle.doubles.specs.Exact.{LosesNothing, IsNumber, AllNumbers}
+use Rattle.doubles.specs.Double.{double, reportOf}
 use Rattle.doubles.specs.Facts.{DoubleFacts}
 use Rattle.doubles.proofs.Unique.{one-value}
-use Rattle.doubles.proofs.Exactly.{Signed, exactly-of, signed-of}
+use Rattle.doubles.proofs.Exactly.{Signed, nothing-lost-of, signed-of}
+
+-- ---- a number
+
+odd-number : (d : ℕ) (s : Bool) (q k l : ℕ) → IsNumber (odd d s q k l)
+unfolding odd isNan
+odd-number d s zero k l = tt
+odd-number d s (suc q) k l = tt
+
+units-number : (f : Format) (s : Bool) (q k : ℕ) → IsNumber (units f s q k)
+unfolding units
+units-number f s q k = by (ltb (q * 2 ^ k) (2 ^ (low f + suc (emax f))))
+  where
+    by : (t : Bool) → IsNumber (cond t (odd (suc (prec f)) s q k (low f)) (inf s))
+    by true = odd-number (suc (prec f)) s q k (low f)
+    by false = unfold isNan in tt
+
+rounded-number : (f : Format) (s : Bool) (num den : ℕ) → IsNumber (round f s num den)
+unfolding round
+rounded-number f s num den = units-number f s _ _
+
+double-number : (z : ℤ) (c : ℕ) → IsNumber (double z c)
+unfolding double
+double-number (pos n) c = rounded-number binary64 false n c
+double-number (negsuc n) c = rounded-number binary64 true (suc n) c
+
+all-numbers : (mean : ℤ) (pending : ℕ) (largest : ℤ) → AllNumbers (reportOf mean pending largest)
+unfolding reportOf
+all-numbers m p l = (double-number m (2 ^ 20), double-number (pos p) 1, double-number l (2 ^ 20))
 
 -- ---- nothing is lost
 
@@ -41,13 +70,13 @@ unfolding double
 double-signed (pos n) k h l = fraction binary64 false n k h l
 double-signed (negsuc n) k h l = fraction binary64 true (suc n) k h l
 
-double-fits : (z : ℤ) (c : ℕ) → T (fits binary64 (double z c))
+pub double-fits : (z : ℤ) (c : ℕ) → T (fits binary64 (double z c))
 unfolding double
 double-fits (pos n) c = round-fits binary64 false n c
 double-fits (negsuc n) c = round-fits binary64 true (suc n) c
 
-pub double-exact : (z : ℤ) (k : ℕ) → natAbs z < 2 ^ 53 → k ≤ 1074 → Exactly (double z (2 ^ k)) z (2 ^ k)
-double-exact z k h l = exactly-of (double z (2 ^ k)) z (2 ^ k) (double-signed z k h l)
+pub double-exact : (z : ℤ) (k : ℕ) → natAbs z < 2 ^ 53 → k ≤ 1074 → LosesNothing (double z (2 ^ k)) z (2 ^ k)
+double-exact z k h l = nothing-lost-of (double z (2 ^ k)) z (2 ^ k) (double-signed z k h l)
 
 -- ---- no other is
 
@@ -55,7 +84,7 @@ same-signed : (x y : Float) (z : ℤ) (c : ℕ) → 0 < c → T (fits binary64 x
 same-signed x y (pos n) c above f g v w = one-value binary64 x y false n c above f g v w
 same-signed x y (negsuc n) c above f g v w = one-value binary64 x y true (suc n) c above f g v w
 
-double-only : (z : ℤ) (k : ℕ) (x : Float) → natAbs z < 2 ^ 53 → k ≤ 1074 → (z ≡ pos 0 → ⊥) → T (fits binary64 x) → Exactly x z (2 ^ k) → x ≡ double z (2 ^ k)
+double-only : (z : ℤ) (k : ℕ) (x : Float) → natAbs z < 2 ^ 53 → k ≤ 1074 → (z ≡ pos 0 → ⊥) → T (fits binary64 x) → LosesNothing x z (2 ^ k) → x ≡ double z (2 ^ k)
 double-only z k x h l nonzero f v =
     same-signed x (double z (2 ^ k)) z (2 ^ k) (pow-pos k) f (double-fits z (2 ^ k)) (signed-of x z (2 ^ k) nonzero v) (double-signed z k h l)
 
@@ -82,7 +111,7 @@ zero-bits k l = ap (toBits binary64) (double-zero k l) ∙ plain
     plain = unfold toBits in refl
 
 pub double-facts : DoubleFacts
-double-facts = record { exact = double-exact; only = double-only; zero = double-zero; zero-bits = zero-bits }
+double-facts = record { fits-format = double-fits; read-back = λ z c. ofBits-toBits binary64 (double z c) (double-fits z c); number = double-number; all-numbers = all-numbers; exact = double-exact; only = double-only; zero = double-zero; zero-bits = zero-bits }
 
 -- ---- the cast, and the division by 2^k
 

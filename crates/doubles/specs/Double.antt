@@ -5,7 +5,7 @@ use lib.IntN.{ℤ, pos, negsuc}
 use lib.Ieee.{Float, binary64, round}
 use Rattle.doubles.specs.declared.Report.{Report}
 
--- The double nearest to z / c.
+-- The double nearest to z / c, for a c above 0.
 unfoldable pub double : ℤ → ℕ → Float
 double (pos n) c = round binary64 false n c
 double (negsuc n) c = round binary64 true (suc n) c

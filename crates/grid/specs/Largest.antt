@@ -26,11 +26,11 @@ pub record FirstLargest (J : List (List ℕ)) (R : Readings) : Type 0 where
   pub before : (q : ℕ) → q < place → natAbs (scaledDifference (getD J q []) R) < natAbs (largestDifference J R)
 
 pub record LargestFacts : Type 0 where
-  -- no index of the list has a larger difference
+  -- no index of the list has a difference larger in size
   pub no-larger : (J : List (List ℕ)) (R : Readings) (k : List ℕ) → List·Memᴰ k J → natAbs (scaledDifference k R) ≤ natAbs (largestDifference J R)
   -- one has it, and none before has one of that size
   pub first : (J : List (List ℕ)) (R : Readings) → 0 < length J → FirstLargest J R
-  -- it is at most as large as all are
+  -- a bound on the size of each bounds it
   pub bounded : (J : List (List ℕ)) (R : Readings) (b : ℕ) → ((k : List ℕ) → List·Memᴰ k J → natAbs (scaledDifference k R) ≤ b) → natAbs (largestDifference J R) ≤ b
   -- only the readings of the blocks nowhere higher than an index of the list count
   pub only : (J : List (List ℕ)) (R Q : Readings) → ((k : List ℕ) → List·Memᴰ k J → Agree k R Q) → largestDifference J R ≡ largestDifference J Q

@@ -9,13 +9,13 @@ use Prim.Native.Nat.{ℕ, _*_, _/_, _<_}
 use native.Mathlib.Omega.{arith}
 use lib.IntN.{ℤ}
 use lib.ListN.{length, take, drop, length-drop}
-use lib.Ieee.{Float}
 use Rattle.area.specs.Records.{cellsOf, runOf}
 use Rattle.area.specs.Settings.{settingsOf}
 use Rattle.area.specs.Encoding.{Area, areaOf, machineOf}
 use Rattle.area.proofs.Facts.{run-facts}
 use Rattle.soundness.specs.Clauses.{checked}
 use Rattle.encoding.proofs.Cells.{cells-well-formed, held-well-formed}
+use Rattle.calls.specs.Replies.{refused, verdict}
 use Rattle.calls.specs.Table as table
 use Rattle.calls.specs.Table.{Call, row, effectOf}
 use Rattle.calls.specs.Calls.{CallResult, callOn}
@@ -26,8 +26,7 @@ use Rattle.wihupya.specs.Exports.{Exported}
 use Rattle.wihupya.proofs.Facts.{word-facts}
 use Rattle.wihupya.proofs.Refusals.{refused-number}
 use Rattle.history.specs.Storage.{areaLent, returned, callIn, storageStep}
-use Rattle.history.specs.ExportCalls.{ExportStorage, ExportCall, start, point, points, deliver, promote, result, doubles, crossTotal, check, callOf, LentExport, ExportAnswer, verdictNumber, exportAnswer, exported, wordsAfter, exportStep, exportsAfter, exportAnswers}
-use Rattle.history.specs.ExportContracts.{ExportLeft, OnlyReads, Contract, MeetsContract, answerLeft, putBack, AllMeet, leftAfter, ContractFacts}
+use Rattle.history.specs.OnExports.{ExportStorage, ExportCall, start, point, points, deliver, promote, result, doubles, crossTotal, check, callOf, LentExport, ExportAnswer, verdictNumber, exportAnswer, exported, wordsAfter, exportStep, exportsAfter, exportAnswers, ExportLeft, OnlyReads, Contract, MeetsContract, answerLeft, putBack, AllMeet, leftAfter, ContractFacts}
 use Rattle.history.proofs.WellFormed.{Leaves, call-leaves}
 
 -- ---- one call
@@ -78,21 +77,21 @@ module _ (job cells : List ℕ) (store : List ℤ) (y : ExportLeft) where
   agrees (start axes threshold budget) m =
       let d = callOn a (table.start (settingsOf axes threshold budget)) in
       record {
-        answer = λ i. record { number = number-is d store (m .0) i; words = m .3 i; buffer = m .4 i; doubles = m .5 i };
+        answer = λ i. record { number = number-is d store (m .0) i; words = m .3 i; buffer = m .4 i };
         job = words-are d store (m .0);
         cells = cells-are d store (m .0);
         store = m .2 ∙ store-is d store (m .0);
       }
   agrees (point n buffer) m =
       record {
-        answer = λ i. record { number = m .0 i; words = m .3 i; buffer = m .1 i; doubles = m .4 i };
+        answer = λ i. record { number = m .0 i; words = m .3 i; buffer = m .1 i };
         job = m .2 .0;
         cells = read-cells (table.point n buffer) refl (m .2);
         store = read-store (table.point n buffer) refl (m .2);
       }
   agrees (points n given buffer) m =
       record {
-        answer = λ i. record { number = m .0 i; words = m .1 i; buffer = m .2 i; doubles = m .4 i };
+        answer = λ i. record { number = m .0 i; words = m .1 i; buffer = m .2 i };
         job = m .3 .0;
         cells = read-cells (table.points n buffer) refl (m .3);
         store = read-store (table.points n buffer) refl (m .3);
@@ -100,7 +99,7 @@ module _ (job cells : List ℕ) (store : List ℤ) (y : ExportLeft) where
   agrees (deliver rs n) m =
       let d = callOn a (table.deliver rs n) in
       record {
-        answer = λ i. record { number = number-is d (y .store) (m .0) i; words = m .2 i; buffer = m .3 i; doubles = m .4 i };
+        answer = λ i. record { number = number-is d (y .store) (m .0) i; words = m .2 i; buffer = m .3 i };
         job = words-are d (y .store) (m .0);
         cells = cells-are d (y .store) (m .0);
         store = store-is d (y .store) (m .0);
@@ -108,35 +107,35 @@ module _ (job cells : List ℕ) (store : List ℤ) (y : ExportLeft) where
   agrees (promote outcome) m =
       let d = callOn a table.promote in
       record {
-        answer = λ i. record { number = number-is d store (m .0) i; words = m .1 i; buffer = m .4 i; doubles = m .5 i };
+        answer = λ i. record { number = number-is d store (m .0) i; words = m .1 i; buffer = m .4 i };
         job = words-are d store (m .0);
         cells = cells-are d store (m .0);
         store = m .3 ∙ store-is d store (m .0);
       }
   agrees (result given) m =
       record {
-        answer = λ i. record { number = m .0 i; words = m .1 i; buffer = m .3 i; doubles = m .4 i };
+        answer = λ i. record { number = m .0 i; words = m .1 i; buffer = m .3 i };
         job = m .2 .0;
         cells = read-cells table.result refl (m .2);
         store = read-store table.result refl (m .2);
       }
   agrees (doubles given) m =
       record {
-        answer = λ i. record { number = m .0 i; words = m .3 i; buffer = m .4 i; doubles = m .1 i };
+        answer = λ i. record { number = m .0 i; words = m .1 i; buffer = m .3 i };
         job = m .2 .0;
         cells = read-cells table.doubles refl (m .2);
         store = read-store table.doubles refl (m .2);
       }
   agrees (crossTotal given) m =
       record {
-        answer = λ i. record { number = m .0 i; words = m .1 i; buffer = m .3 i; doubles = m .4 i };
+        answer = λ i. record { number = m .0 i; words = m .1 i; buffer = m .3 i };
         job = m .2 .0;
         cells = read-cells table.crossTotal refl (m .2);
         store = read-store table.crossTotal refl (m .2);
       }
   agrees check m =
       record {
-        answer = λ i. record { number = verdict-is (m .0) i; words = m .2 i; buffer = m .3 i; doubles = m .4 i };
+        answer = λ i. record { number = verdict-is (m .0) i; words = m .2 i; buffer = m .3 i };
         job = m .1 .0;
         cells = read-cells table.check refl (m .1);
         store = read-store table.check refl (m .1);
@@ -202,45 +201,45 @@ module _ (job cells : List ℕ) (store : List ℤ) (round : wordsOf (jobOf job) 
         ap (λ (b : Area). wordsOf (b .job)) (call-facts .refused-keeps lent c (exports.numberOf (d .answer .reply)) (refused-number (d .answer .reply) f) .0) ∙ round
 
     written : List ℕ → List ℤ → ExportLeft
-    written ws s = record { number = exports.numberOf (d .answer .reply); job = wordsOf (d .area .job); cells = cellsOf (d .area .run); store = s; words = ws; buffer = []; doubles = [] }
+    written ws s = record { number = exports.numberOf (d .answer .reply); job = wordsOf (d .area .job); cells = cellsOf (d .area .run); store = s; words = ws; buffer = [] }
 
     written-is : (s : List ℤ) → d .area .store ≡ s
         → record { number = exports.numberOf (d .answer .reply); job = wordsOf (d .area .job); run = runOf (cellsOf (d .area .run)); store = s } ≡ exports.exported d
     unfolding exports.exported
     written-is s e i = record { number = exports.numberOf (d .answer .reply); job = wordsOf (d .area .job); run = run-back i; store = sym e i }
 
-  kept : (number : ℕ) (ws buffer : List ℕ) (ds : List Float) → ExportLeft
-  kept number ws buffer ds = record { number = number; job = job; cells = cells; store = store; words = ws; buffer = buffer; doubles = ds }
+  kept : (number : ℕ) (ws buffer : List ℕ) → ExportLeft
+  kept number ws buffer = record { number = number; job = job; cells = cells; store = store; words = ws; buffer = buffer }
 
   met : (c : ExportCall) → (y : ExportLeft) × Contract job cells store c y
   unfolding written kept
   met (start axes threshold budget) =
       let c = table.start (settingsOf axes threshold budget) in
-      (written c [] store, (written-is c store (call-facts .start-store lent (settingsOf axes threshold budget)), refused-job c, refl, refl, refl, refl))
+      (written c [] store, (written-is c store (call-facts .start-store lent (settingsOf axes threshold budget)), refused-job c, refl, refl, refl))
   met (point n buffer) =
       let d = callOn lent (table.point n buffer) in
-      (kept (exports.numberOf (d .answer .reply)) [] (d .answer .buffer) [], (refl, refl, (refl, refl, refl), refl, refl))
+      (kept (exports.numberOf (d .answer .reply)) [] (d .answer .buffer), (refl, refl, (refl, refl, refl), refl))
   met (points n given buffer) =
       let d = callOn lent (table.points n buffer) in
-      (kept (exports.numberOf (d .answer .reply)) (exports.pointsAfter (d .answer .reply) given) (d .answer .buffer) [], (refl, refl, refl, (refl, refl, refl), refl))
+      (kept (exports.numberOf (d .answer .reply)) (exports.pointsAfter (d .answer .reply) given) (d .answer .buffer), (refl, refl, refl, (refl, refl, refl)))
   met (deliver rs n) =
       let c = table.deliver rs n in
-      (written c [] (callOn lent c .area .store), (written-is c (callOn lent c .area .store) refl, refused-job c, refl, refl, refl))
+      (written c [] (callOn lent c .area .store), (written-is c (callOn lent c .area .store) refl, refused-job c, refl, refl))
   met (promote outcome) =
       let c = table.promote in (
         written c (exports.outcomeAfter (callOn lent c .answer .reply) outcome) store,
-        (written-is c store (call-facts .promote-store lent (held-well-formed (jobOf job) cells store)), refl, refused-job c, refl, refl, refl),
+        (written-is c store (call-facts .promote-store lent (held-well-formed (jobOf job) cells store)), refl, refused-job c, refl, refl),
       )
   met (result given) =
       let d = callOn lent table.result in
-      (kept (exports.numberOf (d .answer .reply)) (exports.countsAfter (d .answer .reply) given) [] [], (refl, refl, (refl, refl, refl), refl, refl))
+      (kept (exports.numberOf (d .answer .reply)) (exports.countsAfter (d .answer .reply) given) [], (refl, refl, (refl, refl, refl), refl))
   met (doubles given) =
       let d = callOn lent table.doubles in
-      (kept (exports.numberOf (d .answer .reply)) [] [] (exports.doublesAfter (d .answer .reply) given), (refl, refl, (refl, refl, refl), refl, refl))
+      (kept (exports.numberOf (d .answer .reply)) (exports.doublesAfter (d .answer .reply) given) [], (refl, refl, (refl, refl, refl), refl))
   met (crossTotal given) =
       let d = callOn lent table.crossTotal in
-      (kept (exports.numberOf (d .answer .reply)) (exports.totalAfter (d .answer .reply) given) [] [], (refl, refl, (refl, refl, refl), refl, refl))
-  met check = (kept (cond (checked lent) 1 0) [] [] [], (refl, (refl, refl, refl), refl, refl, refl))
+      (kept (exports.numberOf (d .answer .reply)) (exports.totalAfter (d .answer .reply) given) [], (refl, refl, (refl, refl, refl), refl))
+  met check = (kept (cond (checked lent) 1 0) [] [], (refl, (refl, refl, refl), refl, refl))
 
 pub contract-facts : ContractFacts
 contract-facts =

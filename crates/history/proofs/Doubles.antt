@@ -3,7 +3,7 @@
 use Rattle.area.specs.Log.{Log}
 use Rattle.encoding.specs.Entries.{SoundMachine}
 use Rattle.machine.proofs.Largest.{largest-delivered}
-use Rattle.counting.proofs.NothingLost.{doubles-facts}
+use Rattle.counting.proofs.NothingLost.{nothing-lost}
 use Rattle.history.specs.Logged.{stateOf}
 use Rattle.history.specs.Doubles.{ReportByLog}
 
@@ -11,10 +11,10 @@ pub report-by-log : (l : Log) → SoundMachine (stateOf l) → ReportByLog l
 unfolding stateOf
 report-by-log l sound =
     record {
-      mean = doubles-facts .mean (stateOf l) sound;
-      pending = doubles-facts .pending (stateOf l) sound;
-      largest = doubles-facts .largest (stateOf l) sound;
+      mean = nothing-lost .mean (stateOf l) sound;
+      pending = nothing-lost .pending (stateOf l) sound;
+      largest = nothing-lost .largest (stateOf l) sound;
       no-larger = largest-delivered .no-larger (l .entries);
       lowest = largest-delivered .lowest (l .entries);
-      nothing = doubles-facts .nothing (stateOf l) sound;
+      nothing = nothing-lost .nothing (stateOf l) sound;
     }

@@ -2,7 +2,7 @@
 -- Assumes nothing.
 use mathlib.Core.Path.{refl}
 use lib.Count.{trailingZeros}
-use lib.Ieee.{span, climb, size, odd, units as smallest, round}
+use lib.Ieee.{span, climb, size, odd, units as smallest, round, toBits}
 use Rattle.sums.specs.Sums.{sumTo, sumOf}
 use Rattle.rule.specs.Points.{newCount}
 use Rattle.rule.specs.Rules.{unit}
@@ -28,10 +28,10 @@ use Rattle.counting.specs.Doubles.{doublesOf}
 use Rattle.calls.specs.Table.{promotionEffect, row, causesOf, effectOf, passesCheck, acceptedAnswer, refusedAnswer, refusal, answerOf, changed, stateAfter}
 use Rattle.wihupya.specs.Exports.{numberOf, doublesAfter}
 use Rattle.history.specs.Logged.{stateOf, logStep, logAfter, answerBy}
-use Rattle.history.specs.ExportCalls.{callOf, exportAnswer, exportAnswersBy}
+use Rattle.history.specs.OnExports.{callOf, exportAnswer, exportAnswersBy}
 use Rattle.history.specs.Excluded.{fileCalls}
 use Rattle.history.specs.DoublesCases.{logThen, doublesThen, DoublesCases}
 
 pub doubles-cases : DoublesCases
-unfolding logThen doublesThen fileCalls stateOf logStep logAfter answerBy promotionEffect row causesOf effectOf passesCheck acceptedAnswer refusedAnswer refusal answerOf changed stateAfter firstCause short inRange readingsFor readingCount leastStore wanted firstWanted anyWanted root steps.started steps.deliver steps.promoteStep steps.deliverAt steps.delivered rule.promote rule.promoteAt rule.refine rule.makeOld rule.madeOld rule.selected rule.firstActive rule.largest rule.isMet rule.fits rule.admittedAxes rule.passing rule.admits rule.backwardOld rule.isOld within levelsWithin excess forward backward allFrom sameLevels reservedBy pendingOf crossOf grid-cross.crossTotal deliveredOf readingIn readingsOf coefficient sumOf subsets sign raisedOn isIn tensorRule tensorSum units unit sumTo wholeWeight endsOne endsMinusOne newCount behind blockSize inFront lower differenceWeight differenceProduct differenceSum scaledDifference larger largestDifference largestOf doublesOf reportOf double round size span climb smallest odd trailingZeros callOf exportAnswer exportAnswersBy numberOf doublesAfter
+unfolding toBits logThen doublesThen fileCalls stateOf logStep logAfter answerBy promotionEffect row causesOf effectOf passesCheck acceptedAnswer refusedAnswer refusal answerOf changed stateAfter firstCause short inRange readingsFor readingCount leastStore wanted firstWanted anyWanted root steps.started steps.deliver steps.promoteStep steps.deliverAt steps.delivered rule.promote rule.promoteAt rule.refine rule.makeOld rule.madeOld rule.selected rule.firstActive rule.largest rule.isMet rule.fits rule.admittedAxes rule.passing rule.admits rule.backwardOld rule.isOld within levelsWithin excess forward backward allFrom sameLevels reservedBy pendingOf crossOf grid-cross.crossTotal deliveredOf readingIn readingsOf coefficient sumOf subsets sign raisedOn isIn tensorRule tensorSum units unit sumTo wholeWeight endsOne endsMinusOne newCount behind blockSize inFront lower differenceWeight differenceProduct differenceSum scaledDifference larger largestDifference largestOf doublesOf reportOf double round size span climb smallest odd trailingZeros callOf exportAnswer exportAnswersBy numberOf doublesAfter
 doubles-cases = record { file = refl; nothing = refl; equal-sizes = refl; negative = refl; altered = refl; while-wanted = refl; lent-doubles = λ given. refl }

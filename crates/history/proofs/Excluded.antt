@@ -56,7 +56,7 @@ use Rattle.calls.proofs.Causes.{common-none, start-fits, deliver-fits, point-fi
 use Rattle.calls.proofs.Rows.{start-accepts, deliver-accepts, point-accepts, points-accepts, promote-accepts, result-accepts, cross-accepts}
 use Rattle.calls.proofs.PointsWritten.{points-facts}
 use Rattle.history.specs.Logged.{stateOf, logStep, answerBy, answersBy}
-use Rattle.history.specs.ExportCalls.{callOf, verdictNumber, exportAnswer, exportAnswersBy}
+use Rattle.history.specs.OnExports.{callOf, verdictNumber, exportAnswer, exportAnswersBy}
 use Rattle.history.specs.Excluded.{refined, SelectsIndex, ListsNext, Excluded, fileCalls, answersAfter, fileExports, CallCases}
 
 -- a promotion that is spent is above the threshold

@@ -10,7 +10,6 @@ use Prim.Native.Nat.{ℕ, _+_, _*_, _^_, _<_, _≤_}
 use native.Mathlib.Omega.{arith}
 use lib.IntN.{natAbs}
 use lib.ListN.{length}
-use lib.Ieee.{Float}
 use mir.Syntax.{w64}
 use mir.Val.{toZ, ofZ}
 use Rattle.sums.proofs.Words.{back-small}
@@ -39,8 +38,7 @@ use Rattle.history.specs.LentCalls.{Part, lengthsLent}
 use Rattle.history.specs.Logged.{stateOf, logStep, logAfter, answerBy}
 use Rattle.history.specs.Storage.{Storage, areaLent, Lent, AllLent, returned, callIn, storageStep}
 use Rattle.history.specs.Found.{Found}
-use Rattle.history.specs.ExportCalls.{ExportStorage, readStorage, ExportCall, start, point, points, deliver, promote, result, doubles, crossTotal, check, callOf, Typed, LentExport, lentCall, AllTyped, AllLentExports, ExportAnswer, verdictNumber, exportAnswer, exported, wordsAfter, exportStep, exportsAfter, exportAnswers, exportAnswersBy}
-use Rattle.history.specs.OnExports.{wholePart, signedAt, reported, ExportsFound, ExportsDemand, ThirdDemandOnExports}
+use Rattle.history.specs.OnExports.{ExportStorage, readStorage, ExportCall, start, point, points, deliver, promote, result, doubles, crossTotal, check, callOf, Typed, LentExport, lentCall, AllTyped, AllLentExports, ExportAnswer, verdictNumber, exportAnswer, exported, wordsAfter, exportStep, exportsAfter, exportAnswers, exportAnswersBy, wholePart, signedAt, reported, ExportsFound, ExportsDemand, ThirdDemandOnExports}
 use Rattle.history.proofs.Holding.{Holds, Kept}
 use Rattle.history.proofs.Moves.{machineStep, step-log, MachineInvariant, combined, from-log}
 use Rattle.history.proofs.Steps.{call-answer, call-keeps}
@@ -206,7 +204,7 @@ module _ (w : ExportStorage) (m : Machine) (h : Hand w m) where
     cross-mean : signedAt (exported w (record { call = crossTotal given; part = x }) .words) 0 ≡ crossOf (l .entries)
     cross-mean = ap (λ (u : List ℕ). signedAt u 0) cross-words ∙ cross-signed
 
-  doubles-report : (x : Part) (given : List Float) → Lent (readStorage w) x → 512 * 27 ≤ x .cells → leastStore (l .settings) ≤ x .readings
+  doubles-report : (x : Part) (given : List ℕ) → Lent (readStorage w) x → 512 * 27 ≤ x .cells → leastStore (l .settings) ≤ x .readings
       → exported w (record { call = doubles given; part = x }) ≡ reported (doublesOf (stateOf l))
   unfolding exported exportAnswer callOf callIn numberOf doublesAfter
   doubles-report x given lent long room = ap (exportAnswer (doubles given)) (there .doubles x lent long room)

@@ -26,7 +26,7 @@ use Rattle.wihupya.specs.Words.{jobOf, wordsOf}
 use Rattle.wihupya.proofs.Facts.{word-facts}
 use Rattle.history.specs.LentCalls.{lengthsLent}
 use Rattle.history.specs.Logged.{refusalBy, logStep}
-use Rattle.history.specs.ExportCalls.{ExportCall, start, point, points, deliver, promote, result, doubles, crossTotal, check, callOf, Typed, LentExport, lentCall}
+use Rattle.history.specs.OnExports.{ExportCall, start, point, points, deliver, promote, result, doubles, crossTotal, check, callOf, Typed, LentExport, lentCall}
 use Rattle.history.proofs.LogSteps.{log-facts}
 
 -- ---- entries with indicators of 32 bits

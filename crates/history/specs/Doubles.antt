@@ -4,7 +4,7 @@ use mathlib.Core.Path.{_≡_}
 use Prim.Native.Nat.{ℕ, _^_, _<_, _≤_}
 use lib.IntN.{pos, natAbs}
 use lib.ListN.{length}
-use Rattle.doubles.specs.Exact.{Exactly}
+use Rattle.doubles.specs.Exact.{LosesNothing}
 use Rattle.area.specs.Entry.{pendingOf}
 use Rattle.area.specs.Log.{Log}
 use Rattle.encoding.specs.Entries.{entryAt}
@@ -14,10 +14,10 @@ use Rattle.counting.specs.Doubles.{doublesOf, plusZero}
 use Rattle.history.specs.Logged.{stateOf}
 
 pub record ReportByLog (l : Log) : Type 0 where
-  pub mean : Exactly (doublesOf (stateOf l) .mean) (crossOf (l .entries)) (2 ^ 20)
+  pub mean : LosesNothing (doublesOf (stateOf l) .mean) (crossOf (l .entries)) (2 ^ 20)
   -- where the indicators are 32-bit numbers, as their type has it
-  pub pending : ((p : ℕ) → p < length (l .entries) → entryAt (l .entries) p .indicator < 2 ^ 32) → Exactly (doublesOf (stateOf l) .pending) (pos (pendingOf (l .entries))) 1
-  pub largest : Exactly (doublesOf (stateOf l) .largest) (largestOf (l .entries)) (2 ^ 20)
+  pub pending : ((p : ℕ) → p < length (l .entries) → entryAt (l .entries) p .indicator < 2 ^ 32) → LosesNothing (doublesOf (stateOf l) .pending) (pos (pendingOf (l .entries))) 1
+  pub largest : LosesNothing (doublesOf (stateOf l) .largest) (largestOf (l .entries)) (2 ^ 20)
   -- no delivered difference is larger in size
   pub no-larger : (p : ℕ) → DeliveredAt (l .entries) p → natAbs (differenceAt (l .entries) p) ≤ natAbs (largestOf (l .entries))
   -- if something is delivered, a delivered place has it, and no lower one has one of that size

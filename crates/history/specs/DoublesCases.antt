@@ -14,8 +14,8 @@ use Rattle.calls.specs.Replies.{doubled}
 use Rattle.calls.specs.Table.{Call, deliver, promote, doubles, Answer, answer}
 use Rattle.history.specs.LentCalls.{Part, lengthsLent}
 use Rattle.history.specs.Logged.{logAfter, answerBy}
-use Rattle.history.specs.ExportCalls as exports
-use Rattle.history.specs.ExportCalls.{LentExport, ExportAnswer, exportAnswersBy}
+use Rattle.history.specs.OnExports as exports
+use Rattle.history.specs.OnExports.{LentExport, ExportAnswer, exportAnswersBy}
 use Rattle.history.specs.Excluded.{whole, wholeExport, fileCalls}
 
 -- The log after these calls, and what doubles answers then, in 512 records and 64 readings.
@@ -33,12 +33,12 @@ report m p d = record { mean = m; pending = p; largest = d }
 abbrev twoBlocks : (root left right : ℤ) (indicator : ℕ) → List Call
 twoBlocks r a b i = deliver (r ∷ []) 1 ∷ promote ∷ deliver (a ∷ b ∷ []) i ∷ []
 
--- Exported doubles, and the same in storage that is too short by one cell, and by one reading of a budget of 64.
-abbrev lentDoubles : List Float → Part → LentExport
+-- Exported doubles, lent the bits of three doubles and a part of the storage; and what an exported call returned and left in its words.
+abbrev lentDoubles : List ℕ → Part → LentExport
 lentDoubles given x = record { call = exports.doubles given; part = x }
 
-abbrev returned : ℕ → List Float → ExportAnswer
-returned n ds = record { number = n; words = []; buffer = []; doubles = ds }
+abbrev returned : ℕ → List ℕ → ExportAnswer
+returned n words = record { number = n; words = words; buffer = [] }
 
 pub record DoublesCases : Type 0 where
   -- the scope document's file: 5,696.0, 10.0 and, of the root, 4,160.0
@@ -57,11 +57,12 @@ pub record DoublesCases : Type 0 where
   -- two axes, the root and (2,1) delivered and (1,2) wanted: 1.75, 5.0 and, of the root, 3.0
   pub while-wanted : doublesThen (startLog (settingsOf 2 0 64)) (deliver (pos 3 ∷ []) 7 ∷ promote ∷ deliver (pos 1 ∷ pos 0 ∷ []) 5 ∷ [])
       ≡ answer (doubled (report (fin false 7 (negsuc 1)) (fin false 5 (pos 0)) (fin false 3 (pos 0))))
-  -- refused by 3, the exported call leaves the doubles that it is lent; else it writes all three, whatever they are
-  pub lent-doubles : (given : List Float) → exportAnswersBy (startLog (settingsOf 1 0 64))
+  -- refused by 3, in storage that is too short by one cell or by one reading of a budget of 64, the exported call leaves the bits that it is lent,
+  -- whatever they are; else it writes all three: −3.0, 1.0 and −3.0, each a sign, eleven digits of exponent and 52 of fraction
+  pub lent-doubles : (given : List ℕ) → exportAnswersBy (startLog (settingsOf 1 0 64))
       (wholeExport (exports.deliver (negsuc 2 ∷ []) 1)
       ∷ lentDoubles given (record { cells = 512 * 27 - 1; readings = 64 })
       ∷ lentDoubles given (record { cells = 512 * 27; readings = 63 })
       ∷ lentDoubles given (record { cells = 512 * 27; readings = 64 })
       ∷ [])
-      ≡ returned 0 [] ∷ returned 3 given ∷ returned 3 given ∷ returned 0 (fin true 3 (pos 0) ∷ fin false 1 (pos 0) ∷ fin true 3 (pos 0) ∷ []) ∷ []
+      ≡ returned 0 [] ∷ returned 3 given ∷ returned 3 given ∷ returned 0 (13837309855095848960 ∷ 4607182418800017408 ∷ 13837309855095848960 ∷ []) ∷ []

@@ -33,8 +33,8 @@ use Rattle.calls.specs.Points.{WrotePoints}
 use Rattle.history.specs.LentCalls.{LentCall}
 use Rattle.history.specs.Logged.{stateOf, refusalBy, answersBy}
 use Rattle.wihupya.specs.Exports.{numberOf}
-use Rattle.history.specs.ExportCalls as exports
-use Rattle.history.specs.ExportCalls.{ExportCall, LentExport, withoutDoubles, exportAnswersBy}
+use Rattle.history.specs.OnExports as exports
+use Rattle.history.specs.OnExports.{ExportCall, LentExport, exportAnswersBy}
 
 -- The entries with the selected refined.
 abbrev pub refined : Log → List Entry
@@ -160,7 +160,7 @@ wholeExport c = record { call = c; part = record { cells = 512 * 27; readings = 
 
 -- What it returned, its own words as they are left, and its buffer.
 abbrev returned : ℕ → List ℕ → List ℕ → exports.ExportAnswer
-returned n words buffer = withoutDoubles n words buffer
+returned n words buffer = record { number = n; words = words; buffer = buffer }
 
 -- The file as exported calls, with a result and points after the first promotion. The words for the answers are lent as 9.
 unfoldable pub fileExports : List ExportCall

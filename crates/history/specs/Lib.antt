@@ -12,8 +12,6 @@ pub mod Found
 pub mod Spent
 pub mod Source
 pub mod OnRecords
-pub mod ExportCalls
-pub mod ExportContracts
 pub mod OnExports
 pub mod Functions
 pub mod Excluded

@@ -78,6 +78,6 @@ promoteOwnCauses l = cause (anyWanted (l .entries)) 6 ∷ []
 unfoldable pub promoteCauses : Lengths → Bool → Log → List Cause
 promoteCauses z sound l = jobCauses z sound (l .settings) false (promoteOwnCauses l)
 
--- Result and cross total have none of their own.
+-- Result, doubles and cross total have none of their own.
 unfoldable pub resultCauses : Lengths → Bool → Log → List Cause
 resultCauses z sound l = jobCauses z sound (l .settings) false []

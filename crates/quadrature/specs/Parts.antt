@@ -49,7 +49,7 @@ unfoldable pub tensorDone : ℕ → ℕ → ℕ → List ℕ → Readings → �
 tensorDone top l point ks R =
     sumTo (l - 1) (λ i. wholeWeight top (suc i) *ℤ pointsDone (newCount (suc i)) (suc i) ks R) +ℤ wholeWeight top l *ℤ pointsDone point l ks R
 
--- What the record at a place adds to the sum of differences: its difference once it is delivered.
+-- What the record at a place adds to the sum of differences, and is compared by for the largest: its difference once it is delivered.
 unfoldable pub deliveredDifference : List IndexRecord → List ℤ → ℕ → ℤ
 deliveredDifference rs s p = cond (leb 1 (recordAt rs p .state)) (scaledDifference (recordAt rs p .levels) (storedReading rs s)) (pos 0)
 

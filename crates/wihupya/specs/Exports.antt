@@ -1,10 +1,10 @@
 -- What an exported call leaves: a number, 0 if it was not refused and else the number of the cause; the job record's words, the cells'
 -- records and rest, and the store. Points, promote, result and cross total write their answer into words of their own, doubles into
--- three doubles, which a refusal leaves.
+-- three doubles of its own, which a refusal leaves.
 use mathlib.Core.List.{List, [], _∷_}
 use Prim.Native.Nat.{ℕ}
 use lib.IntN.{ℤ}
-use lib.Ieee.{Float}
+use lib.Ieee.{Float, binary64, toBits}
 use mir.Syntax.{w64}
 use mir.Val.{ofZ}
 use Rattle.area.specs.Records.{Run}
@@ -12,6 +12,10 @@ use Rattle.machine.specs.Promote.{Outcome, met, spent, promoted}
 use Rattle.calls.specs.Replies.{Reply, refused, accepted, wrote, promotion, counts, doubled, total, verdict}
 use Rattle.calls.specs.Calls.{CallResult}
 use Rattle.wihupya.specs.Words.{lowWord, highWord, wordsOf}
+
+-- The bits of a double: sign, exponent, fraction.
+abbrev pub bits : Float → ℕ
+bits x = toBits binary64 x
 
 unfoldable pub numberOf : Reply → ℕ
 numberOf (refused n) = n
@@ -93,13 +97,14 @@ totalAfter (doubled r) w = w
 totalAfter (total x) w = lowWord (ofZ w64 x) ∷ highWord (ofZ w64 x) ∷ []
 totalAfter (verdict b) w = w
 
--- The three doubles after doubles: mean, pending error and largest delivered difference.
-unfoldable pub doublesAfter : Reply → List Float → List Float
+-- The three doubles after doubles, by their 64 bits: mean, pending error and largest delivered difference. A NaN that was lent has bits of its
+-- own, so that a refusal leaves it as it was.
+unfoldable pub doublesAfter : Reply → List ℕ → List ℕ
 doublesAfter (refused n) d = d
 doublesAfter accepted d = d
 doublesAfter (wrote written size) d = d
 doublesAfter (promotion o) d = d
 doublesAfter (counts c) d = d
-doublesAfter (doubled r) d = r .mean ∷ r .pending ∷ r .largest ∷ []
+doublesAfter (doubled r) d = bits (r .mean) ∷ bits (r .pending) ∷ bits (r .largest) ∷ []
 doublesAfter (total x) d = d
 doublesAfter (verdict b) d = d

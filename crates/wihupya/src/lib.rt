@@ -10,6 +10,7 @@ ghost use Rattle.area.specs.Settings.{settingsOf};
 ghost use Rattle.area.specs.Encoding.{areaOf};
 ghost use Rattle.soundness.specs.Clauses.{checked};
 ghost use Rattle.area.specs.Records.{runOf};
+ghost use Rattle.doubles.specs.Exact.{AllNumbers};
 ghost use Rattle.counting.specs.Answer.{countsIn};
 ghost use Rattle.calls.specs.Replies.{wrote, counts as countsReply, doubled as doubledReply, total as totalReply, replyOf};
 ghost use Rattle.calls.specs.Table.{start, point, points, deliver, promote, result, doubles, crossTotal};
@@ -158,14 +159,15 @@ fn count_words(counts: counting::Counts) -> [u32; 9]
     words
 }
 
-// A report as three doubles.
-fn three_doubles(found: doubles::Report) -> [f64; 3]
+// A report as three doubles, by their bits.
+fn report_bits(found: doubles::Report) -> [u64; 3]
+    requires { ⌜ AllNumbers found ⌝ }
     ensures { λ r. ⌜ r ≡ doublesAfter (doubledReply found) [] ⌝ }
 {
-    let mut report = [0.0f64; 3];
-    report[0] = found.mean;
-    report[1] = found.pending;
-    report[2] = found.largest;
+    let mut report = [0u64; 3];
+    report[0] = f64::to_bits(found.mean);
+    report[1] = f64::to_bits(found.pending);
+    report[2] = f64::to_bits(found.largest);
     report
 }
 
@@ -324,11 +326,11 @@ pub extern "C" fn wihupya_result(
     }
 }
 
-// The mean, the pending error and the largest delivered difference as doubles.
+// The mean, the pending error and the largest delivered difference as doubles, by their bits.
 #[no_mangle]
 pub extern "C" fn wihupya_doubles(
     job: &[u32; 10],
-    report: &mut [f64; 3],
+    report: &mut [u64; 3],
     cells: &[u32],
     store: &[i32],
 ) -> u32
@@ -338,7 +340,7 @@ pub extern "C" fn wihupya_doubles(
     match doubled {
         calls::Doubled::Refused(number) => number,
         calls::Doubled::Reported(found) => {
-            *report = three_doubles(found);
+            *report = report_bits(found);
             0
         }
     }

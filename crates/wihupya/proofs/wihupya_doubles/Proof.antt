@@ -9,6 +9,7 @@ use Rattle.area.specs.declared.JobRecord.{JobRecord}
 use Rattle.area.specs.Encoding.{areaOf}
 use Rattle.calls.specs.Table as table
 use Rattle.calls.specs.Calls.{callOn}
+use Rattle.calls.proofs.ReportTold.{report-facts}
 use Rattle.wihupya.proofs.wihupya_doubles.Statement.{statement}
 use Rattle.wihupya.proofs.wihupya_doubles.Tie as tie
 
@@ -24,8 +25,14 @@ enum-known-doubled c = search needs
 enum-known-doubled-2 : tie.Need-enum-known-doubled-2
 enum-known-doubled-2 c = search needs
 
-three-doubles-requires : tie.Need-three-doubles-requires
-three-doubles-requires c κs = search needs
+-- a report that was answered has no NaN
+report-bits-requires : tie.Need-report-bits-requires
+unfolding replyOfDoubles
+report-bits-requires c κs =
+    let s = c .before .before .before .before .before .before in
+    let job = c .before .before .before .before .job-of .result in
+    report-facts .numbers (areaOf job (now (s .args .cells)) (now (s .args .store))) (c .before .doubled2 .given .0 .0)
+    (sym (ap replyOfDoubles (sym (c .before .doubled2 .given .1)) ∙ ap (λ (x : table.Answer). x .reply) (c .before .before .before .doubles .ensures)))
 
 returns : tie.Need-returns
 unfolding replyOfDoubles numberOf doublesAfter
@@ -40,7 +47,7 @@ unfolding replyOfDoubles numberOf doublesAfter
 returns-2 c =
     let s = c .before .before .before .before .before .before .before in
     let is = ap replyOfDoubles (sym (c .before .before .doubled2 .given .1)) ∙ ap (λ (x : table.Answer). x .reply) (c .before .before .before .before .doubles .ensures) ∙ ap (λ (j : JobRecord). callOn (areaOf j (now (s .args .cells)) (now (s .args .store))) table.doubles .answer .reply) (c .before .before .before .before .before .job-of .ensures) in
-    (ap numberOf is, c .three-doubles .ensures ∙ ap (λ x. doublesAfter x (now (s .args .report))) is)
+    (ap numberOf is, c .report-bits .ensures ∙ ap (λ x. doublesAfter x (now (s .args .report))) is)
 
 pub wihupya-doubles-spec : {M : Type 1} → statement M
 wihupya-doubles-spec =
@@ -50,6 +57,6 @@ wihupya-doubles-spec =
     doubles-requires
     enum-known-doubled
     enum-known-doubled-2
-    three-doubles-requires
+    report-bits-requires
     returns
     returns-2)
