@@ -10,7 +10,7 @@
  *     wihupya_deliver  the readings at these points, in the same order, and an indicator of how much the block matters
  *     ...              the next block, until wihupya_points says WIHUPYA_NO_BLOCK_WANTED
  *     wihupya_promote  refines where the indicator is largest, so that new blocks are wanted; ends with met or spent
- *     wihupya_result   the mean
+ *     wihupya_result   the mean; wihupya_doubles gives it as a double
  *
  * WHAT YOU LEND. The library has no memory of its own. A job lives in three arrays of yours, its work area, which you hand to
  * every call; between calls you may copy them, save them or move them, for they hold numbers and no pointers.
@@ -72,6 +72,9 @@ extern "C" {
 #define WIHUPYA_COUNT_WORDS 9
 #define WIHUPYA_TOTAL_WORDS 2
 
+/* Length in doubles. */
+#define WIHUPYA_DOUBLES_LENGTH 3
+
 /* Causes of a refusal. Where several apply, the lowest number is returned. (10 is the program's: a malformed job file.) */
 #define WIHUPYA_ACCEPTED 0             /* not refused */
 #define WIHUPYA_AXES_OUT_OF_RANGE 1    /* start: the axes are not 1 to 8 */
@@ -112,6 +115,11 @@ extern "C" {
 #define WIHUPYA_COUNT_WANTED 6   /* indices whose block is not delivered */
 #define WIHUPYA_COUNT_RESERVED 7 /* the readings that all their blocks take together */
 #define WIHUPYA_COUNT_CEILING 8  /* how often refining would have passed level 8 or excess 12 */
+
+/* The doubles that wihupya_doubles writes, IEEE 754 numbers of 64 bits. */
+#define WIHUPYA_DOUBLES_MEAN 0    /* the mean, in the unit of your readings: the scaled mean divided by WIHUPYA_SCALE */
+#define WIHUPYA_DOUBLES_PENDING 1 /* the pending error, in the unit of your indicators */
+#define WIHUPYA_DOUBLES_LARGEST 2 /* the largest delivered difference, with its sign, in the unit of your readings */
 
 /*
  * The cells of an index record, for callers who want to look into the grid. The record of place p begins at cell
@@ -202,6 +210,22 @@ uint32_t wihupya_promote(uint32_t job[WIHUPYA_JOB_WORDS], uint32_t outcome[WIHUP
  */
 uint32_t wihupya_result(const uint32_t job[WIHUPYA_JOB_WORDS], uint32_t counts[WIHUPYA_COUNT_WORDS], const uint32_t *cells,
                         size_t words, const int32_t *store, size_t readings);
+
+/*
+ * Gives the mean, the pending error and the largest delivered difference as doubles, for plotting packages and other software that reads
+ * doubles: a companion of wihupya_result, by which the mean is still judged. Nothing is lost: each double is exactly the number. Can be
+ * called at any time.
+ *
+ * Mean and pending error are the recorded ones, as in wihupya_result. The largest difference is worked out from the readings in the store,
+ * since nothing records it: of the delivered blocks' differences, which are what they add to the mean, the one of largest size, given with
+ * its sign; where several have that size, the one of the lowest place. With nothing delivered all three are 0. A zero is +0, never -0.
+ *
+ *   report  becomes the three doubles WIHUPYA_DOUBLES_...
+ *
+ * Refused as wihupya_result is, with 3 or 4; report is then left as it was.
+ */
+uint32_t wihupya_doubles(const uint32_t job[WIHUPYA_JOB_WORDS], double report[WIHUPYA_DOUBLES_LENGTH], const uint32_t *cells,
+                         size_t words, const int32_t *store, size_t readings);
 
 /*
  * Works the scaled mean out anew, from the readings in the store and by another formula. In a work area that only calls have

@@ -1,6 +1,6 @@
 /*
- * The header's functions as C calls them: every cause, a number of full width for every parameter, and every word that is
- * written. Says nothing if all is well.
+ * The header's functions as C calls them: every cause, a number of full width for every parameter, and every word and
+ * double that is written. Says nothing if all is well.
  */
 #include "wihupya.h"
 
@@ -19,6 +19,7 @@ static struct area {
 static uint8_t position[WIHUPYA_MOST_AXES], positions[WIHUPYA_LARGEST_BLOCK * WIHUPYA_MOST_AXES];
 static uint32_t written[WIHUPYA_POINTS_WORDS], outcome[WIHUPYA_OUTCOME_WORDS];
 static uint32_t counts[WIHUPYA_COUNT_WORDS], total[WIHUPYA_TOTAL_WORDS];
+static double report[WIHUPYA_DOUBLES_LENGTH];
 
 #define EXPECT(holds) expect((holds), #holds, __LINE__)
 /* The call is refused with this number and leaves the area. */
@@ -44,6 +45,11 @@ static uint32_t start(uint64_t threshold)
 static uint32_t deliver(const int32_t *block, size_t count, uint32_t indicator)
 {
     return wihupya_deliver(area.job, block, count, indicator, WHOLE);
+}
+
+static void promote(void)
+{
+    EXPECT(wihupya_promote(area.job, outcome, WHOLE) == WIHUPYA_ACCEPTED && outcome[0] == WIHUPYA_PROMOTED);
 }
 
 static void test_start(void)
@@ -114,7 +120,7 @@ static void test_steps(void)
     EXPECT(area.cells[WIHUPYA_CELL_INDICATOR] == UINT32_MAX && area.store[0] == root[0]);
     REFUSED(WIHUPYA_NO_BLOCK_WANTED, wihupya_point(area.job, 0, WHOLE, position, AXES));
     REFUSED(WIHUPYA_NO_BLOCK_WANTED, points(0, AXES));
-    EXPECT(wihupya_promote(area.job, outcome, WHOLE) == WIHUPYA_ACCEPTED && outcome[0] == WIHUPYA_PROMOTED);
+    promote();
 
     memset(position, MARK, sizeof position);
     REFUSED(WIHUPYA_TOO_SHORT, wihupya_point(area.job, 0, WHOLE, position, AXES - 1));
@@ -163,11 +169,77 @@ static void test_negative_mean(void)
     EXPECT(wihupya_promote(area.job, outcome, WHOLE) == WIHUPYA_ACCEPTED && outcome[0] == WIHUPYA_MET);
 }
 
+/* Whether the report is these three, bit by bit, and the area as it was. */
+static bool doubles_are(double mean, double pending, double largest)
+{
+    double expected[WIHUPYA_DOUBLES_LENGTH];
+    expected[WIHUPYA_DOUBLES_MEAN] = mean;
+    expected[WIHUPYA_DOUBLES_PENDING] = pending;
+    expected[WIHUPYA_DOUBLES_LARGEST] = largest;
+    memset(report, MARK, sizeof report);
+    before = area;
+    EXPECT(wihupya_doubles(area.job, report, WHOLE) == WIHUPYA_ACCEPTED);
+    return memcmp(report, expected, sizeof report) == 0 && memcmp(&before, &area, sizeof area) == 0;
+}
+
+/* The job of examples/two-axes.txt, whose differences are 4160, 2048, 0 and -512; then what refuses. */
+static void test_doubles_of_example(void)
+{
+    const int32_t root[1] = {4160}, first[2] = {64, 16448}, second[2] = {4096, 4224}, third[2] = {1088, 9280};
+    EXPECT(start(40) == WIHUPYA_ACCEPTED && deliver(root, 1, 100) == WIHUPYA_ACCEPTED);
+    promote();
+    EXPECT(deliver(first, 2, 50) == WIHUPYA_ACCEPTED && deliver(second, 2, 0) == WIHUPYA_ACCEPTED);
+    promote();
+    EXPECT(deliver(third, 2, 10) == WIHUPYA_ACCEPTED);
+    EXPECT(doubles_are(5696.0, 10.0, 4160.0));
+
+    double marked[WIHUPYA_DOUBLES_LENGTH];
+    memset(marked, MARK, sizeof marked);
+    memcpy(report, marked, sizeof report);
+    REFUSED(WIHUPYA_TOO_SHORT, wihupya_doubles(area.job, report, LENT(WIHUPYA_CELLS - 1, BUDGET)));
+    REFUSED(WIHUPYA_TOO_SHORT, wihupya_doubles(area.job, report, LENT(WIHUPYA_CELLS, BUDGET - 1)));
+    area.job[WIHUPYA_JOB_PENDING] ^= 1;
+    REFUSED(WIHUPYA_NOT_SOUND, wihupya_doubles(area.job, report, WHOLE));
+    REFUSED(WIHUPYA_TOO_SHORT, wihupya_doubles(area.job, report, LENT(WIHUPYA_CELLS, BUDGET - 1)));
+    EXPECT(memcmp(report, marked, sizeof report) == 0);
+}
+
+/* One axis and threshold 0: the root with this reading and indicator 1, refined, then both ends. */
+static void run_one_axis(int32_t root, const int32_t ends[2], uint32_t indicator)
+{
+    EXPECT(wihupya_start(area.job, 1, 0, BUDGET, WHOLE) == WIHUPYA_ACCEPTED && deliver(&root, 1, 1) == WIHUPYA_ACCEPTED);
+    promote();
+    EXPECT(deliver(ends, 2, indicator) == WIHUPYA_ACCEPTED);
+}
+
+static void test_doubles(void)
+{
+    const int32_t fours[2] = {-4, -4}, quarters[2] = {-3, -4};
+    EXPECT(WIHUPYA_DOUBLES_MEAN == 0 && WIHUPYA_DOUBLES_PENDING == 1 && WIHUPYA_DOUBLES_LARGEST == 2);
+    EXPECT(sizeof report == 24);
+    test_doubles_of_example();
+
+    EXPECT(wihupya_start(area.job, 3, 0, BUDGET, WHOLE) == WIHUPYA_ACCEPTED);
+    EXPECT(doubles_are(0.0, 0.0, 0.0));
+
+    /* The differences 4 and -4 are of one size: that of the lower place is given. */
+    run_one_axis(4, fours, 0);
+    EXPECT(doubles_are(0.0, 0.0, 4.0));
+
+    /* The area is sound with another mean too; the difference is still that of the readings. */
+    run_one_axis(0, quarters, 7);
+    EXPECT(doubles_are(-1.75, 7.0, -1.75));
+    area.job[WIHUPYA_JOB_MEAN] = 12345;
+    area.job[WIHUPYA_JOB_MEAN + 1] = 0;
+    EXPECT(doubles_are(12345.0 / WIHUPYA_SCALE, 7.0, -1.75));
+}
+
 int main(void)
 {
     test_start();
     test_steps();
     test_result();
     test_negative_mean();
+    test_doubles();
     return EXIT_SUCCESS;
 }
