@@ -1,4 +1,4 @@
-//! The library's eight functions, each behind a safe one that lends it slices.
+//! The library's nine functions, each behind a safe one that lends it slices.
 //! `include/wihupya.h` says what a call does, which numbers it returns, and what
 //! the words are.
 //!
@@ -24,6 +24,8 @@ pub type OutcomeWord = [u32; 1];
 /// Result's words: pending error and scaled mean, the low word of each first,
 /// then old, active, wanted, reserved and ceiling.
 pub type CountWords = [u32; 9];
+/// Doubles' report: mean, pending error and largest delivered difference.
+pub type DoublesReport = [f64; 3];
 /// Cross total's words, the low word first.
 pub type TotalWords = [u32; 2];
 
@@ -86,6 +88,15 @@ extern "C" {
     fn wihupya_result(
         job: *const JobWords,
         counts: *mut CountWords,
+        cells: *const u32,
+        words: usize,
+        store: *const i32,
+        readings: usize,
+    ) -> u32;
+
+    fn wihupya_doubles(
+        job: *const JobWords,
+        report: *mut DoublesReport,
         cells: *const u32,
         words: usize,
         store: *const i32,
@@ -184,6 +195,14 @@ pub fn result(job: &JobWords, counts: &mut CountWords, cells: &[u32], store: &[i
     // SAFETY: each pointer is that of a borrowed slice and stands before its
     // length; result writes the counts alone, which are borrowed mutably.
     unsafe { wihupya_result(job, counts, cells, words, store, readings) }
+}
+
+pub fn doubles(job: &JobWords, report: &mut DoublesReport, cells: &[u32], store: &[i32]) -> u32 {
+    let (words, readings) = (cells.len(), store.len());
+    let (cells, store) = (cells.as_ptr(), store.as_ptr());
+    // SAFETY: each pointer is that of a borrowed slice and stands before its
+    // length; doubles writes the report alone, which is borrowed mutably.
+    unsafe { wihupya_doubles(job, report, cells, words, store, readings) }
 }
 
 pub fn cross_total(job: &JobWords, total: &mut TotalWords, cells: &[u32], store: &[i32]) -> u32 {
