@@ -37,6 +37,8 @@
 //! let counts = job.result()?;
 //! assert_eq!(counts.scaled_mean, job.cross_total()?);
 //! println!("the mean is {} / {SCALE}", counts.scaled_mean);
+//! // The same as a double, for software that reads doubles.
+//! println!("which is {}", job.doubles()?.mean);
 //! # Ok(())
 //! # }
 //! ```
@@ -113,6 +115,20 @@ pub struct Counts {
     pub reserved: u32,
     /// How often refining would have passed level 8 or excess 12.
     pub ceiling: u32,
+}
+
+/// A job's figures as doubles, for plotting packages and other software that
+/// reads them. Nothing is lost: each is exactly the number. A zero is +0.
+#[derive(Clone, Copy, Debug, PartialEq)]
+pub struct Doubles {
+    /// The mean, in the unit of the readings.
+    pub mean: f64,
+    /// The sum of the active indices' indicators, in their unit.
+    pub pending_error: f64,
+    /// Of the delivered blocks' differences, which are what they add to the
+    /// mean, the one of largest size, with its sign; of equals the one of the
+    /// lowest place. In the unit of the readings.
+    pub largest_difference: f64,
 }
 
 impl<'a> Integrator<'a> {
@@ -257,6 +273,36 @@ impl<'a> Integrator<'a> {
             reserved: counts[7],
             ceiling: counts[8],
         })
+    }
+
+    /// Mean, pending error and largest delivered difference as doubles; with
+    /// nothing delivered all three are 0. Mean and pending error are as they
+    /// are recorded, the difference is worked out from the readings. The mean
+    /// is still judged by [`result`](Integrator::result), and this is refused
+    /// where that is.
+    ///
+    /// ```
+    /// # use wihupya::{Doubles, Integrator, Refusal, CELLS, SCALE};
+    /// # fn main() -> Result<(), Refusal> {
+    /// # let (mut cells, mut store) = (vec![0; CELLS], vec![0; 64]);
+    /// # let mut job = Integrator::new(&mut cells, &mut store);
+    /// job.start(1, 0, 64)?;
+    /// job.deliver(&[0], 1)?;
+    /// job.promote()?;
+    /// job.deliver(&[-3, -4], 7)?;
+    /// let doubles = job.doubles()?;
+    /// // The second block brings a quarter of -3 - 2 * 0 - 4.
+    /// let expected = Doubles { mean: -1.75, pending_error: 7.0, largest_difference: -1.75 };
+    /// assert_eq!(doubles, expected);
+    /// assert_eq!(doubles.mean * SCALE as f64, job.result()?.scaled_mean as f64);
+    /// # Ok(())
+    /// # }
+    /// ```
+    pub fn doubles(&self) -> Result<Doubles, Refusal> {
+        let mut report = [0.0; 3];
+        Refusal::judge(exported::doubles(&self.job, &mut report, self.cells, self.store))?;
+        let [mean, pending_error, largest_difference] = report;
+        Ok(Doubles { mean, pending_error, largest_difference })
     }
 
     /// The scaled mean worked out anew, from the readings and by another

@@ -1,6 +1,6 @@
 //! The scope document's job of 100 bytes, run by calls.
 
-use wihupya::{Counts, Integrator, JobRecord, Promotion, Refusal, CELLS, SCALE};
+use wihupya::{Counts, Doubles, Integrator, JobRecord, Promotion, Refusal, CELLS, SCALE};
 
 /// Indicators in the order in which the job wants the blocks.
 const INDICATORS: [u32; 4] = [100, 50, 0, 10];
@@ -55,6 +55,8 @@ fn the_documents_job_comes_to_the_documents_figures() {
         ceiling: 0,
     };
     assert_eq!(job.result(), Ok(expected));
+    let doubles = Doubles { mean: 5_696.0, pending_error: 10.0, largest_difference: 4_160.0 };
+    assert_eq!(job.doubles(), Ok(doubles));
     assert_eq!(job.cross_total(), Ok(scaled_mean));
     assert_eq!((scaled_mean / SCALE, scaled_mean % SCALE), (5_696, 0));
     let record = JobRecord {

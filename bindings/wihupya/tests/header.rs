@@ -1,5 +1,8 @@
 //! That the header for C says what these bindings say.
 
+mod support;
+
+use support::Storage;
 use wihupya::*;
 
 const HEADER: &str = include_str!("../../../include/wihupya.h");
@@ -66,4 +69,22 @@ fn the_job_records_words_are_the_headers() {
     assert_eq!(wide("JOB_MEAN"), [6, 5]);
     let narrow = ["JOB_AXES", "JOB_BUDGET", "JOB_HELD", "JOB_RESERVED"].map(|name| words[at(name)]);
     assert_eq!(narrow, [7, 8, 9, 10]);
+}
+
+/// The root's block is delivered, so that the three are different.
+#[test]
+fn the_doubles_lie_where_the_header_says() {
+    let mut storage = Storage::started(2, 0, 64);
+    storage.call(|job| job.deliver(&[5], 9)).unwrap();
+    storage.job.scaled_mean = 3 * SCALE;
+    let mut report = [f64::NAN; 3];
+    let Storage { job, cells, store } = &storage;
+    assert_eq!(wihupya_sys::doubles(&job.to_words(), &mut report, cells, store), 0);
+    assert_eq!(defined("DOUBLES_LENGTH"), Some(report.len().to_string().as_str()));
+    let at = |name: &str| report[defined(name).unwrap().parse::<usize>().unwrap()];
+    let doubles = storage.call(|job| job.doubles()).unwrap();
+    assert_eq!(doubles, Doubles { mean: 3.0, pending_error: 9.0, largest_difference: 5.0 });
+    assert_eq!(at("DOUBLES_MEAN"), doubles.mean);
+    assert_eq!(at("DOUBLES_PENDING"), doubles.pending_error);
+    assert_eq!(at("DOUBLES_LARGEST"), doubles.largest_difference);
 }

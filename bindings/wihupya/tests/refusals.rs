@@ -31,6 +31,9 @@ fn calls_on_an_area() -> Vec<(Storage, Refused)> {
             refused_in(storage, part, cause, |job| job.result())
         }),
         (Storage::wanting_two(), |storage, part, cause| {
+            refused_in(storage, part, cause, |job| job.doubles())
+        }),
+        (Storage::wanting_two(), |storage, part, cause| {
             refused_in(storage, part, cause, |job| job.cross_total())
         }),
     ]
