@@ -1,10 +1,10 @@
-//! The eight calls on any lent storage. Each but check looks for a cause to
+//! The nine calls on any lent storage. Each but check looks for a cause to
 //! refuse first, and a refused call changes nothing.
 
 use crate::area::{self, IndexRecord, JobRecord, BUDGET_LIMIT};
 use crate::check::{self, storage_short};
 use crate::index::{self, Levels, MOST_AXES};
-use crate::steps::{self, Counts, PointCounts, Promotion};
+use crate::steps::{self, Counts, Doubles, PointCounts, Promotion};
 
 pub use crate::check::check;
 
@@ -150,6 +150,11 @@ pub fn promote(
 pub fn result(job: &JobRecord, records: &[IndexRecord], store: &[i32]) -> Result<Counts, Cause> {
     judge_area(job, records, store)?;
     Ok(steps::result(job, records))
+}
+
+pub fn doubles(job: &JobRecord, records: &[IndexRecord], store: &[i32]) -> Result<Doubles, Cause> {
+    judge_area(job, records, store)?;
+    Ok(steps::doubles(job, records, store))
 }
 
 pub fn cross_total(job: &JobRecord, records: &[IndexRecord], store: &[i32]) -> Result<i64, Cause> {

@@ -6,7 +6,7 @@ use crate::index::Levels;
 use crate::rule;
 
 /// Sums are given times 2^20, which makes them whole.
-const SCALE: u32 = 20;
+pub const SCALE: u32 = 20;
 
 /// The held records of a job of so many axes, and its readings.
 #[derive(Clone, Copy)]
@@ -80,6 +80,15 @@ impl Readings<'_> {
     fn place_at(&self, link: u32) -> Option<usize> {
         let place = link as usize;
         (place < self.held.len()).then_some(place)
+    }
+
+    /// The scaled difference of largest size among the delivered, 0 if there is
+    /// none. Of equal ones the last is taken, so the places are gone through
+    /// backward.
+    pub fn largest_difference(&self) -> i64 {
+        let delivered = self.held.iter().rev().filter(|record| record.state != WANTED);
+        let differences = delivered.map(|record| self.difference(&record.levels));
+        differences.max_by_key(|difference| difference.abs()).unwrap_or(0)
     }
 
     /// The scaled mean from coefficients and full tensor rules.

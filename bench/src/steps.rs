@@ -4,7 +4,7 @@
 
 use crate::area::{self, IndexRecord, JobRecord, ACTIVE, HELD_LIMIT, OLD, WANTED};
 use crate::index::{self, Levels, MOST_AXES, ROOT};
-use crate::quadrature::Readings;
+use crate::quadrature::{Readings, SCALE};
 
 #[derive(Clone, Copy, Debug, PartialEq, Eq)]
 pub enum Promotion {
@@ -30,6 +30,14 @@ pub struct Counts {
     pub pending: u64,
     pub mean: i64,
     pub ceiling: u32,
+}
+
+/// What doubles gives.
+#[derive(Clone, Copy, Debug, PartialEq)]
+pub struct Doubles {
+    pub mean: f64,
+    pub pending: f64,
+    pub largest: f64,
 }
 
 fn held<'a>(job: &JobRecord, records: &'a [IndexRecord]) -> &'a [IndexRecord] {
@@ -180,6 +188,13 @@ fn ceiling_count(axes: usize, held: &[IndexRecord]) -> u32 {
     };
     let old = held.iter().filter(|record| record.state == OLD);
     old.map(|record| passing(&record.levels) as u32).sum()
+}
+
+pub fn doubles(job: &JobRecord, records: &[IndexRecord], store: &[i32]) -> Doubles {
+    let largest = readings(job, records, store).largest_difference();
+    // Each is far below 2^53 in size, so that nothing is lost.
+    let unscaled = |number: i64| number as f64 / f64::from(1 << SCALE);
+    Doubles { mean: unscaled(job.mean), pending: job.pending as f64, largest: unscaled(largest) }
 }
 
 /// The scaled mean worked out from the readings.

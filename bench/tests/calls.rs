@@ -10,6 +10,7 @@ use reference::call::{Answer, Call, Lengths};
 use reference::calls;
 use reference::choice::{Block, Chooser};
 use reference::grid::{self, BUDGET_LIMIT, HELD_LIMIT, MOST_AXES};
+use reference::reports;
 use reference::rng::Rng;
 use reference::sample;
 use std::collections::BTreeMap;
@@ -101,9 +102,10 @@ impl List {
             26..=39 => chooser.damaged_deliver(wanted),
             40..=51 => chooser.carry_on(wanted),
             52..=65 => Call::Promote,
-            66..=75 => Call::Result,
-            76..=83 => Call::CrossTotal,
-            84..=93 => Call::Check,
+            66..=72 => Call::Result,
+            73..=79 => Call::CrossTotal,
+            80..=86 => Call::Doubles,
+            87..=93 => Call::Check,
             _ => chooser.damaged_start(),
         }
     }
@@ -169,6 +171,9 @@ fn lists_of_calls_leave_what_the_reference_leaves() {
         "result accepted",
         "result refused 3",
         "result refused 4",
+        "doubles accepted",
+        "doubles refused 3",
+        "doubles refused 4",
         "cross total accepted",
         "cross total refused 3",
         "cross total refused 4",
@@ -180,6 +185,17 @@ fn lists_of_calls_leave_what_the_reference_leaves() {
             seen.get(what).is_some_and(|&count| count >= 5),
             "{what} was hardly seen: {seen:?}"
         );
+    }
+}
+
+/// Answers worked out by hand, among them some to differences of equal size and
+/// to recorded means that are not those of the readings.
+#[test]
+fn doubles_says_of_the_areas_by_name_what_it_must() {
+    for reports::Case { name, area, answer } in reports::cases() {
+        let lengths = Lengths { records: area.records.len(), store: area.store.len() };
+        let expected = answer.map_or_else(Answer::Refused, Answer::Doubles);
+        assert_eq!(Pair::new(area).call(&Call::Doubles, lengths, &[]), expected, "{name}");
     }
 }
 

@@ -3,10 +3,11 @@
 
 use bench::area::{IndexRecord, JobRecord};
 use bench::calls::{self, Cause};
-use bench::steps::{Counts, PointCounts, Promotion};
+use bench::steps::{Counts, Doubles, PointCounts, Promotion};
 use reference::area::{self, Area};
 use reference::call::{self, Answer, Call, Lengths};
 use reference::calls as reference_calls;
+use reference::doubles::Report;
 
 /// The storage that a caller has.
 #[derive(Clone, Debug, PartialEq, Eq)]
@@ -102,6 +103,7 @@ impl Pair {
             }
             Call::Promote => calls::promote(job, records, store).map(promotion),
             Call::Result => calls::result(job, records, store).map(totals),
+            Call::Doubles => calls::doubles(job, records, store).map(report),
             Call::CrossTotal => calls::cross_total(job, records, store).map(Answer::CrossTotal),
             Call::Check => Ok(Answer::Sound(calls::check(job, records, store))),
         };
@@ -122,6 +124,10 @@ fn promotion(promotion: Promotion) -> Answer {
         Promotion::Spent => reference_calls::Promotion::Spent,
         Promotion::Promoted => reference_calls::Promotion::Promoted,
     })
+}
+
+fn report(Doubles { mean, pending, largest }: Doubles) -> Answer {
+    Answer::Doubles(Report { mean, pending, largest })
 }
 
 fn totals(counts: Counts) -> Answer {
