@@ -20,6 +20,7 @@ pub fn print(job: &Job) {
         Single::new(job, 128, "check", Side::check, Side::check),
         Single::new(job, 512, "check", Side::check, Side::check),
         Single::new(job, 512, "result", Side::result, Side::result),
+        Single::new(job, 512, "doubles", Side::doubles, Side::doubles),
         Single::new(job, 512, "cross total", Side::cross_total, Side::cross_total),
     ];
     let rows = take_rounds(singles);

@@ -33,11 +33,12 @@ const PARTS: [(&str, &str); 4] = [
     ("promotes", "full job: promote calls"),
 ];
 
-const SINGLES: [(&str, &str); 5] = [
+const SINGLES: [(&str, &str); 6] = [
     ("check-32", "check, 32 held"),
     ("check-128", "check, 128 held"),
     ("check-512", "check, 512 held"),
     ("result-512", "result, 512 held"),
+    ("doubles-512", "doubles, 512 held"),
     ("cross-512", "cross total, 512 held"),
 ];
 
@@ -81,6 +82,7 @@ fn perform<S: Side>(subject: &str) -> Result<(), String> {
     match call {
         "check" => counted_part(&mut || area.check()),
         "result" => counted_part(&mut || area.result()),
+        "doubles" => counted_part(&mut || area.doubles()),
         "cross" => counted_part(&mut || area.cross_total()),
         _ => return Err(format!("no subject {subject}")),
     }

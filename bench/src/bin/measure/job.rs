@@ -153,6 +153,22 @@ mod tests {
         }
     }
 
+    /// So that both have looked for the same difference.
+    #[test]
+    fn both_sides_give_the_same_doubles() {
+        let job = Job::of_512_held();
+        for held in [32, 128, 512] {
+            let (proved, idiomatic) = (job.area::<Proved>(held), job.area::<Idiomatic>(held));
+            let mut report = [f64::NAN; 3];
+            let Proved { job, cells, store } = &proved;
+            assert_eq!(wihupya_sys::doubles(job, &mut report, cells, store), 0);
+            let Idiomatic { job, records, store } = &idiomatic;
+            let doubles = steps::doubles(job, records, store);
+            let expected = [doubles.mean, doubles.pending, doubles.largest];
+            assert_eq!(report.map(f64::to_bits), expected.map(f64::to_bits), "{held} held");
+        }
+    }
+
     /// Each block as one call of points gives it, then as calls of point do.
     #[test]
     fn both_sides_give_the_same_points() {

@@ -26,6 +26,7 @@ pub trait Side: Clone {
     fn deliver(&mut self, readings: &[i32], indicator: u32);
     fn promote(&mut self);
     fn result(&self);
+    fn doubles(&self);
     fn cross_total(&self);
     fn check(&self);
     fn held(&self) -> u32;
@@ -97,6 +98,12 @@ impl Side for Proved {
         black_box(counts);
     }
 
+    fn doubles(&self) {
+        let mut report = [0.0; 3];
+        accepted(proved::doubles(&self.job, &mut report, &self.cells, &self.store));
+        black_box(report);
+    }
+
     fn cross_total(&self) {
         let mut total = [0; 2];
         accepted(proved::cross_total(&self.job, &mut total, &self.cells, &self.store));
@@ -149,6 +156,10 @@ impl Side for Idiomatic {
 
     fn result(&self) {
         black_box(calls::result(&self.job, &self.records, &self.store).expect("accepted"));
+    }
+
+    fn doubles(&self) {
+        black_box(calls::doubles(&self.job, &self.records, &self.store).expect("accepted"));
     }
 
     fn cross_total(&self) {
