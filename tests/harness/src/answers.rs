@@ -3,6 +3,7 @@
 //! answers can be compared word for word.
 
 use crate::calls::{self, CountWords, OutcomeWord, PointsWords, TotalWords};
+use crate::doubles;
 use crate::lent::Loan;
 use reference::area::Area;
 use reference::call::{self, Answer, Call};
@@ -30,6 +31,7 @@ pub struct Slots {
     pub outcome: OutcomeWord,
     pub counts: CountWords,
     pub total: TotalWords,
+    pub doubles: doubles::Bits,
     /// As long as the call's buffer, and the bytes behind it.
     pub buffer: Vec<u8>,
 }
@@ -50,6 +52,7 @@ pub fn of_library(loan: Loan, call: &Call, slots: &mut Slots) -> ReturnValue {
         Call::Promote => calls::promote(loan, &mut slots.outcome),
         Call::Result => calls::result(loan, &mut slots.counts),
         Call::CrossTotal => calls::cross_total(loan, &mut slots.total),
+        Call::Doubles => doubles::call(loan, &mut slots.doubles),
         Call::Check => return ReturnValue::Sound(calls::check_loan(&loan)),
     })
 }
@@ -63,6 +66,7 @@ pub fn of_reference(area: &mut Area, call: &Call, slots: &mut Slots) -> Answer {
         Answer::Promotion(promotion) => slots.outcome = [outcome_word(*promotion)],
         Answer::Totals(totals) => slots.counts = count_words(totals),
         Answer::CrossTotal(total) => slots.total = total_words(*total),
+        Answer::Doubles(report) => slots.doubles = report.bits(),
         _ => {}
     }
     answer

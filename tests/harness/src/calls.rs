@@ -1,4 +1,4 @@
-//! The exported calls on storage that is lent. The seven that can be refused
+//! The exported calls on storage that is lent. The eight that can be refused
 //! give 0 or the number of the cause. Storage that a call is lent shared must
 //! come back as it was; the functions assert that.
 
@@ -8,7 +8,7 @@ use std::fmt::Debug;
 use std::hint::black_box;
 use wihupya_sys as exported;
 
-pub use wihupya_sys::{CountWords, OutcomeWord, PointsWords, TotalWords};
+pub use wihupya_sys::{CountWords, DoublesReport, OutcomeWord, PointsWords, TotalWords};
 
 /// Check on an area whose cells end with its last record.
 pub fn check(area: &Area) -> bool {
@@ -69,6 +69,13 @@ pub fn result(loan: Loan, counts: &mut CountWords) -> u32 {
     let kept = Snapshot::of(&loan);
     let number = exported::result(loan.job, counts, loan.cells, loan.store);
     kept.assert_unchanged("result", &loan);
+    number
+}
+
+pub fn doubles(loan: Loan, report: &mut DoublesReport) -> u32 {
+    let kept = Snapshot::of(&loan);
+    let number = exported::doubles(loan.job, report, loan.cells, loan.store);
+    kept.assert_unchanged("doubles", &loan);
     number
 }
 

@@ -1,6 +1,7 @@
 //! What the lists of calls have seen, and what a long run has to have seen: a
 //! comparison in which a cause is never returned says nothing of that cause.
 
+use crate::doubles;
 use crate::lent::Part;
 use reference::area::{Area, WORDS};
 use reference::call::{Answer, Call};
@@ -13,7 +14,7 @@ use std::fmt::{self, Display, Formatter};
 pub const LONG_RUN: u64 = 200_000;
 
 /// Every number that a call can be refused with.
-pub const REFUSALS: [(&str, &[u32]); 7] = [
+pub const REFUSALS: [(&str, &[u32]); 8] = [
     ("start", &[1, 2, 3]),
     ("point", &[3, 4, 5, 9]),
     ("points", &[3, 4, 5, 9]),
@@ -21,6 +22,7 @@ pub const REFUSALS: [(&str, &[u32]); 7] = [
     ("promote", &[3, 4, 6]),
     ("result", &[3, 4]),
     ("cross total", &[3, 4]),
+    ("doubles", &[3, 4]),
 ];
 
 const OUTCOMES: [&str; 6] = [
@@ -125,6 +127,9 @@ impl Coverage {
             Answer::Promotion(promotion) => self.note_promotion(*promotion, on.area),
             Answer::Totals(totals) => self.highest("ceiling count", totals.ceiling),
             Answer::CrossTotal(total) => self.note_cross_total(*total, on.area),
+            Answer::Doubles(report) => {
+                self.count_seen(doubles::SEEN, doubles::seen(on.area, report));
+            }
             _ => {}
         }
         if on.altered {
@@ -195,7 +200,7 @@ impl Coverage {
 
     /// What a long run has to see and this one didn't.
     pub fn missing(&self) -> Vec<String> {
-        let lists = [&OUTCOMES[..], &LENT, &POINTS, &BUFFERS, &CROSS_TOTALS];
+        let lists = [&OUTCOMES[..], &LENT, &POINTS, &BUFFERS, &CROSS_TOTALS, &doubles::SEEN];
         let mut due: Vec<String> = lists.concat().into_iter().map(String::from).collect();
         for (call, numbers) in REFUSALS {
             due.push(format!("accepted {call}"));
@@ -239,7 +244,8 @@ mod tests {
     fn a_run_that_saw_nothing_lacks_everything() {
         let refusals: usize = REFUSALS.iter().map(|(_, numbers)| 1 + numbers.len()).sum();
         let points = POINTS.len() + BUFFERS.len();
-        let lists = OUTCOMES.len() + LENT.len() + points + CROSS_TOTALS.len();
+        let figures = CROSS_TOTALS.len() + doubles::SEEN.len();
+        let lists = OUTCOMES.len() + LENT.len() + points + figures;
         assert_eq!(Coverage::default().missing().len(), lists + refusals + 8 + 3 + 3);
     }
 }

@@ -4,8 +4,10 @@
 //!
 //! - [`lent`]: an area as the exported calls take it;
 //! - [`calls`]: the exported calls, which must leave what is lent shared;
-//! - [`verdict`], [`check_cases`], [`tally`]: check alone, on areas by seed,
-//!   altered, short, at their limits, or garbage, and what was seen of them;
+//! - [`doubles`]: doubles by their bits, and what an accepted call has shown;
+//! - [`verdict`], [`check_cases`], [`tally`]: check and doubles alone, on areas
+//!   by seed, altered, short, at their limits, or garbage, and what was seen of
+//!   them;
 //! - [`answers`], [`pair`]: a call on both sides, and the comparison after it;
 //! - [`initial_areas`], [`lists`], [`coverage`]: lists of calls by seed, and what was
 //!   seen of them;
@@ -16,6 +18,7 @@ pub mod answers;
 pub mod calls;
 pub mod check_cases;
 pub mod coverage;
+pub mod doubles;
 pub mod initial_areas;
 pub mod lent;
 pub mod lists;

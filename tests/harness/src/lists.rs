@@ -3,6 +3,7 @@
 
 use crate::answers::{Slots, BEHIND};
 use crate::coverage::{Circumstances, Coverage};
+use crate::doubles;
 use crate::initial_areas::{InitialArea, InitialAreas};
 use crate::lent::Part;
 use crate::pair::Pair;
@@ -133,9 +134,10 @@ impl List {
             36..=46 => chooser.damaged_deliver(wanted),
             47..=56 => self.deliver_or_any(wanted),
             57..=68 => Call::Promote,
-            69..=77 => Call::Result,
-            78..=85 => Call::CrossTotal,
-            86..=94 => Call::Check,
+            69..=75 => Call::Result,
+            76..=81 => Call::CrossTotal,
+            82..=88 => Call::Doubles,
+            89..=94 => Call::Check,
             _ => chooser.damaged_start(),
         }
     }
@@ -182,6 +184,7 @@ impl List {
             outcome: [rng.number() as u32],
             counts: std::array::from_fn(|_| rng.number() as u32),
             total: std::array::from_fn(|_| rng.number() as u32),
+            doubles: doubles::any_bits(rng),
             buffer: (0..length).map(|_| rng.number() as u8).collect(),
         }
     }

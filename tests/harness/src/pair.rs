@@ -50,6 +50,7 @@ impl Pair {
         same("the outcome word", by_library.outcome, by_reference.outcome)?;
         same_each("count word", &by_library.counts, &by_reference.counts)?;
         same_each("total word", &by_library.total, &by_reference.total)?;
+        same_each("the bits of double", &by_library.doubles, &by_reference.doubles)?;
         same_each("byte of the buffer", &by_library.buffer, &by_reference.buffer)?;
         self.same_areas()?;
         Ok(answer)

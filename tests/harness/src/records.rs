@@ -10,6 +10,7 @@ use reference::call::{self, Answer, Call};
 use reference::calls;
 use reference::choice::{Block, Chooser, LONGEST_BUFFER};
 use reference::grid::{self, BUDGET_LIMIT, HELD_LIMIT, MOST_AXES, READING_LIMIT};
+use reference::reports::{self, Case};
 use reference::rng::Rng;
 use std::collections::BTreeMap;
 
@@ -59,6 +60,7 @@ impl Lists {
             Call::Promote,
             Call::Result,
             Call::CrossTotal,
+            Call::Doubles,
         ];
         for call in unsound {
             self.call(&call, RECORDS, READINGS);
@@ -94,6 +96,7 @@ impl Lists {
             (Call::Check, HELD_LIMIT - 1),
             (Call::Result, HELD_LIMIT),
             (Call::CrossTotal, RECORDS),
+            (Call::Doubles, HELD_LIMIT),
         ];
         for (call, lent) in calls {
             self.call(&call, lent, 3);
@@ -130,6 +133,16 @@ impl Lists {
         self.carry_on(&mut chooser, count);
     }
 
+    /// Doubles on the areas by name, which have means of all sizes, differences
+    /// of one size and causes to refuse.
+    pub fn reports_by_name(&mut self) {
+        for Case { area, .. } in reports::cases() {
+            let (records, readings) = (area.records.len(), area.store.len());
+            self.content(area);
+            self.call(&Call::Doubles, records, readings);
+        }
+    }
+
     pub fn end(&mut self) {
         self.word(END);
     }
@@ -153,9 +166,10 @@ impl Lists {
                 65..=69 => chooser.damaged_points(wanted),
                 70..=75 => chooser.damaged_deliver(wanted),
                 76..=81 => Call::Promote,
-                82..=86 => Call::Result,
-                87..=90 => Call::CrossTotal,
-                91..=95 => Call::Check,
+                82..=85 => Call::Result,
+                86..=88 => Call::CrossTotal,
+                89..=92 => Call::Doubles,
+                93..=95 => Call::Check,
                 _ => chooser.damaged_start(),
             };
             let lent = chooser.rng.pick(&[511, 512, 512, 512, 513, 513, 513, 513]);
@@ -257,6 +271,7 @@ fn kind(call: &Call) -> u32 {
         Call::Check => 7,
         // 8 is a content.
         Call::Points { .. } => 9,
+        Call::Doubles => 10,
     }
 }
 
@@ -288,6 +303,7 @@ fn printed(answer: &Answer) -> Vec<u64> {
             .chain([totals.mean as u64, totals.ceiling.into()])
             .collect(),
         Answer::CrossTotal(total) => vec![0, *total as u64],
+        Answer::Doubles(report) => [&[0], &report.bits()[..]].concat(),
         Answer::Sound(sound) => vec![30 + u64::from(*sound)],
         Answer::Refused(cause) => vec![cause.number().into()],
     }

@@ -8,7 +8,7 @@ use std::path::Path;
 use std::process::ExitCode;
 
 /// Of each call every cause and accepted, the outcomes, and check's no and yes.
-const DUE: [(&str, &[u64]); 8] = [
+const DUE: [(&str, &[u64]); 9] = [
     ("start", &[0, 1, 2, 3]),
     ("point", &[0, 3, 4, 5, 9]),
     ("points", &[0, 3, 4, 5, 9]),
@@ -16,6 +16,7 @@ const DUE: [(&str, &[u64]); 8] = [
     ("promote", &[3, 4, 6, 20, 21, 22]),
     ("result", &[0, 3, 4]),
     ("cross total", &[0, 3, 4]),
+    ("doubles", &[0, 3, 4]),
     ("check", &[30, 31]),
 ];
 
@@ -29,6 +30,7 @@ fn long_lists(seed: u64) -> Result<Lists, String> {
         lists.from_near_ceiling(seed + number, 12);
         lists.from_large_block(seed + number, 12);
     }
+    lists.reports_by_name();
     let due = DUE.iter().flat_map(|(call, numbers)| numbers.iter().map(|&number| (*call, number)));
     let missing: Vec<_> = due.filter(|answer| !lists.seen.contains_key(answer)).collect();
     match missing.is_empty() {

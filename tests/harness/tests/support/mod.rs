@@ -6,6 +6,7 @@
 
 use harness::answers::{self, ReturnValue, Slots, BEHIND};
 use harness::calls::{self, CountWords, PointsWords};
+use harness::doubles::Bits;
 use harness::lent::{Lent, Part};
 use reference::area::WORDS;
 use reference::call::Call;
@@ -16,9 +17,16 @@ pub const PROMOTED: u32 = 2;
 pub const RECORDS: usize = 512;
 /// The place of the pending error's low word in the job words.
 pub const PENDING: usize = 2;
+/// The place of the scaled mean's low word.
+pub const MEAN: usize = 4;
 const MARK: u32 = 0xa5a5_a5a5;
 /// What lies in a buffer beforehand; no position is above 128.
 pub const MARKED_BYTE: u8 = 0xa5;
+
+/// What lies in the array of doubles beforehand: two that are no numbers, of
+/// both kinds and with payloads, and -0.
+pub const MARKED_DOUBLES: Bits =
+    [0x7ff8_a5a5_a5a5_a5a5, 0xfff0_a5a5_a5a5_a5a5, 0x8000_0000_0000_0000];
 
 /// Storage full of marks: 512 records, a part of another, a store of 100.
 pub fn storage() -> Lent {
@@ -121,6 +129,7 @@ fn slots(buffer: usize) -> Slots {
         outcome: [MARK],
         counts: [MARK; 9],
         total: [MARK; 2],
+        doubles: MARKED_DOUBLES,
         buffer: vec![MARKED_BYTE; buffer + BEHIND],
     }
 }
