@@ -77,7 +77,7 @@ reference-runs: tools
 figures-compared: figures
 	@$(CARGO) run $(RELEASE) -p comparison
 
-# The exported check against the reference's, on altered areas, short storage and garbage; about half a minute.
+# The exported check and doubles against the reference's, on altered areas, short storage and garbage; some forty seconds.
 check-compared: exported
 	@$(CARGO) run $(RELEASE) -p harness --bin compare_check -- 1 50000
 

@@ -2,7 +2,10 @@
 //! which some clause is never broken says nothing of that clause.
 
 use crate::check_cases::{Case, Kind};
+use crate::doubles;
 use crate::verdict::Verdict;
+use reference::area::Area;
+use reference::calls::{Cause, Doubled};
 use reference::grid::HELD_LIMIT;
 use reference::soundness::{Clause, CLAUSES};
 use std::collections::BTreeMap;
@@ -61,6 +64,9 @@ const CONDITIONS: [(&str, Condition); 11] = [
     }),
 ];
 
+/// How doubles was answered.
+const DOUBLES: [&str; 3] = ["doubles refused with 3", "doubles refused with 4", "doubles reported"];
+
 fn held_count_alone(verdict: &Verdict) -> bool {
     verdict.broken == [Clause::HeldCountInRange]
 }
@@ -83,6 +89,8 @@ pub struct Tally {
     broken: BTreeMap<Clause, u64>,
     alone: BTreeMap<Clause, u64>,
     conditions: BTreeMap<&'static str, u64>,
+    /// On every area, unaltered ones too.
+    doubles: BTreeMap<&'static str, u64>,
 }
 
 impl Tally {
@@ -112,6 +120,16 @@ impl Tally {
         }
     }
 
+    pub fn note_doubles(&mut self, area: &Area, doubled: &Doubled) {
+        let of = |cause: Cause| *doubled == Err(cause);
+        let answered = [of(Cause::StorageShort), of(Cause::AreaNotSound), doubled.is_ok()];
+        let shown = doubled.map_or([false; 5], |report| doubles::seen(area, &report));
+        let seen = DOUBLES.into_iter().zip(answered).chain(doubles::SEEN.into_iter().zip(shown));
+        for (what, seen) in seen {
+            *self.doubles.entry(what).or_default() += u64::from(seen);
+        }
+    }
+
     fn note_clauses(&mut self, broken: &[Clause]) {
         for clause in broken {
             *self.broken.entry(*clause).or_default() += 1;
@@ -133,6 +151,12 @@ impl Tally {
         self.conditions.get(name).copied().unwrap_or(0)
     }
 
+    /// What doubles has to show, and how often it did.
+    fn doubles(&self) -> impl Iterator<Item = (&'static str, u64)> + '_ {
+        let due = DOUBLES.into_iter().chain(doubles::SEEN);
+        due.map(|what| (what, self.doubles.get(what).copied().unwrap_or(0)))
+    }
+
     /// What a long run has to see and this one didn't, or saw and can't be.
     pub fn failures(&self) -> Vec<String> {
         let mut failures = Vec::new();
@@ -149,6 +173,8 @@ impl Tally {
         }
         let unseen = CONDITIONS.iter().filter(|(name, _)| self.condition(name) == 0);
         failures.extend(unseen.map(|(name, _)| format!("never seen: {name}")));
+        let unseen = self.doubles().filter(|(_, count)| *count == 0);
+        failures.extend(unseen.map(|(what, _)| format!("never seen: {what}")));
         failures
     }
 }
@@ -173,6 +199,9 @@ impl Display for Tally {
         for (name, _) in CONDITIONS {
             writeln!(out, "{name}: {}", self.condition(name))?;
         }
+        for (what, count) in self.doubles() {
+            writeln!(out, "{what}: {count}")?;
+        }
         Ok(())
     }
 }
@@ -191,7 +220,8 @@ mod tests {
 
     #[test]
     fn a_run_that_saw_nothing_lacks_everything() {
-        assert_eq!(Tally::default().failures().len(), CLAUSES.len() + CONDITIONS.len());
+        let doubles = DOUBLES.len() + doubles::SEEN.len();
+        assert_eq!(Tally::default().failures().len(), CLAUSES.len() + CONDITIONS.len() + doubles);
     }
 
     #[test]
