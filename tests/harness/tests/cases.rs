@@ -164,6 +164,7 @@ fn each_call() -> Vec<(Lent, Call)> {
         (wanting_nothing(), Call::Promote),
         (wanting_two(), Call::Result),
         (wanting_two(), Call::CrossTotal),
+        (wanting_two(), Call::Doubles),
     ]
 }
 

@@ -31,7 +31,7 @@ fn the_budget_comes_before_the_storage() {
 
 #[test]
 fn the_storage_comes_before_the_area() {
-    let looking = [point(0), points(0), Call::Result, Call::CrossTotal];
+    let looking = [point(0), points(0), Call::Result, Call::CrossTotal, Call::Doubles];
     for call in looking.into_iter().chain([delivery(&[1, 2]), Call::Promote]) {
         let mut lent = altered(wanting_two());
         for part in [short_of_records(&lent), short_of_readings(&lent, 64)] {
