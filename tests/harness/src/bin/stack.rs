@@ -72,6 +72,10 @@ impl Deepest {
         self.note("cross total", || {
             black_box(exported::cross_total(job, &mut total, cells, store));
         });
+        let mut report = [0.0; 3];
+        self.note("doubles", || {
+            black_box(exported::doubles(job, &mut report, cells, store));
+        });
         self.note("point", || {
             black_box(exported::point(job, 0, cells, store, &mut buffer));
         });
