@@ -30,8 +30,8 @@
  * Everything else is the library's. Every call has a defined answer to every number, reading and length, and to every content of
  * the arrays: old, altered, garbage or never set.
  *
- * STACK. Measured, on jobs at both ceilings and with 512 indices: wihupya_deliver takes up to 16 KB of stack, wihupya_cross_total
- * 3 KB, every other call less than 1 KB.
+ * STACK. Measured, on jobs at both ceilings and with 512 indices: wihupya_deliver and wihupya_doubles take up to 16 KB of stack,
+ * wihupya_cross_total 3 KB, every other call less than 1 KB.
  *
  * LATER RELEASES. Words and outcomes are only ever appended, never moved. When they are, compile anew with the new header: the arrays that
  * you lend become longer. There is no version word: an area that an earlier release saved has to be started anew. Kept for later, and
