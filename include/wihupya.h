@@ -33,7 +33,7 @@
  * STACK. Measured, on jobs at both ceilings and with 512 indices: wihupya_deliver and wihupya_doubles take up to 16 KB of stack,
  * wihupya_cross_total 3 KB, every other call less than 1 KB.
  *
- * LATER RELEASES. Words and outcomes are only ever appended, never moved. When they are, compile anew with the new header: the arrays that
+ * LATER RELEASES. Words, doubles and outcomes are only ever appended, never moved. When they are, compile anew with the new header: the arrays that
  * you lend become longer. There is no version word: an area that an earlier release saved has to be started anew. Kept for later, and
  * none of them in use: job words 10 and 11 (carried error), 12 to 17 (means of outputs 2 to 4), 18 (outputs), 19 (edition) and 20 (weight);
  * words 9 and 10 (carried error) and 11 to 16 (further means) of result; outcomes 3 (capped) and 4 (a place was chosen).
@@ -222,7 +222,7 @@ uint32_t wihupya_result(const uint32_t job[WIHUPYA_JOB_WORDS], uint32_t counts[W
  *
  *   report  becomes the three doubles WIHUPYA_DOUBLES_...
  *
- * Refused as wihupya_result is, with 3 or 4; report is then left as it was.
+ * Refused as wihupya_result is, with 3 or 4; report is then left as it was, bit for bit.
  */
 uint32_t wihupya_doubles(const uint32_t job[WIHUPYA_JOB_WORDS], double report[WIHUPYA_DOUBLES_LENGTH], const uint32_t *cells,
                          size_t words, const int32_t *store, size_t readings);

@@ -326,7 +326,8 @@ pub extern "C" fn wihupya_result(
     }
 }
 
-// The mean, the pending error and the largest delivered difference as doubles, by their bits.
+// The mean, the pending error and the largest delivered difference as doubles. The caller lends three doubles; here they are their bits, since
+// a NaN that was lent has bits of its own, which a refusal leaves.
 #[no_mangle]
 pub extern "C" fn wihupya_doubles(
     job: &[u32; 10],
