@@ -19,3 +19,4 @@ pub mod Writing
 pub mod Facts
 pub mod WellFormed
 pub mod Unwritten
+pub mod PendingError

@@ -1,5 +1,6 @@
--- What the type of a record says of its lists: a record that is owned has eight levels and sixteen links. So records that a slice lends are
--- well-formed (crate `encoding`, `WellFormed`), whatever they hold. And every record of eight levels and sixteen links, all of 32 bits, is a value.
+-- What the type of a record says: a record that is owned has eight levels and sixteen links. So records that a slice lends are well-formed
+-- (crate `encoding`, `WellFormed`), whatever they hold. Its indicator has 32 bits. And every record of eight levels and sixteen links, all of
+-- 32 bits, is a value.
 -- Assumes nothing.
 use mathlib.Core.Path.{_≡_, refl, _∙_}
 use mathlib.Core.List.{List, [], _∷_, map}
@@ -20,6 +21,9 @@ use Rattle.records.specs.Unwritten.{AllWords}
 
 pub well-formed : (r : IndexRecord) (v : Val) → Is T.the-row r (v ∷ []) → (length (r .levels) ≡ 8) × (length (r .links) ≡ 16)
 well-formed r v is = let parts = LL.owed T.the-type T′.the-laws r _ is in (search needs, search needs)
+
+pub indicator-small : (r : IndexRecord) (v : Val) → Is T.the-row r (v ∷ []) → r .indicator < 2 ^ 32
+indicator-small r v is = let parts = LL.owed T.the-type T′.the-laws r _ is in search needs
 
 -- ---- the value of a record
 

@@ -8,7 +8,7 @@ use Rattle.calls.proofs.Facts.{call-facts}
 use Rattle.records.specs.Lent.{areaOn}
 use Rattle.records.specs.Unwritten.{Unwritten}
 use Rattle.records.proofs.WellFormed.{well-formed-take}
-use Rattle.records.proofs.Typed.{well-formed, typed-value}
+use Rattle.records.proofs.Typed.{well-formed, indicator-small, typed-value}
 
 pub unwritten : Unwritten
 unwritten =
@@ -19,5 +19,6 @@ unwritten =
       records-store = λ j rs s c n w f. call-facts .store (areaOn j rs s) c n (well-formed-take (j .held) rs w) f;
       typed-records = well-formed;
       typed-run = λ rs these p h. well-formed (recordAt rs p) (these p h .0) (these p h .1);
+      typed-indicators = λ rs these p h. indicator-small (recordAt rs p) (these p h .0) (these p h .1);
       typed-value = typed-value;
     }

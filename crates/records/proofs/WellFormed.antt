@@ -1,4 +1,4 @@
--- Parts of records that are well-formed.
+-- Parts of records: of those that are well-formed, and the first of any.
 -- Assumes nothing.
 use mathlib.Core.Path.{_≡_, ap, sym, _∙_, subst}
 use mathlib.Core.Logic.{inl, inr}
@@ -22,13 +22,20 @@ FormedAt rs p = (length (recordAt rs p .levels) ≡ 8) × (length (recordAt rs p
 pub at-same : (r s : IndexRecord) → r ≡ s → (length (s .levels) ≡ 8) × (length (s .links) ≡ 16) → (length (r .levels) ≡ 8) × (length (r .links) ≡ 16)
 at-same r s e h = subst (λ (x : IndexRecord). (length (x .levels) ≡ 8) × (length (x .links) ≡ 16)) (sym e) h
 
-pub well-formed-take : (n : ℕ) (rs : List IndexRecord) → WellFormed rs → WellFormed (take n rs)
-well-formed-take n rs f = elim (less-or (length rs) n) [ inl h ↦ subst WellFormed (sym (take-all n rs (omega (arith, h)))) f | inr h ↦ front h ]
+-- what holds of each of the records holds of each of the first n
+pub each-taken : (P : IndexRecord → Type 0) (n : ℕ) (rs : List IndexRecord) → ((p : ℕ) → p < length rs → P (recordAt rs p)) → (p : ℕ) → p < length (take n rs) → P (recordAt (take n rs) p)
+each-taken P n rs f p q = elim (less-or (length rs) n) [ inl h ↦ whole (omega (arith, h)) | inr h ↦ front h ]
   where
-    front : n ≤ length rs → WellFormed (take n rs)
-    front h p q =
+    whole : length rs ≤ n → P (recordAt (take n rs) p)
+    whole h = let e = take-all n rs h in subst (λ (ts : List IndexRecord). P (recordAt ts p)) (sym e) (f p (subst (λ (ts : List IndexRecord). p < length ts) e q))
+
+    front : n ≤ length rs → P (recordAt (take n rs) p)
+    front h =
         let l : p < n = omega (arith, q, length-take-le n rs h) in
-        at-same (recordAt (take n rs) p) (recordAt rs p) (getD-take n rs p blank l) (f p (omega (arith, l, h)))
+        subst P (sym (getD-take n rs p blank l)) (f p (omega (arith, l, h)))
+
+pub well-formed-take : (n : ℕ) (rs : List IndexRecord) → WellFormed rs → WellFormed (take n rs)
+well-formed-take n rs f = each-taken (λ r. (length (r .levels) ≡ 8) × (length (r .links) ≡ 16)) n rs f
 
 pub well-formed-drop : (n : ℕ) (rs : List IndexRecord) → WellFormed rs → WellFormed (drop n rs)
 well-formed-drop n rs f p h = at-same (recordAt (drop n rs) p) (recordAt rs (n + p)) (getD-drop n rs p blank) (f (n + p) (omega (arith, h, length-drop n rs)))

@@ -44,6 +44,8 @@ pub record Unwritten : Type 0 where
   -- whose records are well-formed: each value of the struct's type is, and so every run of them, so that `WellFormed` asks nothing of a caller
   pub typed-records : RecordTyped
   pub typed-run : (rs : List IndexRecord) → TypedRun rs → WellFormed rs
+  -- each indicator in such a run is a 32-bit number
+  pub typed-indicators : (rs : List IndexRecord) → TypedRun rs → (p : ℕ) → p < length rs → recordAt rs p .indicator < 2 ^ 32
   -- and the type asks no more than this: eight levels, sixteen links, all of 32 bits
   pub typed-value : (r : IndexRecord) → length (r .levels) ≡ 8 → length (r .links) ≡ 16
       → AllWords (r .levels) → r .state < 2 ^ 32 → r .indicator < 2 ^ 32 → r .first < 2 ^ 32 → AllWords (r .links) → (v : Val) × Is typed.the-row r (v ∷ [])
