@@ -8,6 +8,7 @@ use Rattle.doubles.specs.Exact.{LosesNothing}
 use Rattle.area.specs.Entry.{pendingOf}
 use Rattle.area.specs.Log.{Log}
 use Rattle.encoding.specs.Entries.{entryAt}
+use Rattle.machine.specs.Counts.{countsOf}
 use Rattle.machine.specs.Means.{crossOf}
 use Rattle.machine.specs.Largest.{largestOf, DeliveredAt, differenceAt, LowestLargest}
 use Rattle.counting.specs.Doubles.{doublesOf, plusZero}
@@ -17,6 +18,10 @@ pub record ReportByLog (l : Log) : Type 0 where
   pub mean : LosesNothing (doublesOf (stateOf l) .mean) (crossOf (l .entries)) (2 ^ 20)
   -- where the indicators are 32-bit numbers, as their type has it
   pub pending : ((p : ℕ) → p < length (l .entries) → entryAt (l .entries) p .indicator < 2 ^ 32) → LosesNothing (doublesOf (stateOf l) .pending) (pos (pendingOf (l .entries))) 1
+  -- they are exactly those of result, by which the mean is still judged
+  pub as-result : LosesNothing (doublesOf (stateOf l) .mean) (countsOf (stateOf l) .mean) (2 ^ 20)
+  pub pending-as-result : ((p : ℕ) → p < length (l .entries) → entryAt (l .entries) p .indicator < 2 ^ 32)
+      → LosesNothing (doublesOf (stateOf l) .pending) (pos (countsOf (stateOf l) .pending)) 1
   pub largest : LosesNothing (doublesOf (stateOf l) .largest) (largestOf (l .entries)) (2 ^ 20)
   -- no delivered difference is larger in size
   pub no-larger : (p : ℕ) → DeliveredAt (l .entries) p → natAbs (differenceAt (l .entries) p) ≤ natAbs (largestOf (l .entries))
