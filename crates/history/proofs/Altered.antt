@@ -14,6 +14,7 @@ use Rattle.grid.specs.Block.{blockSize}
 use Rattle.area.specs.declared.Settings.{Settings}
 use Rattle.area.specs.Settings.{settingsOf, SettingsFit, readingsFor, readingCount, leastStore}
 use Rattle.area.specs.Records.{blank}
+use Rattle.doubles.specs.declared.Report.{Report}
 use Rattle.doubles.specs.Double.{reportOf}
 use Rattle.area.specs.Entry.{deliveredOf, pendingOf}
 use Rattle.area.specs.Log.{Machine}
@@ -39,6 +40,7 @@ use Rattle.calls.proofs.Tests as tests
 use Rattle.calls.proofs.Causes.{common-none}
 use Rattle.calls.proofs.Rows.{result-accepts, cross-accepts}
 use Rattle.calls.proofs.Facts.{call-facts}
+use Rattle.calls.proofs.ReportTold.{report-facts}
 use Rattle.history.specs.Altered.{withMean, MeanFits, OtherMean, AlteredMeans}
 use Rattle.history.proofs.Excluded.{excluded}
 
@@ -92,7 +94,10 @@ module _ (a : Area) (x : ℤ) (v : ValidArea a) (fits : MeanFits a x) where
   result-with : callOn (withMean a x) result .answer ≡ answer (counts (countsOf (record { log = machineOf a .log; mean = x })))
   result-with = result-is (withMean a x) valid-with ∙ ap (λ m. answer (counts (countsOf m))) state-with
 
-  doubles-with : callOn (withMean a x) doubles .answer ≡ answer (doubled (reportOf x (pendingOf (entriesOf a)) (largestOf (entriesOf a))))
+  abbrev report-with : Report
+  report-with = reportOf x (pendingOf (entriesOf a)) (largestOf (entriesOf a))
+
+  doubles-with : callOn (withMean a x) doubles .answer ≡ answer (doubled report-with)
   unfolding doublesOf machineOf
   doubles-with = excluded .accepted-doubles (withMean a x) valid-with ∙ ap (λ m. answer (doubled (doublesOf m))) state-with
 
@@ -106,6 +111,7 @@ module _ (a : Area) (x : ℤ) (v : ValidArea a) (fits : MeanFits a x) where
         yes = clause-facts .answer (withMean a x) .back (valid-with .lent, valid-with .sound);
         recorded = countsOf (record { log = machineOf a .log; mean = x });
         by-result = result-with;
+        by-doubles = (report-with, doubles-with, report-facts .mean (withMean a x) report-with (ap (λ (y : Answer). y .reply) doubles-with));
         by-cross = cross-is (withMean a x) valid-with;
         differ = λ e. n (e ∙ ap meanOf same-entries);
       }

@@ -10,7 +10,9 @@ use lib.ListN.{length}
 use Rattle.grid.specs.Index.{root}
 use Rattle.area.specs.declared.Settings.{Settings}
 use Rattle.area.specs.Settings.{SettingsFit, readingCount, leastStore}
+use Rattle.doubles.specs.declared.Report.{Report}
 use Rattle.doubles.specs.Double.{reportOf}
+use Rattle.doubles.specs.Exact.{LosesNothing}
 use Rattle.area.specs.Entry.{deliveredOf, pendingOf}
 use Rattle.area.specs.Encoding.{Area, entriesOf, machineOf}
 use Rattle.soundness.specs.Clauses.{checked}
@@ -37,11 +39,12 @@ abbrev pub MeanFits : Area → ℤ → Type 0
 MeanFits a x = natAbs x ≤ length (deliveredOf (entriesOf a)) * 2 ^ 40
 
 -- Sound with another mean: check says yes, and the mean that result answers is not the sum of the delivered indices' differences, which
--- is what cross total answers.
+-- is what cross total answers. Doubles answers a report with result's mean, exactly.
 pub record OtherMean (a : Area) : Type 0 where
   pub yes : checked a ≡ true
   pub recorded : Counts
   pub by-result : callOn a result .answer ≡ answer (counts recorded)
+  pub by-doubles : (r : Report) × (callOn a doubles .answer ≡ answer (doubled r)) × LosesNothing (r .mean) (recorded .mean) (2 ^ 20)
   pub by-cross : callOn a crossTotal .answer ≡ answer (total (meanOf (entriesOf a)))
   pub differ : recorded .mean ≡ meanOf (entriesOf a) → ⊥
 
