@@ -24,6 +24,8 @@ pub mod Moments
 pub mod WellFormed
 pub mod RecordCells
 pub mod OnRecords
+pub mod SmallIndicators
+pub mod TypedCalls
 pub mod WordRanges
 pub mod Contracts
 pub mod Functions

@@ -1,7 +1,7 @@
 -- The log's step, call by call.
 -- The idea: read the row off.
 -- Assumes nothing.
-use mathlib.Core.Path.{_≡_, refl, ap, sym, _∙_}
+use mathlib.Core.Path.{_≡_, refl, ap, sym, _∙_, subst}
 use mathlib.Core.Bool.{Bool, true, false, cond}
 use borrow.Author.Tests.{eqb-true, eqb-false, ne-eqb}
 use lib.Dec.{eqb}
@@ -39,12 +39,16 @@ refused-step l x f = ap (λ (t : Bool). cond t (changed (stateOf l) (effectOf (s
 promote-accepted : (l : Log) (x : LentCall) → x .call ≡ promote → AcceptedBy l x → logStep l x ≡ rule.promote l .log
 promote-accepted l x is none = accepted-step l x promote is none ∙ ap (λ (m : Machine). m .log) (promote-effect (stateOf l)) ∙ unfold steps.promoteStep stateOf in refl
 
-promote-idle : (l : Log) (x : LentCall) → x .call ≡ promote → (rule.promote l .outcome ≡ rule.promoted → ⊥) → logStep l x ≡ l
-promote-idle l x is n = split (eqb (refusalBy (lengthsLent (x .part)) l (x .call)) 0) refl
+-- what holds before a call, and after it where it is accepted, holds after it
+pub either-way : (P : Log → Type 0) (l : Log) (x : LentCall) → P l → (AcceptedBy l x → P (logStep l x)) → P (logStep l x)
+either-way P l x before after = split (eqb (refusalBy (lengthsLent (x .part)) l (x .call)) 0) refl
   where
-    split : (t : Bool) → eqb (refusalBy (lengthsLent (x .part)) l (x .call)) 0 ≡ t → logStep l x ≡ l
-    split true e = promote-accepted l x is (eqb-true (refusalBy (lengthsLent (x .part)) l (x .call)) 0 e) ∙ same-log l n
-    split false e = refused-step l x (eqb-false (refusalBy (lengthsLent (x .part)) l (x .call)) 0 e)
+    split : (t : Bool) → eqb (refusalBy (lengthsLent (x .part)) l (x .call)) 0 ≡ t → P (logStep l x)
+    split true e = after (eqb-true (refusalBy (lengthsLent (x .part)) l (x .call)) 0 e)
+    split false e = subst P (sym (refused-step l x (eqb-false (refusalBy (lengthsLent (x .part)) l (x .call)) 0 e))) before
+
+promote-idle : (l : Log) (x : LentCall) → x .call ≡ promote → (rule.promote l .outcome ≡ rule.promoted → ⊥) → logStep l x ≡ l
+promote-idle l x is n = either-way (λ (m : Log). m ≡ l) l x refl (λ none. promote-accepted l x is none ∙ same-log l n)
 
 pub log-facts : LogFacts
 log-facts =

@@ -50,7 +50,8 @@ use Rattle.history.proofs.Published.{means-follow}
 use Rattle.history.proofs.Moments.{steps-follow}
 use Rattle.history.proofs.Spent.{spent-exactly}
 use Rattle.history.proofs.Contracts.{answers-met, storage-met}
-use Rattle.history.proofs.WordRanges.{small-at, InRange, reads-back, started-range, step-range}
+use Rattle.history.proofs.SmallIndicators.{small-at}
+use Rattle.history.proofs.WordRanges.{InRange, reads-back, started-range, step-range}
 
 -- ---- the words after one call
 

@@ -16,9 +16,9 @@ use Rattle.history.specs.Logged.{stateOf}
 
 pub record ReportByLog (l : Log) : Type 0 where
   pub mean : LosesNothing (doublesOf (stateOf l) .mean) (crossOf (l .entries)) (2 ^ 20)
-  -- where the indicators are 32-bit numbers, as their type has it
+  -- if the indicators are 32-bit numbers, as their type has it; they are, where every delivery has such a one (TypedCalls.antt)
   pub pending : ((p : ℕ) → p < length (l .entries) → entryAt (l .entries) p .indicator < 2 ^ 32) → LosesNothing (doublesOf (stateOf l) .pending) (pos (pendingOf (l .entries))) 1
-  -- they are exactly those of result, by which the mean is still judged
+  -- mean and pending error are exactly result's, by which the mean is still judged
   pub as-result : LosesNothing (doublesOf (stateOf l) .mean) (countsOf (stateOf l) .mean) (2 ^ 20)
   pub pending-as-result : ((p : ℕ) → p < length (l .entries) → entryAt (l .entries) p .indicator < 2 ^ 32)
       → LosesNothing (doublesOf (stateOf l) .pending) (pos (countsOf (stateOf l) .pending)) 1
