@@ -217,8 +217,9 @@ uint32_t wihupya_result(const uint32_t job[WIHUPYA_JOB_WORDS], uint32_t counts[W
  * called at any time.
  *
  * Mean and pending error are the recorded ones, as in wihupya_result. The largest difference is worked out from the readings in the store,
- * since nothing records it: of the delivered blocks' differences, which are what they add to the mean, the one of largest size, given with
- * its sign; where several have that size, the one of the lowest place. With nothing delivered all three are 0. A zero is +0, never -0.
+ * since nothing records it: of the delivered blocks' differences, which in a work area that only calls have written are what they add to the
+ * mean, the one of largest size, given with its sign; where several have that size, the one of the lowest place. With nothing delivered all
+ * three are 0. A zero is +0, never -0. Every delivered difference is worked out anew, so this takes longer than wihupya_result.
  *
  *   report  becomes the three doubles WIHUPYA_DOUBLES_...
  *

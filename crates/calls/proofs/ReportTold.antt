@@ -1,5 +1,5 @@
 -- What doubles tells of an area that does not refuse it.
--- The idea: such an area is sound, so the report is that of a sound state (`NothingLost`, crate `counting`), whose figures are the recorded ones.
+-- The idea: such an area is sound, so the report is that of a sound state (`ReportOfSound`, crate `counting`), whose figures are the recorded ones.
 -- Assumes nothing.
 use mathlib.Core.Path.{_≡_, refl, sym, ap, _∙_, subst}
 use mathlib.Core.List.{List}
@@ -10,7 +10,7 @@ use lib.IntN.{ℤ, pos}
 use lib.ListN.{length, getD}
 use Rattle.doubles.specs.declared.Report.{Report}
 use Rattle.doubles.specs.Double.{double, reportOf}
-use Rattle.doubles.specs.Exact.{LosesNothing, AllNumbers}
+use Rattle.doubles.specs.Exact.{LosesNothing, NoneNan}
 use Rattle.doubles.proofs.Facts.{double-facts}
 use Rattle.area.specs.Entry.{pendingOf}
 use Rattle.area.specs.declared.JobRecord.{JobRecord}
@@ -25,7 +25,7 @@ use Rattle.machine.specs.Counts.{Counts, countsOf}
 use Rattle.machine.specs.Largest.{largestOf, DeliveredAt}
 use Rattle.machine.proofs.Largest.{largest-delivered}
 use Rattle.counting.specs.Doubles.{doublesOf, plusZero}
-use Rattle.counting.proofs.NothingLost.{nothing-lost}
+use Rattle.counting.proofs.NothingLost.{report-of-sound}
 use Rattle.counting.proofs.Reported.{indicators-small}
 use Rattle.calls.specs.Replies.{counts, doubled, lengthsOf}
 use Rattle.calls.specs.Table.{Answer, result, doubles, row, causesOf, effectOf, acceptedAnswer, refusedAnswer, refusal}
@@ -64,7 +64,7 @@ module _ (a : Area) (r : Report) (told : Reports a r) where
 
   mean : LosesNothing (r .mean) (a .job .mean) (2 ^ 20)
   unfolding machineOf
-  mean = subst (λ (x : Report). LosesNothing (x .mean) (a .job .mean) (2 ^ 20)) (sym (accepted .1)) (nothing-lost .mean (machineOf a) clauses)
+  mean = subst (λ (x : Report). LosesNothing (x .mean) (a .job .mean) (2 ^ 20)) (sym (accepted .1)) (report-of-sound .mean (machineOf a) clauses)
 
   pending : ((p : ℕ) → p < length (heldOf a) → recordAt (heldOf a) p .indicator < 2 ^ 32) → LosesNothing (r .pending) (pos (a .job .pending)) 1
   pending h = subst (λ (x : Report). LosesNothing (x .pending) (pos (a .job .pending)) 1) (sym (accepted .1)) recorded
@@ -77,10 +77,10 @@ module _ (a : Area) (r : Report) (told : Reports a r) where
 
   largest : LosesNothing (r .largest) (largestOf (entriesOf a)) (2 ^ 20)
   unfolding machineOf
-  largest = subst (λ (x : Report). LosesNothing (x .largest) (largestOf (entriesOf a)) (2 ^ 20)) (sym (accepted .1)) (nothing-lost .largest (machineOf a) clauses)
+  largest = subst (λ (x : Report). LosesNothing (x .largest) (largestOf (entriesOf a)) (2 ^ 20)) (sym (accepted .1)) (report-of-sound .largest (machineOf a) clauses)
 
-  numbers : AllNumbers r
-  numbers = subst AllNumbers (sym (accepted .1)) (unfold doublesOf in double-facts .all-numbers (machineOf a .mean) (pendingOf (machineOf a .log .entries)) (largestOf (machineOf a .log .entries)))
+  none-nan : NoneNan r
+  none-nan = subst NoneNan (sym (accepted .1)) (unfold doublesOf in double-facts .none-nan (machineOf a .mean) (pendingOf (machineOf a .log .entries)) (largestOf (machineOf a .log .entries)))
 
   -- ---- zero
 
@@ -98,13 +98,13 @@ module _ (a : Area) (r : Report) (told : Reports a r) where
 
   nothing : ((p : ℕ) → DeliveredAt (entriesOf a) p → ⊥) → r ≡ record { mean = plusZero; pending = plusZero; largest = plusZero }
   unfolding machineOf
-  nothing f = accepted .1 ∙ nothing-lost .nothing (machineOf a) clauses f
+  nothing f = accepted .1 ∙ report-of-sound .nothing (machineOf a) clauses f
 
-  as-result : (c : Counts) × (callOn a result .answer .reply ≡ counts c) × (c .mean ≡ a .job .mean) × (c .pending ≡ a .job .pending)
+  as-result : (c : Counts) × (callOn a result .answer .reply ≡ counts c) × LosesNothing (r .mean) (c .mean) (2 ^ 20) × (c .pending ≡ a .job .pending)
   as-result =
       let is = ap (λ (x : Answer). x .reply) (sym (result-accepts a 0 (sym (accepted .0)) refl)) in
       let told = call-facts .result-recorded a (countsOf (machineOf a)) is in
-      (countsOf (machineOf a), is, told .2, told .1)
+      (countsOf (machineOf a), is, subst (λ z. LosesNothing (r .mean) z (2 ^ 20)) (sym (told .2)) mean, told .1)
 
 pending-cells : (j : JobRecord) (c : List ℕ) (s : List ℤ) (r : Report) → Reports (areaOf j c s) r → ((n : ℕ) → getD c n 0 < 2 ^ 32) → LosesNothing (r .pending) (pos (j .pending)) 1
 pending-cells j c s r told words = pending (areaOf j c s) r told (indicators-small j c s (valid j c s (accepted (areaOf j c s) r told .0)) words)
@@ -114,7 +114,7 @@ report-facts =
     record {
       refused-alike = refused-alike;
       changes-nothing = changes-nothing;
-      numbers = numbers;
+      none-nan = none-nan;
       mean = mean;
       pending = pending;
       pending-cells = pending-cells;

@@ -21,7 +21,7 @@ use Rattle.encoding.specs.Entries.{entryAt, SoundMachine}
 use Rattle.encoding.proofs.Ranges.{delivered-few}
 use Rattle.machine.specs.Largest.{largestOf, DeliveredAt}
 use Rattle.machine.proofs.Largest.{largest-delivered, none-delivered}
-use Rattle.counting.specs.Doubles.{doublesOf, plusZero, NothingLost}
+use Rattle.counting.specs.Doubles.{doublesOf, plusZero, ReportOfSound}
 
 -- ---- the pending error
 
@@ -86,5 +86,5 @@ module _ (m : Machine) (sound : SoundMachine m) where
       mean-none : natAbs (m .mean) ≤ 0
       mean-none = omega (arith, sound .mean, none-delivered es f)
 
-pub nothing-lost : NothingLost
-nothing-lost = record { mean = mean; pending = pending; largest = largest; nothing = nothing }
+pub report-of-sound : ReportOfSound
+report-of-sound = record { mean = mean; pending = pending; largest = largest; nothing = nothing }

@@ -1,5 +1,5 @@
--- **Doubles**: the report of doubles beside result. The mean and the pending error are those of result; the largest delivered difference is worked
--- out from the readings.
+-- **Doubles**: the report of doubles beside result. The mean and the pending error are those of result: the pending error is worked from the entries,
+-- and in a sound area it is the recorded one. The largest delivered difference is worked out from the readings.
 use mathlib.Core.Path.{_≡_}
 use mathlib.Core.Bool.{false}
 use Prim.Native.Nat.{ℕ, _^_, _<_}
@@ -21,8 +21,8 @@ doublesOf m = reportOf (m .mean) (pendingOf (m .log .entries)) (largestOf (m .lo
 abbrev pub plusZero : Float
 plusZero = fin false 0 (pos 0)
 
--- All three lose nothing: they are finite and exactly the numbers.
-pub record NothingLost : Type 0 where
+-- Of every sound state: all three lose nothing.
+pub record ReportOfSound : Type 0 where
   pub mean : (m : Machine) → SoundMachine m → LosesNothing (doublesOf m .mean) (m .mean) (2 ^ 20)
   -- where indicators are 32-bit numbers, as their type has it
   pub pending : (m : Machine) → SoundMachine m → ((p : ℕ) → p < length (m .log .entries) → entryAt (m .log .entries) p .indicator < 2 ^ 32)

@@ -13,7 +13,7 @@ use lib.Ieee.Bits.{ofBits-toBits}
 use lib.Ieee.Exact.{HasValue, round-exact}
 use lib.Ieee.Scale.{round-same}
 use lib.Ieee.Back.{round-whole}
-use Rattle.doubles.specs.Exact.{LosesNothing, IsNumber, AllNumbers}
+use Rattle.doubles.specs.Exact.{LosesNothing, NotNan, NoneNan}
 use Rattle.doubles.specs.Double.{double, reportOf}
 use Rattle.doubles.specs.Facts.{DoubleFacts}
 use Rattle.doubles.proofs.Unique.{one-value}
@@ -21,31 +21,31 @@ use Rattle.doubles.proofs.Exactly.{Signed, nothing-lost-of, signed-of}
 
 -- ---- a number
 
-odd-number : (d : ℕ) (s : Bool) (q k l : ℕ) → IsNumber (odd d s q k l)
+odd-not-nan : (d : ℕ) (s : Bool) (q k l : ℕ) → NotNan (odd d s q k l)
 unfolding odd isNan
-odd-number d s zero k l = tt
-odd-number d s (suc q) k l = tt
+odd-not-nan d s zero k l = tt
+odd-not-nan d s (suc q) k l = tt
 
-units-number : (f : Format) (s : Bool) (q k : ℕ) → IsNumber (units f s q k)
+units-not-nan : (f : Format) (s : Bool) (q k : ℕ) → NotNan (units f s q k)
 unfolding units
-units-number f s q k = by (ltb (q * 2 ^ k) (2 ^ (low f + suc (emax f))))
+units-not-nan f s q k = by (ltb (q * 2 ^ k) (2 ^ (low f + suc (emax f))))
   where
-    by : (t : Bool) → IsNumber (cond t (odd (suc (prec f)) s q k (low f)) (inf s))
-    by true = odd-number (suc (prec f)) s q k (low f)
+    by : (t : Bool) → NotNan (cond t (odd (suc (prec f)) s q k (low f)) (inf s))
+    by true = odd-not-nan (suc (prec f)) s q k (low f)
     by false = unfold isNan in tt
 
-rounded-number : (f : Format) (s : Bool) (num den : ℕ) → IsNumber (round f s num den)
+rounded-not-nan : (f : Format) (s : Bool) (num den : ℕ) → NotNan (round f s num den)
 unfolding round
-rounded-number f s num den = units-number f s _ _
+rounded-not-nan f s num den = units-not-nan f s _ _
 
-double-number : (z : ℤ) (c : ℕ) → IsNumber (double z c)
+double-not-nan : (z : ℤ) (c : ℕ) → NotNan (double z c)
 unfolding double
-double-number (pos n) c = rounded-number binary64 false n c
-double-number (negsuc n) c = rounded-number binary64 true (suc n) c
+double-not-nan (pos n) c = rounded-not-nan binary64 false n c
+double-not-nan (negsuc n) c = rounded-not-nan binary64 true (suc n) c
 
-all-numbers : (mean : ℤ) (pending : ℕ) (largest : ℤ) → AllNumbers (reportOf mean pending largest)
+none-nan : (mean : ℤ) (pending : ℕ) (largest : ℤ) → NoneNan (reportOf mean pending largest)
 unfolding reportOf
-all-numbers m p l = (double-number m (2 ^ 20), double-number (pos p) 1, double-number l (2 ^ 20))
+none-nan m p l = (double-not-nan m (2 ^ 20), double-not-nan (pos p) 1, double-not-nan l (2 ^ 20))
 
 -- ---- nothing is lost
 
@@ -111,7 +111,7 @@ zero-bits k l = ap (toBits binary64) (double-zero k l) ∙ plain
     plain = unfold toBits in refl
 
 pub double-facts : DoubleFacts
-double-facts = record { fits-format = double-fits; read-back = λ z c. ofBits-toBits binary64 (double z c) (double-fits z c); number = double-number; all-numbers = all-numbers; exact = double-exact; only = double-only; zero = double-zero; zero-bits = zero-bits }
+double-facts = record { fits-format = double-fits; read-back = λ z c. ofBits-toBits binary64 (double z c) (double-fits z c); not-nan = double-not-nan; none-nan = none-nan; exact = double-exact; only = double-only; zero = double-zero; zero-bits = zero-bits }
 
 -- ---- the cast, and the division by 2^k
 

@@ -1,4 +1,4 @@
--- What it means that a double loses nothing: it is finite, and it is the fraction. And what it means that it is a number at all.
+-- What it means that a double loses nothing: it is finite, and it is the fraction.
 use mathlib.Core.Path.{_≡_}
 use mathlib.Core.Bool.{Bool, true, false, not}
 use Prim.Native.Nat.{ℕ, _*_}
@@ -19,9 +19,9 @@ LosesNothing nan z c = ⊥
 LosesNothing (inf s) z c = ⊥
 LosesNothing (fin s m e) z c = signed s (m * up e * c) ≡ z *ℤ pos (down e)
 
--- x is no NaN; none of a report's three is.
-abbrev pub IsNumber : Float → Type 0
-IsNumber x = T (not (isNan x))
+-- x is not a NaN; none of a report's three is one. (An infinity passes; what loses nothing is finite.)
+abbrev pub NotNan : Float → Type 0
+NotNan x = T (not (isNan x))
 
-abbrev pub AllNumbers : Report → Type 0
-AllNumbers r = IsNumber (r .mean) × IsNumber (r .pending) × IsNumber (r .largest)
+abbrev pub NoneNan : Report → Type 0
+NoneNan r = NotNan (r .mean) × NotNan (r .pending) × NotNan (r .largest)

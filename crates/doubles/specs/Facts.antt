@@ -5,15 +5,15 @@ use Prim.Native.Nat.{ℕ, _^_, _<_, _≤_}
 use lib.Dec.{T}
 use lib.IntN.{ℤ, pos, natAbs}
 use lib.Ieee.{Float, fin, binary64, fits, toBits, ofBits}
-use Rattle.doubles.specs.Exact.{LosesNothing, IsNumber, AllNumbers}
+use Rattle.doubles.specs.Exact.{LosesNothing, NotNan, NoneNan}
 use Rattle.doubles.specs.Double.{double, reportOf}
 
 pub record DoubleFacts : Type 0 where
-  -- it is a double, since the format holds it, so that reading its bits gives it back; and it is a number
+  -- it is a double, since the format holds it, so that reading its bits gives it back; and it is never a NaN
   pub fits-format : (z : ℤ) (c : ℕ) → T (fits binary64 (double z c))
   pub read-back : (z : ℤ) (c : ℕ) → ofBits binary64 (toBits binary64 (double z c)) ≡ double z c
-  pub number : (z : ℤ) (c : ℕ) → IsNumber (double z c)
-  pub all-numbers : (mean : ℤ) (pending : ℕ) (largest : ℤ) → AllNumbers (reportOf mean pending largest)
+  pub not-nan : (z : ℤ) (c : ℕ) → NotNan (double z c)
+  pub none-nan : (mean : ℤ) (pending : ℕ) (largest : ℤ) → NoneNan (reportOf mean pending largest)
   -- the double nearest to z / 2^k is finite and is z / 2^k itself
   pub exact : (z : ℤ) (k : ℕ) → natAbs z < 2 ^ 53 → k ≤ 1074 → LosesNothing (double z (2 ^ k)) z (2 ^ k)
   -- and no other double is, but for the two zeros, which are one number

@@ -10,7 +10,7 @@ use Rattle.area.specs.Log.{Log}
 use Rattle.encoding.specs.Entries.{entryAt}
 use Rattle.machine.specs.Counts.{countsOf}
 use Rattle.machine.specs.Means.{crossOf}
-use Rattle.machine.specs.Largest.{largestOf, DeliveredAt, differenceAt, LowestLargest}
+use Rattle.machine.specs.Largest.{largestOf, DeliveredAt, scaledDifferenceAt, LowestLargest}
 use Rattle.counting.specs.Doubles.{doublesOf, plusZero}
 use Rattle.history.specs.Logged.{stateOf}
 
@@ -24,7 +24,7 @@ pub record ReportByLog (l : Log) : Type 0 where
       → LosesNothing (doublesOf (stateOf l) .pending) (pos (countsOf (stateOf l) .pending)) 1
   pub largest : LosesNothing (doublesOf (stateOf l) .largest) (largestOf (l .entries)) (2 ^ 20)
   -- no delivered difference is larger in size
-  pub no-larger : (p : ℕ) → DeliveredAt (l .entries) p → natAbs (differenceAt (l .entries) p) ≤ natAbs (largestOf (l .entries))
+  pub no-larger : (p : ℕ) → DeliveredAt (l .entries) p → natAbs (scaledDifferenceAt (l .entries) p) ≤ natAbs (largestOf (l .entries))
   -- if something is delivered, a delivered place has it, and no lower one has one of that size
   pub lowest : (p : ℕ) → DeliveredAt (l .entries) p → LowestLargest (l .entries)
   -- with nothing delivered all three are +0

@@ -1,4 +1,4 @@
--- Reports of doubles in cases worked out by hand. A finite double is written ±m · 2^e with m odd.
+-- Reports of doubles in cases worked out by hand. A finite double is written ±m · 2^e with m odd, or 0 · 2^0.
 use mathlib.Core.Path.{_≡_}
 use mathlib.Core.Bool.{true, false}
 use mathlib.Core.List.{List, [], _∷_, map}

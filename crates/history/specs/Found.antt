@@ -80,7 +80,8 @@ pub record Found (w : Storage) (l : Log) : Type 0 where
       → callOn (areaLent w x) doubles .answer ≡ answer (doubled (doublesOf (stateOf l)))
   -- the mean is also the sum of the delivered indices' differences
   pub mean : crossOf (l .entries) ≡ meanOf (l .entries)
-  -- the report's doubles are exactly that mean, the pending error and the largest delivered difference
+  -- the report's doubles are exactly that mean, the largest delivered difference and, where indicators have 32 bits (TypedCalls.antt), the pending
+  -- error
   pub report : ReportByLog l
 
 -- After `first`, a start with the settings g, and `later`:

@@ -101,7 +101,8 @@ AllLentExports w (x ∷ xs) = Lent (readStorage w) (x .part) × AllLentExports w
 
 -- ---- what a call returns and writes
 
--- The number that it returns (check: 1 for yes and 0 for no), its own words as they are left, and the buffer of point or points.
+-- The number that it returns (check: 1 for yes and 0 for no), its own words as they are left, of doubles the bits of its three doubles, and the
+-- buffer of point or points.
 pub record ExportAnswer : Type 0 where
   pub number : ℕ
   pub words : List ℕ
@@ -169,7 +170,7 @@ exportAnswersBy l (x ∷ xs) = exportAnswer (x .call) (answerBy (lengthsLent (x 
 -- ---- the contracts
 
 -- What the function of a call returned (check: 1 for yes and 0 for no), and what it left in the words of the job record, in the cells and
--- the store that it was lent, in the words for its answer and in the buffer of point or points.
+-- the store that it was lent, in the words for its answer, of doubles the bits of its three doubles, and in the buffer of point or points.
 pub record ExportLeft : Type 0 where
   pub number : ℕ
   pub job : List ℕ
@@ -307,7 +308,7 @@ pub record ExportsFound (w : ExportStorage) (l : Log) : Type 0 where
 
 -- After `first`, a start with these numbers, and `later`:
 pub record ExportsDemand (w : ExportStorage) (first : LentExport) (later : List LentExport) (axes threshold budget : ℕ) : Type 0 where
-  -- every returned number, every output word and every byte of a buffer is the log's answer
+  -- every returned number, every output word or double and every byte of a buffer is the log's answer
   pub answers : exportAnswers w (first ∷ later) ≡ exportAnswer (first .call) (answer accepted) ∷ exportAnswersBy (startLog (settingsOf axes threshold budget)) later
   -- which are what the functions return and leave by their contracts, call by call
   pub contracts : (ys : List ExportLeft) → AllMeet w (first ∷ later) ys

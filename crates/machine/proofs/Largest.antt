@@ -20,7 +20,7 @@ use Rattle.grid.proofs.Largest.{largest-facts}
 use Rattle.area.specs.Entry.{Entry, deliveredOf, readingIn}
 use Rattle.area.specs.Log.{Machine}
 use Rattle.encoding.specs.Entries.{entryAt, SoundMachine}
-use Rattle.machine.specs.Largest.{largestOf, DeliveredAt, differenceAt, LowestLargest, LargestDelivered}
+use Rattle.machine.specs.Largest.{largestOf, DeliveredAt, scaledDifferenceAt, LowestLargest, LargestDelivered}
 use Rattle.machine.proofs.Ranges.{in-range}
 
 -- ---- places and the list of the delivered
@@ -87,7 +87,7 @@ some (j ∷ js) k m = omega arith
 -- ---- the facts
 
 module _ (es : List Entry) where
-  no-larger : (p : ℕ) → DeliveredAt es p → natAbs (differenceAt es p) ≤ natAbs (largestOf es)
+  no-larger : (p : ℕ) → DeliveredAt es p → natAbs (scaledDifferenceAt es p) ≤ natAbs (largestOf es)
   unfolding largestOf
   no-larger p x = largest-facts .no-larger (deliveredOf es) (readingIn es) (entryAt es p .levels) (member es p x)
 

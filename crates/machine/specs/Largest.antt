@@ -20,19 +20,19 @@ pub record DeliveredAt (es : List Entry) (p : ℕ) : Type 0 where
   pub delivered : 1 ≤ entryAt es p .state
 
 -- The difference of the index at a place, times 2^20.
-abbrev pub differenceAt : List Entry → ℕ → ℤ
-differenceAt es p = scaledDifference (entryAt es p .levels) (readingIn es)
+abbrev pub scaledDifferenceAt : List Entry → ℕ → ℤ
+scaledDifferenceAt es p = scaledDifference (entryAt es p .levels) (readingIn es)
 
 -- The delivered place that has the largest difference; no lower one has a difference of that size.
 pub record LowestLargest (es : List Entry) : Type 0 where
   pub place : ℕ
   pub there : DeliveredAt es place
-  pub has : differenceAt es place ≡ largestOf es
-  pub lower : (q : ℕ) → q < place → DeliveredAt es q → natAbs (differenceAt es q) < natAbs (largestOf es)
+  pub has : scaledDifferenceAt es place ≡ largestOf es
+  pub lower : (q : ℕ) → q < place → DeliveredAt es q → natAbs (scaledDifferenceAt es q) < natAbs (largestOf es)
 
 pub record LargestDelivered : Type 0 where
   -- no delivered difference is larger in size
-  pub no-larger : (es : List Entry) (p : ℕ) → DeliveredAt es p → natAbs (differenceAt es p) ≤ natAbs (largestOf es)
+  pub no-larger : (es : List Entry) (p : ℕ) → DeliveredAt es p → natAbs (scaledDifferenceAt es p) ≤ natAbs (largestOf es)
   -- if something is delivered, a delivered place has it, and no lower one has one of that size
   pub lowest : (es : List Entry) (p : ℕ) → DeliveredAt es p → LowestLargest es
   -- with nothing delivered it is 0

@@ -10,7 +10,7 @@ ghost use Rattle.area.specs.Settings.{settingsOf};
 ghost use Rattle.area.specs.Encoding.{areaOf};
 ghost use Rattle.soundness.specs.Clauses.{checked};
 ghost use Rattle.area.specs.Records.{runOf};
-ghost use Rattle.doubles.specs.Exact.{AllNumbers};
+ghost use Rattle.doubles.specs.Exact.{NoneNan};
 ghost use Rattle.counting.specs.Answer.{countsIn};
 ghost use Rattle.calls.specs.Replies.{wrote, counts as countsReply, doubled as doubledReply, total as totalReply, replyOf};
 ghost use Rattle.calls.specs.Table.{start, point, points, deliver, promote, result, doubles, crossTotal};
@@ -161,7 +161,7 @@ fn count_words(counts: counting::Counts) -> [u32; 9]
 
 // A report as three doubles, by their bits.
 fn report_bits(found: doubles::Report) -> [u64; 3]
-    requires { ⌜ AllNumbers found ⌝ }
+    requires { ⌜ NoneNan found ⌝ }
     ensures { λ r. ⌜ r ≡ doublesAfter (doubledReply found) [] ⌝ }
 {
     let mut report = [0u64; 3];

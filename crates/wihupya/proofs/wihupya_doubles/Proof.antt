@@ -31,7 +31,7 @@ unfolding replyOfDoubles
 report-bits-requires c κs =
     let s = c .before .before .before .before .before .before in
     let job = c .before .before .before .before .job-of .result in
-    report-facts .numbers (areaOf job (now (s .args .cells)) (now (s .args .store))) (c .before .doubled2 .given .0 .0)
+    report-facts .none-nan (areaOf job (now (s .args .cells)) (now (s .args .store))) (c .before .doubled2 .given .0 .0)
     (sym (ap replyOfDoubles (sym (c .before .doubled2 .given .1)) ∙ ap (λ (x : table.Answer). x .reply) (c .before .before .before .doubles .ensures)))
 
 returns : tie.Need-returns
