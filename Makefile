@@ -91,7 +91,7 @@ records-compared: exported
 	@tests/records/run 1
 
 # The callers' side: the header in C, and as C++ where there is a compiler for it; then a job run by calls in C and in Rust, whose report
-# is that of the same job as a file.
+# is that of the same job as a file, and whose doubles are those of examples/.
 callers: exported
 	@mkdir -p build
 	@$(C) -pedantic -o build/header bindings/wihupya/tests/header.c $(LIBRARY)
@@ -99,8 +99,10 @@ callers: exported
 	@if command -v $(CXX) > /dev/null; then $(CXX) -std=c++11 -Wall -Wextra -Werror -I include -fsyntax-only -x c++ bindings/wihupya/tests/header.c; fi
 	@$(C) -o build/pump examples/pump-in-c/pump.c $(LIBRARY)
 	@build/pump | diff examples/four-axis-pump.report -
+	@build/pump --doubles | diff examples/four-axis-pump.doubles -
 	@$(CARGO) run $(RELEASE) -p pump-in-rust | diff examples/four-axis-pump.report -
-	@echo "callers: the pump in C and the pump in Rust print the report of examples/four-axis-pump.job"
+	@$(CARGO) run $(RELEASE) -p pump-in-rust -- --doubles | diff examples/four-axis-pump.doubles -
+	@echo "callers: the pump in C and the pump in Rust print the report of examples/four-axis-pump.job, and its doubles"
 
 # The proved program against the reference's on generated job files, every byte that they print; about half a minute.
 programs-compared: program tools

@@ -1,12 +1,14 @@
 /*
  * A tolerance job run by calls: which volume does this metering pump deliver on average, if four of its dimensions vary between
- * their limits? The library says where to measure; here a formula stands in for the rig. Prints the report of the job.
+ * their limits? The library says where to measure; here a formula stands in for the rig. Prints the report of the job,
+ * or with --doubles its figures for a plotting package.
  */
 #include "wihupya.h"
 
 #include <inttypes.h>
 #include <stdio.h>
 #include <stdlib.h>
+#include <string.h>
 
 enum { AXES = 4, BUDGET = 2000 };
 
@@ -128,7 +130,17 @@ static void print_report(const uint32_t counts[WIHUPYA_COUNT_WORDS], uint32_t en
     printf("end %s\n", end == WIHUPYA_MET ? "met" : "spent");
 }
 
-int main(void)
+/* The figures that a plotting package reads, in nanolitres but for the pending error. Twenty digits show each of them whole. */
+static void print_doubles(void)
+{
+    double report[WIHUPYA_DOUBLES_LENGTH];
+    must("doubles", wihupya_doubles(area.job, report, area.cells, WIHUPYA_CELLS, area.store, BUDGET));
+    printf("mean %.20f\n", report[WIHUPYA_DOUBLES_MEAN]);
+    printf("pending %.20f\n", report[WIHUPYA_DOUBLES_PENDING]);
+    printf("largest %.20f\n", report[WIHUPYA_DOUBLES_LARGEST]);
+}
+
+int main(int argc, char **argv)
 {
     uint32_t end = run();
     uint32_t counts[WIHUPYA_COUNT_WORDS];
@@ -142,6 +154,9 @@ int main(void)
         return EXIT_FAILURE;
     }
 
-    print_report(counts, end);
+    if (argc > 1 && strcmp(argv[1], "--doubles") == 0)
+        print_doubles();
+    else
+        print_report(counts, end);
     return EXIT_SUCCESS;
 }

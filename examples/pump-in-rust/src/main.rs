@@ -1,10 +1,10 @@
 //! A tolerance job run by calls: which volume does this metering pump deliver
 //! on average, if four of its dimensions vary between their limits? The library
 //! says where to measure; here a formula stands in for the rig. Prints the
-//! report of the job, or with `--job` the job as a text, from which
-//! `jobtext pack` makes a job file.
+//! report of the job, with `--doubles` its figures for a plotting package, or
+//! with `--job` the job as a text, from which `jobtext pack` makes a job file.
 
-use wihupya::{Counts, Integrator, Point, Promotion, Refusal, CELLS};
+use wihupya::{Counts, Doubles, Integrator, Point, Promotion, Refusal, CELLS};
 
 const AXES: u32 = 4;
 const BUDGET: u32 = 2_000;
@@ -107,6 +107,14 @@ fn print_report(counts: &Counts, end: Promotion) {
     println!("end {}", if end == Promotion::Met { "met" } else { "spent" });
 }
 
+/// The figures that a plotting package reads, in nanolitres but for the pending
+/// error. Twenty digits show each of them whole.
+fn print_doubles(doubles: &Doubles) {
+    println!("mean {:.20}", doubles.mean);
+    println!("pending {:.20}", doubles.pending_error);
+    println!("largest {:.20}", doubles.largest_difference);
+}
+
 /// The job as a text: its numbers, and each delivered block after its
 /// indicator.
 fn print_job(entries: &[Entry]) {
@@ -127,6 +135,7 @@ fn main() -> Result<(), Refusal> {
     assert_eq!(job.cross_total()?, counts.scaled_mean, "both ways give one mean");
 
     match std::env::args().nth(1).as_deref() {
+        Some("--doubles") => print_doubles(&job.doubles()?),
         Some("--job") => print_job(&entries),
         _ => print_report(&counts, end),
     }
