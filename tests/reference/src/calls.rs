@@ -126,8 +126,8 @@ fn block_asked(area: &Area, n: u64, buffer: &[u8]) -> Result<Vec<Point>, Cause> 
     Ok(block)
 }
 
-/// Point: writes the d positions of the n-th point of the first wanted block
-/// into the buffer, later bytes untouched.
+/// Point: writes the d positions of the n-th point of the first wanted block,
+/// "walked in reflected order", into the buffer, later bytes untouched.
 pub fn point(area: &Area, n: u64, buffer: &mut [u8]) -> Result<(), Cause> {
     let block = block_asked(area, n, buffer)?;
     let axes = area.job.axes as usize;
@@ -149,9 +149,9 @@ pub fn points(area: &Area, n: u64, buffer: &mut [u8]) -> Result<PointCounts, Cau
     Ok(PointCounts { written, block: block.len() as u32 })
 }
 
-/// Deliver: the first wanted index becomes active, its readings are stored,
-/// the indicator joins the pending error, and its scaled difference is added
-/// to the recorded mean.
+/// Deliver: the first wanted index becomes active, its readings, which come in
+/// the order of the points, are stored in that order, the indicator joins the
+/// pending error, and its scaled difference is added to the recorded mean.
 pub fn deliver(area: &mut Area, readings: &[i32], indicator: u32) -> Result<(), Cause> {
     refuse_storage_or_area(area)?;
     let place = first_wanted(area).ok_or(Cause::NoBlockWanted)?;

@@ -2,7 +2,9 @@
 //!
 //! Little-endian. Header of 24 bytes: axes, budget, threshold (8 bytes), entry
 //! count, entry table offset. Entries of 12 bytes: indicator, reading count,
-//! offset of the first reading. Then the readings, without gaps.
+//! offset of the first reading. Then the readings, without gaps, an entry's in the
+//! order of its block's points. "Files in the old order must be written anew": they
+//! have the same form, so nothing tells them apart.
 
 use crate::grid::BUDGET_LIMIT;
 

@@ -2,8 +2,8 @@
 //!
 //! Lines `axes 2`, `budget 64`, `threshold 40`, each once and before the
 //! entries; then a line for each entry: `entry 50: 64 16448`, the indicator
-//! before the colon and the readings after it. A `#` begins a comment; blank
-//! lines don't count.
+//! before the colon and the readings after it, in the order of the block's points.
+//! A `#` begins a comment; blank lines don't count.
 
 use crate::jobfile::{Entry, JobFile, MOST_ENTRIES, MOST_READINGS};
 use std::str::FromStr;

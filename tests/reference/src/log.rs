@@ -9,7 +9,6 @@ use crate::call::{Answer, Call, Lengths};
 use crate::calls::{Cause, PointCounts, Promotion, Totals};
 use crate::doubles::ExactReport;
 use crate::grid::{self, Levels, ROOT};
-use crate::rule;
 use crate::sums::{self, Readings};
 use std::cell::OnceCell;
 
@@ -151,17 +150,10 @@ impl Job {
         pairs
     }
 
-    /// The n-th point of a block, axis 1 slowest, by dividing n down from the
-    /// fastest axis.
+    /// The n-th point of a block, worked out from n alone, where the calls take it
+    /// from the list by ranks.
     fn point(&self, levels: &Levels, n: u64) -> Vec<u8> {
-        let mut rest = n as usize;
-        let mut positions = vec![0; self.axes];
-        for axis in (0..self.axes).rev() {
-            let new_points = rule::new_points(levels[axis]);
-            positions[axis] = new_points[rest % new_points.len()] as u8;
-            rest /= new_points.len();
-        }
-        positions
+        grid::nth_point(self.axes, levels, n as usize)[..self.axes].to_vec()
     }
 
     /// The index of the block that point and points ask about and its size, or

@@ -89,7 +89,7 @@ pub fn indicator(style: IndicatorStyle, rng: &mut Rng, levels: &Levels) -> u32 {
     }
 }
 
-/// Readings for the block of an index, all in range.
+/// Readings for the block of an index, all in range, in the order of its points.
 pub fn readings(style: ReadingStyle, rng: &mut Rng, axes: usize, levels: &Levels) -> Vec<i32> {
     let mut readings = Vec::with_capacity(grid::block_size(levels));
     grid::for_each_point(axes, levels, |_, point| {

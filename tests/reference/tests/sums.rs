@@ -103,7 +103,8 @@ fn a_difference_is_the_signed_sum_of_tensor_rules() {
 }
 
 /// Both sums once more with exact fractions straight from the trapezoidal
-/// rule, point by point over the whole tensor grid.
+/// rule, point by point over the whole tensor grid. A point's reading is found by
+/// its number in the walk, though no sum shows which point of its block it is.
 #[test]
 fn sums_agree_with_exact_fractions() {
     for levels in [&[1][..], &[4], &[2, 3], &[5, 2], &[3, 1, 2], &[2, 2, 2, 2]] {
