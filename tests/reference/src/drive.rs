@@ -85,6 +85,7 @@ impl Driver {
         let mut buffer = buffer_before.clone();
         let answer = call::perform(&mut self.area, &call, &mut buffer);
         match call {
+            Call::Point { n, .. } => laws::assert_point(&self.area, n),
             Call::Points { n, .. } => laws::assert_points(&self.area, n, &buffer_before),
             Call::Doubles => {
                 let rng = &mut self.chooser.rng;
@@ -213,7 +214,7 @@ impl Driver {
             }
             Answer::Promotion(Promotion::Met | Promotion::Spent) => self.ended = true,
             Answer::Totals(totals) => self.highest("ceiling count", u64::from(totals.ceiling)),
-            Answer::Points { counts, .. } => self.note_points(call, *counts),
+            Answer::Points { counts, positions } => self.note_points(call, *counts, positions),
             Answer::Doubles(_) => self.note_doubles(),
             _ => {}
         }
@@ -223,8 +224,8 @@ impl Driver {
         }
     }
 
-    /// What ended the writing, and where it began.
-    fn note_points(&mut self, call: &Call, counts: PointCounts) {
+    /// What ended the writing, where it began, and along which axes it went.
+    fn note_points(&mut self, call: &Call, counts: PointCounts, positions: &[u8]) {
         let Call::Points { n, buffer } = *call else {
             unreachable!("only points answers so");
         };
@@ -232,7 +233,11 @@ impl Driver {
         let axes = self.area.job.axes as usize;
         let last = n + u64::from(written) == u64::from(block);
         let over = buffer - written as usize * axes;
+        let moves = |axis: &usize| positions.chunks(axes).any(|p| p[*axis] != positions[*axis]);
+        let moving = (0..axes).filter(moves).count();
         let so = [
+            ("went on to another row", moving >= 2),
+            ("went on along three axes", moving >= 3),
             ("wrote a block whole", written == block),
             ("wrote the rest of a block", last && n > 0),
             ("wrote one point of several left", !last && written == 1),

@@ -1,10 +1,15 @@
 //! What point says of points, and what result and the differences say of
 //! doubles, as laws. They leave those two calls no freedom, and they hold on any
-//! area, altered ones included.
+//! area, altered ones included. And what the rig sees of a walk, without knowing
+//! the block: it never jumps.
 //!
 //! Point and points are refused alike; the i-th point that points writes from n
 //! on is the one that point writes for n + i; a buffer of one point gets what
 //! point writes.
+//!
+//! "Two points in a row then differ on one axis only, and there by one step among
+//! the new points": those that point gives for n and n + 1, and so those that
+//! points writes one after the other.
 //!
 //! Doubles is refused as result is; its mean and pending error are result's,
 //! exactly; its largest is a delivered difference that no other passes in size,
@@ -13,7 +18,8 @@
 use crate::area::Area;
 use crate::calls::{self, Cause, Doubled, PointCounts};
 use crate::doubles;
-use crate::grid::Levels;
+use crate::grid::{Levels, MOST_AXES};
+use crate::rule;
 use crate::sums;
 
 /// Asserts the laws for a call of points from n on, whose buffer is lent with
@@ -38,6 +44,52 @@ pub fn assert_points(area: &Area, n: u64, content: &[u8]) {
     }
     assert_eq!(buffer[end..], content[end..], "later bytes untouched");
     assert_one(area, n, &content[..axes], counts.block);
+    assert_no_jump(area, n, &buffer[..end]);
+}
+
+/// Asserts that point, where it gives the n-th point, gives neighbours of it
+/// before and after.
+pub fn assert_point(area: &Area, n: u64) {
+    if let Ok(point) = point(area, n) {
+        assert_no_jump(area, n, &point);
+    }
+}
+
+/// The points written from n on, with those that point gives just before and
+/// just after them, are neighbours in a row.
+fn assert_no_jump(area: &Area, n: u64, written: &[u8]) {
+    let axes = area.job.axes as usize;
+    let mut row = Vec::new();
+    if n > 0 {
+        row.extend(point(area, n - 1).expect("a point before one of the block"));
+    }
+    row.extend(written);
+    // Past the block's last point there is none.
+    row.extend(point(area, n + (written.len() / axes) as u64).unwrap_or_default());
+    assert_eq!(first_jump(axes, &row), None, "from {n} on: {row:?}");
+}
+
+/// Of points in a row, so many positions each, the first that is no neighbour of
+/// the one before it.
+pub fn first_jump(axes: usize, row: &[u8]) -> Option<usize> {
+    let points: Vec<&[u8]> = row.chunks_exact(axes).collect();
+    (1..points.len()).find(|&at| !neighbours(points[at - 1], points[at]))
+}
+
+/// Whether two points "differ on one axis only, and there by one step among the
+/// new points": next to each other among those that are new at one level, which
+/// the positions tell. Past 128 nothing is a position.
+fn neighbours(one: &[u8], other: &[u8]) -> bool {
+    let mut changed = one.iter().zip(other).filter(|(from, to)| from != to);
+    let (Some((&from, &to)), None) = (changed.next(), changed.next()) else {
+        return false;
+    };
+    let (from, to) = (u32::from(from), u32::from(to));
+    if from.max(to) > rule::LAST_POSITION {
+        return false;
+    }
+    let ((level, number), (other_level, other_number)) = (rule::origin(from), rule::origin(to));
+    level == other_level && number.abs_diff(other_number) == 1
 }
 
 /// The numbers that point takes are those below the block's size.
@@ -63,7 +115,8 @@ fn assert_one(area: &Area, n: u64, content: &[u8], block: u32) {
 }
 
 fn point(area: &Area, n: u64) -> Result<Vec<u8>, Cause> {
-    let mut positions = vec![0; area.job.axes as usize];
+    // No area of more axes is sound, whatever an altered one says.
+    let mut positions = vec![0; MOST_AXES.min(area.job.axes as usize)];
     calls::point(area, n, &mut positions)?;
     Ok(positions)
 }

@@ -5,8 +5,9 @@ use reference::drive::drive;
 use reference::generate::{generate, Kind};
 use reference::survey;
 
-/// What points comes to as the block or the buffer ends first.
-const POINTS: [&str; 7] = [
+/// What points comes to as the block or the buffer ends first, and as a row does.
+const POINTS: [&str; 8] = [
+    "went on to another row",
     "wrote a block whole",
     "wrote the rest of a block",
     "wrote one point of several left",
@@ -50,6 +51,7 @@ fn random_lists_of_calls() {
     for answer in POINTS {
         assert!(seen[&format!("points {answer}")] > 20, "{answer}: {seen:?}");
     }
+    assert!(seen["points went on along three axes"] > 5, "three axes: {seen:?}");
     assert!(seen["refused 3 by doubles"] > 20, "refused 3: {seen:?}");
     for answer in DOUBLES {
         assert!(seen[&format!("doubles {answer}")] > 5, "{answer}: {seen:?}");
