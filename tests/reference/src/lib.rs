@@ -1,20 +1,21 @@
 //! An independent reference for the sparse-grid integrator.
 //!
 //! Everything here is written from the scope document alone, the calls points
-//! and doubles from the texts that ask for them, and follows their sentences as
-//! literally as possible. Each request changes it first, from the request's
-//! words. It is a test and not a delivery: where a choice lay between clear and
-//! fast, it is clear.
+//! and doubles and the order of a block's points from the texts that ask for them,
+//! and follows their sentences as literally as possible. Each request changes it
+//! first, from the request's words. It is a test and not a delivery: where a choice
+//! lay between clear and fast, it is clear.
 //!
 //! From the inside out:
 //! - [`rule`] and [`trapezoid`]: the rule along one axis, twice;
-//! - [`grid`] and [`sums`]: indices, blocks, differences, tensor rules;
+//! - [`grid`] and [`sums`]: indices, blocks in reflected order, differences, tensor
+//!   rules;
 //! - [`area`] and [`soundness`]: the lent storage and what makes it sound;
 //! - [`doubles`]: the report of doubles, and doubles as exact fractions;
 //! - [`calls`]: the nine calls;
 //! - [`call`] and [`log`]: a list of calls and the log that predicts answers;
-//! - [`laws`]: what point says of points, and what result and the differences
-//!   say of doubles;
+//! - [`laws`]: what point says of points, that no walk jumps, and what result and
+//!   the differences say of doubles;
 //! - [`jobfile`], [`jobtext`], [`program`], [`replay`]: job files and reports;
 //! - [`rng`], [`style`], [`generate`], [`damage`], [`survey`]: job files by seed;
 //! - [`cases`], [`vectors`]: job files by name, and many in one;
@@ -22,6 +23,7 @@
 //!   demand;
 //! - [`sample`], [`alter`], [`figures`]: areas by seed, altered, with figures;
 //! - [`reports`]: areas by name, with what doubles must answer;
+//! - [`walks`]: blocks by name, with their points in order;
 //! - [`pump`] and [`examples`]: the example jobs.
 
 pub mod alter;
@@ -55,3 +57,4 @@ pub mod sums;
 pub mod survey;
 pub mod trapezoid;
 pub mod vectors;
+pub mod walks;

@@ -1,5 +1,6 @@
-//! The call points: what it writes and leaves at the edges of block and buffer,
-//! every cause that refuses it, and the laws that tie it to point.
+//! The calls point and points: the walk of blocks by name; then what points writes
+//! and leaves at the edges of block and buffer, every cause that refuses it, and
+//! the laws that tie it to point.
 
 use reference::alter;
 use reference::area::Area;
@@ -13,6 +14,7 @@ use reference::replay::LENT;
 use reference::rng::Rng;
 use reference::rule;
 use reference::sample;
+use reference::walks;
 
 /// What lies in every buffer beforehand: no position.
 const FILL: u8 = 200;
@@ -135,6 +137,26 @@ fn the_last_point_is_one_whatever_the_room() {
     let area = four_points(3);
     for length in [3, 4, 5, 6, 12, 20_000] {
         assert_written(&area, 3, length, &[vec![112, 64, 64]]);
+    }
+}
+
+/// Point gives the points that are written down by hand, one by one, and points
+/// gives them all.
+#[test]
+fn the_walk_of_blocks_by_name() {
+    for case in &walks::CASES {
+        let (name, axes) = (case.name, case.axes());
+        let (area, _) = wanting(axes as u32, &case.index());
+        for (n, point) in case.walk.iter().enumerate() {
+            let mut buffer = vec![FILL; axes + 3];
+            assert_eq!(calls::point(&area, n as u64, &mut buffer), Ok(()), "{name}, {n}");
+            assert_eq!(buffer, [point, &[FILL; 3][..]].concat(), "{name}, {n}");
+            laws::assert_point(&area, n as u64);
+        }
+        let past = calls::point(&area, case.walk.len() as u64, &mut [FILL; 8]);
+        assert_eq!(past, Err(Cause::PointNumberTooLarge), "{name}");
+        let points: Vec<Vec<u8>> = case.walk.iter().map(|point| point.to_vec()).collect();
+        assert_written(&area, 0, axes * points.len(), &points);
     }
 }
 
