@@ -21,7 +21,6 @@ use Rattle.encoding.specs.Entries.{SoundMachine}
 use Rattle.encoding.proofs.Facts.{encoding-facts}
 use Rattle.machine.specs.Log.{firstWanted, wantedIndex}
 use Rattle.machine.specs.Causes.{short, firstCause, pointCauses}
-use Rattle.machine.proofs.Points.{point-length}
 use Rattle.calls.specs.Replies.{lengthsOf}
 use Rattle.calls.proofs.Causes.{common-clear}
 use Rattle.calls.proofs.Accepted.{pointable}
@@ -69,7 +68,7 @@ module _ (a : Area) (n : ℕ) (buffer : List ℕ) (none : firstCause (pointCause
   positions =
       omega (
         arith,
-        point-length (wantedIndex (entriesOf a)) n,
+        block-facts .positions (wantedIndex (entriesOf a)) n,
         clauses .index (firstWanted (entriesOf a)) (pointable (lengthsOf a) (isSound a) (machineOf a .log) n (length buffer) none .wanted) .eight,
         clauses .settings .axes .1,
       )

@@ -13,13 +13,14 @@ use lib.ListN.{length, getD, take, drop, length-append, length-drop}
 use lib.Seq.{length-take-le, take-all, take-at, getD-drop, getD-append-add}
 use Rattle.grid.specs.Index.{Within}
 use Rattle.grid.specs.Block.{pointOf}
+use Rattle.grid.proofs.Facts.{block-facts}
 use Rattle.area.specs.Encoding.{Area, entriesOf, machineOf}
 use Rattle.soundness.specs.Clauses.{isSound}
 use Rattle.encoding.specs.Entries.{SoundMachine}
 use Rattle.machine.specs.Log.{firstWanted, wantedIndex}
 use Rattle.machine.specs.Points.{positionsOf, writtenOver}
 use Rattle.machine.specs.Causes.{firstCause, pointCauses}
-use Rattle.machine.proofs.Points.{point-length, bytes, bytes-length, bytes-at, taken-length, Fitting, fitting-count}
+use Rattle.machine.proofs.Points.{bytes, bytes-length, bytes-at, taken-length, Fitting, fitting-count}
 use Rattle.machine.proofs.BlockSizes.{size-most}
 use Rattle.calls.specs.Replies.{wrote, lengthsOf}
 use Rattle.calls.specs.Table.{Answer, point, points, row, causesOf, refusal}
@@ -127,7 +128,7 @@ module _ (a : Area) (n : ℕ) (buffer : List ℕ) (none : firstCause (pointCause
     same =
         ap (λ b. take d (drop (i * d) b)) laid
         ∙ bytes-at d k n few i count (drop (count * d) buffer) h (f .left)
-        ∙ sym (take-at (take d (pointOf k (n + i))) (drop d one) d (length-take-le d (pointOf k (n + i)) (omega (arith, few, point-length k (n + i)))))
+        ∙ sym (take-at (take d (pointOf k (n + i))) (drop d one) d (length-take-le d (pointOf k (n + i)) (omega (arith, few, block-facts .positions k (n + i)))))
         ∙ ap (λ (x : Answer). take d (x .buffer)) (point-accepts a (n + i) one 0 (sym point-open) refl)
 
   wrote-points : WrotePoints a n buffer count

@@ -182,6 +182,23 @@ points-ordered (k ∷ ks) n m w l h =
     (λ q. inr (ap (newPoint k) (q .0), points-ordered ks (n % blockSize ks) (m % blockSize ks) (w .2) (q .1) (low-digit m (newCount k) (blockSize ks) h)))
     (first-or-rest n m (blockSize ks) (product-pos m (newCount k) (blockSize ks) h) l)
 
+-- ---- a position for each level, and the level of each
+
+pub positions : (k : List ℕ) (n : ℕ) → length (pointOf k n) ≡ length k
+unfolding pointOf
+positions [] n = refl
+positions (k ∷ ks) n = ap suc (positions ks (n % blockSize ks))
+
+levels-of : (k p : List ℕ) → Levels 8 k → newOnEach k p ≡ true → map levelOf p ≡ k
+unfolding newOnEach
+levels-of [] [] w e = refl
+levels-of [] (p ∷ ps) w e = clash e
+levels-of (k ∷ ks) [] w e = clash e
+levels-of (k ∷ ks) (p ∷ ps) w e =
+    ap₂ (λ (x : ℕ) (xs : List ℕ). x ∷ xs)
+    (eqb-true (levelOf p) k (sym (new-at k p (w .0) (w .1)) ∙ and-left (newAt k p) (newOnEach ks ps) e))
+    (levels-of ks ps (w .2) (and-right (newAt k p) (newOnEach ks ps) e))
+
 -- ---- as the statement has them
 
 at-in : (l : List (List ℕ)) (n : ℕ) → n < length l → List·Memᴰ (getD l n []) l
@@ -201,6 +218,9 @@ module _ (k : List ℕ) (v : levelsWithin k ≡ true) where
 
   pub point-of-rank : (p : List ℕ) → newOnEach k p ≡ true → pointOf k (rankIn k p) ≡ p
   point-of-rank p e = points-of-ranks k p (levels-sure k v) e
+
+  pub levels : (p : List ℕ) → newOnEach k p ≡ true → map levelOf p ≡ k
+  levels p e = levels-of k p (levels-sure k v) e
 
   pub different : (n m : ℕ) → n < blockSize k → m < blockSize k → pointOf k n ≡ pointOf k m → n ≡ m
   different n m a b e = sym (rank-of-point n a) ∙ ap (rankIn k) e ∙ rank-of-point m b

@@ -52,6 +52,8 @@ block-facts =
       rank-of-point = λ k n v h. Blocks.rank-of-point k v n h;
       rank-below = λ k p v e. Blocks.rank-is-below k v p e;
       point-of-rank = λ k p v e. Blocks.point-of-rank k v p e;
+      positions = Blocks.positions;
+      levels = λ k p v e. Blocks.levels k v p e;
     }
 
 pub difference-facts : DifferenceFacts

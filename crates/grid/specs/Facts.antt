@@ -7,6 +7,7 @@ use Prim.Native.Nat.{ℕ, suc, _+_, _*_, _-_, _^_, _<_, _≤_}
 use lib.IntN.{ℤ, pos, natAbs, _+ℤ_, _*ℤ_}
 use lib.ListN.{length, getD, take, replicate}
 use Rattle.sums.specs.Sums.{sumTo, sumOf}
+use Rattle.rule.specs.Points.{levelOf}
 use Rattle.rule.specs.Rules.{wholeRule, differenceRule}
 use Rattle.grid.specs.Index.{level, excess, Within, levelsWithin, within, Index, root, forward, backward, cappedAxes, NowhereHigher, lower}
 use Rattle.grid.specs.Block.{block, blockSize, pointOf, rankIn, newOnEach}
@@ -61,6 +62,9 @@ pub record BlockFacts : Type 0 where
   pub rank-of-point : (k : List ℕ) (n : ℕ) → levelsWithin k ≡ true → n < blockSize k → rankIn k (pointOf k n) ≡ n
   pub rank-below : (k p : List ℕ) → levelsWithin k ≡ true → newOnEach k p ≡ true → rankIn k p < blockSize k
   pub point-of-rank : (k p : List ℕ) → levelsWithin k ≡ true → newOnEach k p ≡ true → pointOf k (rankIn k p) ≡ p
+  -- a point has a position for each level, and a position tells its level
+  pub positions : (k : List ℕ) (n : ℕ) → length (pointOf k n) ≡ length k
+  pub levels : (k p : List ℕ) → levelsWithin k ≡ true → newOnEach k p ≡ true → map levelOf p ≡ k
 
 -- ---- differences and full tensor rules
 

@@ -14,12 +14,6 @@ use Rattle.grid.specs.Block.{block, blockSize, pointOf}
 use Rattle.grid.proofs.Facts.{block-facts}
 use Rattle.machine.specs.Points.{pointsFitting, positionsOf}
 
--- a point has as many positions as its index has levels
-pub point-length : (k : List ℕ) (n : ℕ) → length (pointOf k n) ≡ length k
-unfolding pointOf
-point-length [] n = refl
-point-length (l ∷ k) n = ap suc (point-length k (n % blockSize k))
-
 pub positions-append : (d : ℕ) (ps qs : List (List ℕ)) → positionsOf d (ps ++ qs) ≡ positionsOf d ps ++ positionsOf d qs
 unfolding positionsOf
 positions-append d [] qs = refl
@@ -52,7 +46,7 @@ module _ (d : ℕ) (k : List ℕ) (n : ℕ) where
       ∙ omega (
         arith,
         bytes-length few w (omega (arith, h)),
-        length-take-le d (pointOf k (n + w)) (omega (arith, few, point-length k (n + w))),
+        length-take-le d (pointOf k (n + w)) (omega (arith, few, block-facts .positions k (n + w))),
       )
 
   -- ---- as many as are left and have room
@@ -81,7 +75,7 @@ module _ (d : ℕ) (k : List ℕ) (n : ℕ) where
       ∙ ap (λ b. take d (drop (i * d) b)) (append-assoc (bytes i) (p ++ more) rest)
       ∙ ap (take d) (drop-at (bytes i) (p ++ more ++ rest) (i * d) (bytes-length few i (omega (arith, h, inside))))
       ∙ ap (take d) (append-assoc p more rest)
-      ∙ take-at p (more ++ rest) d (length-take-le d (pointOf k (n + i)) (omega (arith, few, point-length k (n + i))))
+      ∙ take-at p (more ++ rest) d (length-take-le d (pointOf k (n + i)) (omega (arith, few, block-facts .positions k (n + i))))
     where
       m : ℕ
       m = w - suc i

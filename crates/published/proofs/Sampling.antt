@@ -4,22 +4,21 @@
 -- Assumes nothing.
 use mathlib.Core.Path.{_≡_, refl, sym, ap, ap₂, _∙_, subst}
 use mathlib.Core.Logic.{_≢_, _⊎_, inl, inr}
-use mathlib.Core.Bool.{false}
+use mathlib.Core.Bool.{true, false}
 use mathlib.Core.List.{List, [], _∷_, map}
-use Prim.Native.Nat.{ℕ, zero, suc, _/_, _%_, _<_, _≤_}
+use Prim.Native.Nat.{ℕ, zero, suc, _<_, _≤_}
 use native.Mathlib.Decide.{decLt}
 use native.Mathlib.Omega.{arith}
 use lib.IntN.{ℤ, pos}
 use lib.ListN.{length, getD, length-map, List·getD-eq-default}
 use lib.Seq.{ext-getD}
-use Rattle.rule.specs.Points.{newCount, levelOf}
-use Rattle.rule.proofs.Facts.{point-facts}
+use Rattle.rule.specs.Points.{levelOf}
+use Rattle.grid.specs.Index.{levelsWithin}
 use Rattle.grid.specs.Block.{block, blockSize, pointOf, rankIn}
 use Rattle.grid.specs.Coefficient.{sameLevels}
 use Rattle.grid.specs.Terms.{IsReading}
-use Rattle.grid.proofs.Levels.{Levels, levels-back, within-levels}
+use Rattle.grid.proofs.Levels.{levels-back, within-levels}
 use Rattle.grid.proofs.Members.{same-refl, same-or}
-use Rattle.grid.proofs.Blocks.{high-digit, low-digit}
 use Rattle.grid.proofs.Facts.{block-facts}
 use Rattle.area.specs.declared.Settings.{Settings}
 use Rattle.area.specs.Settings.{readingCount}
@@ -31,17 +30,6 @@ use Rattle.published.specs.Figure.{Problem}
 use Rattle.published.specs.Turns.{ReadingValued}
 use Rattle.published.specs.Sums.{SampledFrom}
 use Rattle.published.proofs.Increments.{value-at, readings-at}
-
--- ---- the block of a point
-
--- each position of a block's point is new at its axis's level
-levels-of-point : (k : List ℕ) (n : ℕ) → Levels 8 k → n < blockSize k → map levelOf (pointOf k n) ≡ k
-unfolding pointOf blockSize
-levels-of-point [] n w h = refl
-levels-of-point (k ∷ ks) n w h =
-    ap₂ (λ (x : ℕ) (xs : List ℕ). x ∷ xs)
-    (point-facts .level-is k (n / blockSize ks) (w .0) (w .1) (high-digit n (newCount k) (blockSize ks) h))
-    (levels-of-point ks (n % blockSize ks) (w .2) (low-digit n (newCount k) (blockSize ks) h))
 
 -- ---- the readings of any index: none, or those of an entry that has it
 
@@ -105,14 +93,14 @@ module _ {m : Machine} (v : SoundMachine m) where
     abbrev k : List ℕ
     k = entryAt es p .levels
 
-    levels : Levels 8 k
-    levels = within-levels k (v .index p inside .ceilings)
+    levels : levelsWithin k ≡ true
+    levels = levels-back k (within-levels k (v .index p inside .ceilings))
 
     taken-at : (n : ℕ) → n < blockSize k → taken es (pointOf k n) ≡ getD (entryAt es p .readings) n (pos 0)
     unfolding taken readingIn
     taken-at n h =
-        ap (λ l. getD (readingsOf es l) (rankIn l (pointOf k n)) (pos 0)) (levels-of-point k n levels h)
-        ∙ ap₂ (λ rs i. getD rs i (pos 0)) (readings-at es p (v .different) inside) (block-facts .rank-of-point k n (levels-back k levels) h)
+        ap (λ l. getD (readingsOf es l) (rankIn l (pointOf k n)) (pos 0)) (block-facts .levels k (pointOf k n) levels (block-facts .new k n levels h))
+        ∙ ap₂ (λ rs i. getD rs i (pos 0)) (readings-at es p (v .different) inside) (block-facts .rank-of-point k n levels h)
 
     taken-all : entryAt es p .readings ≡ map (taken es) (block k)
     taken-all =
