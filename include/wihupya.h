@@ -155,6 +155,11 @@ uint32_t wihupya_start(uint32_t job[WIHUPYA_JOB_WORDS], uint32_t axes, uint64_t 
  * the job, axis 1 first, to the front of the buffer, and no other byte. Position p stands for lower + p / 128 * (upper - lower) of the
  * dimension's limits: 0 for the lower one, 128 for the upper one. The mean weighs all values between the limits alike.
  *
+ * A block's points come in an order in which a rig need not jump back. Axis 1 rises, and each later axis rises or falls as the rank of the
+ * earlier axes' point in this walk, from 0, is even or odd. So two points in a row differ on one axis only, and there by one step among the
+ * block's positions on that axis. Where the block has two positions, 0 and 128, on each of two axes, its points are (0,0), (0,128),
+ * (128,128), (128,0). A block's readings are delivered, kept in the reading store and written to a job file in the same order.
+ *
  *   n       the number of the point in its block; readings are delivered in this order
  *   buffer  at least as many bytes as the job has axes (8 suffice for every job); `bytes` is its length
  *

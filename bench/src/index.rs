@@ -39,13 +39,17 @@ pub fn block_size(levels: &Levels) -> usize {
     levels.iter().map(|&level| rule::new_count(level)).product()
 }
 
-/// Writes the positions of the n-th point of a block. The last axis is the
-/// fastest, so its point is split off first.
+/// Writes the positions of the n-th point of a block in reflected order. The
+/// last axis is the fastest, so its point is split off first; what is left is
+/// then the rank of the earlier axes' point, under which this axis rises or
+/// falls.
 pub fn write_point(levels: &[u32], n: usize, positions: &mut [u8]) {
     let mut left = n;
     for (position, &level) in positions.iter_mut().zip(levels).rev() {
         let count = rule::new_count(level);
-        *position = rule::new_point(level, left % count);
+        let visit = left % count;
         left /= count;
+        let number = if left % 2 == 0 { visit } else { count - 1 - visit };
+        *position = rule::new_point(level, number);
     }
 }

@@ -174,6 +174,12 @@ impl<'a> Integrator<'a> {
 
     /// Writes the positions, 0 to 128, of the n-th point, from 0, of the first
     /// wanted block: one for each axis, to the front of the buffer.
+    ///
+    /// Axis 1 rises along a block, and each later axis rises or falls as the
+    /// rank of the earlier axes' point, from 0, is even or odd. So two points in
+    /// a row differ on one axis only, and there by one step among the block's
+    /// positions on that axis: a rig need not jump back. Readings are delivered
+    /// in the same order.
     pub fn point(&self, n: usize, buffer: &mut [u8]) -> Result<(), Refusal> {
         Refusal::judge(exported::point(&self.job, n, self.cells, self.store, buffer))
     }

@@ -1,9 +1,11 @@
-// The figures of an area, exported so that a program in another language can compare them: only the comparison links them, and the
+// The figures of an area and the points of its blocks, exported so that a program in another language can compare them: only the comparison links them, and the
 // library for callers (`wihupya`) does not have them.
 // Nothing asks a caller outside for what is required here, so the comparison hands over areas that meet it.
 ghost use mathlib.Core.Path.{_≡_};
 ghost use Prim.Native.Nat.{_+_, _*_, _<_, _≤_};
 ghost use lib.ListN.{length};
+ghost use Rattle.grid.specs.Index.{Within};
+ghost use Rattle.grid.specs.Block.{blockSize, pointOf};
 ghost use Rattle.grid.specs.Difference.{scaledDifference, scaledMean};
 ghost use Rattle.grid.specs.Tensor.{tensorRule};
 ghost use Rattle.grid.specs.Coefficient.{coefficient as coefficientOf};
@@ -56,4 +58,13 @@ pub extern "C" fn figures_difference_total(
     ensures { λ r. ⌜ r ≡ scaledMean (deliveredIn (heldIn (now (cells .entry)) held)) (storedReading (recordsOf (now (cells .entry))) (now (store .entry))) ⌝ }
 {
     quadrature::difference_total(axes, held, cells, store)
+}
+
+// The n-th point of the block of the index at a place, from 0: its positions on all eight axes.
+#[no_mangle]
+pub extern "C" fn figures_point(place: usize, n: usize, point: &mut [u8; 8], cells: &[u32])
+    requires { ⌜ (place * 27 + 27 ≤ length (now cells)) × Within (recordAt (recordsOf (now cells)) place .levels) × (n < blockSize (recordAt (recordsOf (now cells)) place .levels)) ⌝ }
+    ensures { λ r. ⌜ now (point .exit) ≡ pointOf (recordAt (recordsOf (now (cells .entry))) place .levels) n ⌝ }
+{
+    *point = grid::point_of(area::levels_at(cells, place), n);
 }

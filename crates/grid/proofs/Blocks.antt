@@ -1,14 +1,13 @@
 -- The points of a block: by number, exactly those that are new on each axis, each once, and their rank.
--- The idea: a point's number is written in two digits, the number of its first position and the number of the rest.
+-- The idea: a point's number is written in two digits, which visit of its first axis it belongs to and the number of the rest there; and
+-- all is shown for any rank of the earlier axes' point, since the rest is walked under another.
 -- Assumes nothing.
 use mathlib.Core.Path.{_≡_, refl, sym, ap, ap₂, _∙_, subst}
-use mathlib.Core.Logic.{_⊎_, inl, inr, ⊎-elim}
 use mathlib.Core.Bool.{true, false}
 use mathlib.Core.List.{List, [], _∷_, _++_, map, List·Memᴰ, List·Memᴰ·head, List·Memᴰ·tail}
 use Prim.Native.Nat.{ℕ, zero, suc, _+_, _*_, _/_, _%_, _<_, _≤_}
 use native.Mathlib.Nat as NatL
-use native.Mathlib.Decide.{ℕ-discrete, decLt}
-use native.Mathlib.Nat.{mod-lt, div-lt-iff-lt-mul, div-add-mod', mul-le-mul-right}
+use native.Mathlib.Nat.{mod-lt, div-lt-iff-lt-mul, div-add-mod'}
 use native.Mathlib.Omega.{arith}
 use borrow.Author.Tests.{eq-eqb, eqb-true}
 use lib.Arith.{digits-lt, digits-div, digits-mod}
@@ -16,49 +15,65 @@ use lib.ListN.{length, getD, length-append, length-map, List·getD-append}
 use lib.Seq.{getD-append-add}
 use Rattle.rule.specs.Points.{newPoints, newCount, newPoint, newAt, levelOf, rankOf}
 use Rattle.rule.proofs.Points as Points
-use Rattle.rule.proofs.Tables.{level-is, rank-is, rank-below, point-is, new-at, new-range, rising}
+use Rattle.rule.proofs.Tables.{level-is, rank-is, rank-below, point-is, new-at, new-range}
 use Rattle.grid.specs.Index.{levelsWithin}
-use Rattle.grid.specs.Block.{cartesian, block, blockSize, pointOf, rankIn, newOnEach}
-use Rattle.grid.specs.Terms.{Before}
+use Rattle.grid.specs.Block.{directed, turned, rows, blockAfter, block, blockSize, pointAfter, pointOf, rankAfter, rankIn, newOnEach}
 use Rattle.grid.proofs.Levels.{Levels, levels-sure, and-left, and-right, and-both}
+use Rattle.grid.proofs.Turns.{turned-below, turned-twice, directed-length, directed-at}
 
 -- ---- the block as a list
 
-length-cartesian : (xs : List ℕ) (ps : List (List ℕ)) → length (cartesian xs ps) ≡ length xs * length ps
-unfolding cartesian
-length-cartesian [] ps = sym (NatL.zero-mul (length ps))
-length-cartesian (x ∷ xs) ps =
-    length-append (map (λ (p : List ℕ). x ∷ p) ps) (cartesian xs ps)
-    ∙ ap₂ _+_ (length-map ps (λ (p : List ℕ). x ∷ p)) (length-cartesian xs ps)
-    ∙ NatL.add-comm (length ps) (length xs * length ps)
-    ∙ sym (NatL.suc-mul (length xs) (length ps))
+getD-front : (x : ℕ) (ps : List (List ℕ)) (t : ℕ) → t < length ps → getD (map (λ (p : List ℕ). x ∷ p) ps) t [] ≡ x ∷ getD ps t []
+getD-front x [] t h = absurd (omega arith)
+getD-front x (p ∷ ps) zero h = refl
+getD-front x (p ∷ ps) (suc t) h = getD-front x ps t (omega arith)
+
+-- rows of m points each
+module _ (walk : ℕ → List (List ℕ)) (m : ℕ) (each : (r : ℕ) → length (walk r) ≡ m) where
+  row : ℕ → ℕ → List (List ℕ)
+  row r x = map (λ (p : List ℕ). x ∷ p) (walk r)
+
+  row-length : (r x : ℕ) → length (row r x) ≡ m
+  unfolding row
+  row-length r x = length-map (walk r) (λ (p : List ℕ). x ∷ p) ∙ each r
+
+  rows-length : (r : ℕ) (xs : List ℕ) → length (rows walk r xs) ≡ length xs * m
+  unfolding rows row
+  rows-length r [] = sym (NatL.zero-mul m)
+  rows-length r (x ∷ xs) =
+      length-append (row r x) (rows walk (suc r) xs)
+      ∙ ap₂ _+_ (row-length r x) (rows-length (suc r) xs)
+      ∙ NatL.add-comm m (length xs * m)
+      ∙ sym (NatL.suc-mul (length xs) m)
+
+  -- the point with the digits q and t
+  rows-at : (r : ℕ) (xs : List ℕ) (q t : ℕ) → q < length xs → t < m → getD (rows walk r xs) (q * m + t) [] ≡ getD xs q 0 ∷ getD (walk (r + q)) t []
+  unfolding rows row
+  rows-at r [] q t a b = absurd (omega arith)
+  rows-at r (x ∷ xs) zero t a b =
+      ap (λ n. getD (row r x ++ rows walk (suc r) xs) n []) (ap (λ n. n + t) (NatL.zero-mul m) ∙ NatL.zero-add t)
+      ∙ List·getD-append (row r x) (rows walk (suc r) xs) [] t (subst (λ n. t < n) (sym (row-length r x)) b)
+      ∙ getD-front x (walk r) t (subst (λ n. t < n) (sym (each r)) b)
+      ∙ ap (λ s. x ∷ getD (walk s) t []) (sym (NatL.add-zero r))
+  rows-at r (x ∷ xs) (suc q) t a b =
+      ap (λ n. getD (row r x ++ rows walk (suc r) xs) n []) (past q t ∙ ap (λ n. n + (q * m + t)) (sym (row-length r x)))
+      ∙ getD-append-add (row r x) (rows walk (suc r) xs) (q * m + t) []
+      ∙ rows-at (suc r) xs q t (omega arith) b
+      ∙ ap (λ s. getD xs q 0 ∷ getD (walk s) t []) {x = suc r + q} {y = r + suc q} (omega arith)
+    where
+      past : (q t : ℕ) → suc q * m + t ≡ m + (q * m + t)
+      past q t = omega arith
+
+size-after : (r : ℕ) (k : List ℕ) → length (blockAfter r k) ≡ blockSize k
+unfolding blockAfter blockSize
+size-after r [] = refl
+size-after r (k ∷ ks) =
+    rows-length (λ s. blockAfter s ks) (blockSize ks) (λ s. size-after s ks) (r * newCount k) (directed r (newPoints k))
+    ∙ ap (λ c. c * blockSize ks) (directed-length r (newPoints k) ∙ Points.new-count k)
 
 pub size : (k : List ℕ) → length (block k) ≡ blockSize k
-unfolding block blockSize
-size [] = refl
-size (k ∷ ks) = length-cartesian (newPoints k) (block ks) ∙ ap₂ _*_ (Points.new-count k) (size ks)
-
--- the element with the digits q and r
-getD-front : (x : ℕ) (ps : List (List ℕ)) (r : ℕ) → r < length ps → getD (map (λ (p : List ℕ). x ∷ p) ps) r [] ≡ x ∷ getD ps r []
-getD-front x [] r h = absurd (omega arith)
-getD-front x (p ∷ ps) zero h = refl
-getD-front x (p ∷ ps) (suc r) h = getD-front x ps r (omega arith)
-
-cartesian-at : (xs : List ℕ) (ps : List (List ℕ)) (q r : ℕ) → q < length xs → r < length ps → getD (cartesian xs ps) (q * length ps + r) [] ≡ getD xs q 0 ∷ getD ps r []
-unfolding cartesian
-cartesian-at [] ps q r a b = absurd (omega arith)
-cartesian-at (x ∷ xs) ps zero r a b =
-    rw (NatL.zero-mul (length ps), NatL.zero-add r)
-    (List·getD-append (map (λ (p : List ℕ). x ∷ p) ps) (cartesian xs ps) [] r (rw (length-map ps (λ (p : List ℕ). x ∷ p)) b)
-    ∙ getD-front x ps r b)
-cartesian-at (x ∷ xs) ps (suc q) r a b =
-    ap (λ n. getD (map (λ (p : List ℕ). x ∷ p) ps ++ cartesian xs ps) n [])
-    (past (length ps) q r ∙ ap (λ n. n + (q * length ps + r)) (sym (length-map ps (λ (p : List ℕ). x ∷ p))))
-    ∙ getD-append-add (map (λ (p : List ℕ). x ∷ p) ps) (cartesian xs ps) (q * length ps + r) []
-    ∙ cartesian-at xs ps q r (omega arith) b
-  where
-    past : (m q r : ℕ) → suc q * m + r ≡ m + (q * m + r)
-    past m q r = omega arith
+unfolding block
+size k = size-after 0 k
 
 -- what a number below a product says of its two digits
 product-pos : (n a s : ℕ) → n < a * s → 0 < s
@@ -72,29 +87,54 @@ module _ (n a s : ℕ) (h : n < a * s) where
   pub low-digit : n % s < s
   low-digit = mod-lt n (product-pos n a s h)
 
+nth-after : (r : ℕ) (k : List ℕ) (n : ℕ) → n < blockSize k → getD (blockAfter r k) n [] ≡ pointAfter r k n
+unfolding blockAfter blockSize pointAfter
+nth-after r [] zero h = refl
+nth-after r [] (suc n) h = absurd (omega arith)
+nth-after r (k ∷ ks) n h =
+    ap (λ m. getD (rows (λ s. blockAfter s ks) (r * newCount k) (directed r (newPoints k))) m []) (sym (div-add-mod' n (blockSize ks)))
+    ∙ rows-at (λ s. blockAfter s ks) (blockSize ks) (λ s. size-after s ks) (r * newCount k) (directed r (newPoints k)) q (n % blockSize ks)
+    (subst (λ c. q < c) (sym (directed-length r (newPoints k))) inside) (low-digit n (newCount k) (blockSize ks) h)
+    ∙ ap₂ (λ (p : ℕ) (ps : List ℕ). p ∷ ps)
+    (directed-at r (newPoints k) q inside ∙ ap (λ c. getD (newPoints k) (turned r c q) 0) (Points.new-count k)
+    ∙ Points.new-point k (turned r (newCount k) q) (turned-below r (newCount k) q (high-digit n (newCount k) (blockSize ks) h)))
+    (nth-after (r * newCount k + q) ks (n % blockSize ks) (low-digit n (newCount k) (blockSize ks) h))
+  where
+    q : ℕ
+    q = n / blockSize ks
+
+    inside : q < length (newPoints k)
+    inside = subst (λ c. q < c) (sym (Points.new-count k)) (high-digit n (newCount k) (blockSize ks) h)
+
 pub nth : (k : List ℕ) (n : ℕ) → n < blockSize k → getD (block k) n [] ≡ pointOf k n
-unfolding block blockSize pointOf
-nth [] zero h = refl
-nth [] (suc n) h = absurd (omega arith)
-nth (k ∷ ks) n h =
-    ap (λ m. getD (cartesian (newPoints k) (block ks)) m []) (sym (div-add-mod' n (blockSize ks)) ∙ ap (λ s. n / blockSize ks * s + n % blockSize ks) (sym (size ks)))
-    ∙ cartesian-at (newPoints k) (block ks) (n / blockSize ks) (n % blockSize ks)
-    (rw (Points.new-count k) (high-digit n (newCount k) (blockSize ks) h)) (rw (size ks) (low-digit n (newCount k) (blockSize ks) h))
-    ∙ ap₂ (λ (p : ℕ) (ps : List ℕ). p ∷ ps) (Points.new-point k (n / blockSize ks) (high-digit n (newCount k) (blockSize ks) h))
-    (nth ks (n % blockSize ks) (low-digit n (newCount k) (blockSize ks) h))
+unfolding block pointOf
+nth k n h = nth-after 0 k n h
+
+-- the point whose number has the digits q and t
+pub at-digits : (r k : ℕ) (ks : List ℕ) (q t : ℕ) → t < blockSize ks
+    → pointAfter r (k ∷ ks) (q * blockSize ks + t) ≡ newPoint k (turned r (newCount k) q) ∷ pointAfter (r * newCount k + q) ks t
+unfolding pointAfter
+at-digits r k ks q t h = ap₂ (λ x y. newPoint k (turned r (newCount k) x) ∷ pointAfter (r * newCount k + x) ks y) (digits-div q h) (digits-mod q h)
 
 -- ---- new on each axis
 
-pub points-new : (k : List ℕ) (n : ℕ) → Levels 8 k → n < blockSize k → newOnEach k (pointOf k n) ≡ true
-unfolding newOnEach pointOf blockSize
-points-new [] n w h = refl
-points-new (k ∷ ks) n w h =
-    and-both (newAt k p) (newOnEach ks (pointOf ks (n % blockSize ks)))
-    (new-at k p (w .0) (w .1) ∙ eq-eqb (levelOf p) k (level-is k (n / blockSize ks) (w .0) (w .1) (high-digit n (newCount k) (blockSize ks) h)))
-    (points-new ks (n % blockSize ks) (w .2) (low-digit n (newCount k) (blockSize ks) h))
-  where
-    p : ℕ
-    p = newPoint k (n / blockSize ks)
+-- the position visited q-th, and which visit it is
+module _ (r k q : ℕ) (a : 1 ≤ k) (b : k ≤ 8) (h : q < newCount k) where
+  pub visited-new : newAt k (newPoint k (turned r (newCount k) q)) ≡ true
+  visited-new =
+      new-at k (newPoint k (turned r (newCount k) q)) a b
+      ∙ eq-eqb (levelOf (newPoint k (turned r (newCount k) q))) k (level-is k (turned r (newCount k) q) a b (turned-below r (newCount k) q h))
+
+  pub visit-of : turned r (newCount k) (rankOf (newPoint k (turned r (newCount k) q))) ≡ q
+  visit-of = ap (turned r (newCount k)) (rank-is k (turned r (newCount k) q) a b (turned-below r (newCount k) q h)) ∙ turned-twice r (newCount k) q h
+
+points-new : (r : ℕ) (k : List ℕ) (n : ℕ) → Levels 8 k → n < blockSize k → newOnEach k (pointAfter r k n) ≡ true
+unfolding newOnEach pointAfter blockSize
+points-new r [] n w h = refl
+points-new r (k ∷ ks) n w h =
+    and-both (newAt k (newPoint k (turned r (newCount k) (n / blockSize ks)))) (newOnEach ks (pointAfter (r * newCount k + n / blockSize ks) ks (n % blockSize ks)))
+    (visited-new r k (n / blockSize ks) (w .0) (w .1) (high-digit n (newCount k) (blockSize ks) h))
+    (points-new (r * newCount k + n / blockSize ks) ks (n % blockSize ks) (w .2) (low-digit n (newCount k) (blockSize ks) h))
 
 -- what the test says of the first position
 pub record Newest (k p : ℕ) : Type 0 where
@@ -117,77 +157,68 @@ newest k p a b e =
 clash : {A : Type 0} → false ≡ true → A
 clash e = absurd (let z : _≡_ {A = ℕ} 0 1 = cc in omega arith)
 
-pub ranks-below : (k p : List ℕ) → Levels 8 k → newOnEach k p ≡ true → rankIn k p < blockSize k
-unfolding newOnEach rankIn blockSize
-ranks-below [] [] w e = omega arith
-ranks-below [] (p ∷ ps) w e = clash e
-ranks-below (k ∷ ks) [] w e = clash e
-ranks-below (k ∷ ks) (p ∷ ps) w e =
-    digits-lt (newest k p (w .0) (w .1) (and-left (newAt k p) (newOnEach ks ps) e) .number)
-    (ranks-below ks ps (w .2) (and-right (newAt k p) (newOnEach ks ps) e))
+-- ---- ranks
 
-pub points-of-ranks : (k p : List ℕ) → Levels 8 k → newOnEach k p ≡ true → pointOf k (rankIn k p) ≡ p
-unfolding newOnEach rankIn pointOf
-points-of-ranks [] [] w e = refl
-points-of-ranks [] (p ∷ ps) w e = clash e
-points-of-ranks (k ∷ ks) [] w e = clash e
-points-of-ranks (k ∷ ks) (p ∷ ps) w e =
-    ap₂ (λ (x : ℕ) (xs : List ℕ). x ∷ xs)
-    (ap (newPoint k) (digits-div (rankOf p) below) ∙ newest k p (w .0) (w .1) (and-left (newAt k p) (newOnEach ks ps) e) .point)
-    (ap (pointOf ks) (digits-mod (rankOf p) below) ∙ points-of-ranks ks ps (w .2) rest)
+-- a point behind one of rank r: its number there, and its rank among all
+record Ranked (r : ℕ) (k p : List ℕ) : Type 0 where
+  number : ℕ
+  below : number < blockSize k
+  rank : rankAfter r k p ≡ r * blockSize k + number
+  point : pointAfter r k number ≡ p
+
+pub carried : (r c q s t : ℕ) → (r * c + q) * s + t ≡ r * (c * s) + (q * s + t)
+carried r c q s t = ap (λ x. x + t) (NatL.add-mul (r * c) q s ∙ ap (λ x. x + q * s) (NatL.mul-assoc r c s)) ∙ NatL.add-assoc (r * (c * s)) (q * s) t
+
+ranked : (r : ℕ) (k p : List ℕ) → Levels 8 k → newOnEach k p ≡ true → Ranked r k p
+unfolding newOnEach
+ranked r [] [] w e =
+    record {
+      number = 0;
+      below = unfold blockSize in omega arith;
+      rank = unfold rankAfter blockSize in omega arith;
+      point = unfold pointAfter in refl;
+    }
+ranked r [] (p ∷ ps) w e = clash e
+ranked r (k ∷ ks) [] w e = clash e
+ranked r (k ∷ ks) (p ∷ ps) w e = step (ranked (r * newCount k + turned r (newCount k) (rankOf p)) ks ps (w .2) (and-right (newAt k p) (newOnEach ks ps) e))
   where
-    rest : newOnEach ks ps ≡ true
-    rest = and-right (newAt k p) (newOnEach ks ps) e
+    first : Newest k p
+    first = newest k p (w .0) (w .1) (and-left (newAt k p) (newOnEach ks ps) e)
 
-    below : rankIn ks ps < blockSize ks
-    below = ranks-below ks ps (w .2) rest
+    q : ℕ
+    q = turned r (newCount k) (rankOf p)
 
-pub ranks-of-points : (k : List ℕ) (n : ℕ) → Levels 8 k → n < blockSize k → rankIn k (pointOf k n) ≡ n
-unfolding rankIn pointOf blockSize
-ranks-of-points [] n w h = omega arith
-ranks-of-points (k ∷ ks) n w h =
-    ap₂ (λ q r. q * blockSize ks + r) (rank-is k (n / blockSize ks) (w .0) (w .1) (high-digit n (newCount k) (blockSize ks) h))
-    (ranks-of-points ks (n % blockSize ks) (w .2) (low-digit n (newCount k) (blockSize ks) h))
-    ∙ div-add-mod' n (blockSize ks)
+    step : Ranked (r * newCount k + q) ks ps → Ranked r (k ∷ ks) (p ∷ ps)
+    step x =
+        record {
+          number = q * blockSize ks + x .number;
+          below = unfold blockSize in digits-lt (turned-below r (newCount k) (rankOf p) (first .number)) (x .below);
+          rank = unfold rankAfter blockSize in (x .rank ∙ carried r (newCount k) q (blockSize ks) (x .number));
+          point =
+              at-digits r k ks q (x .number) (x .below)
+              ∙ ap₂ (λ (y : ℕ) (ys : List ℕ). y ∷ ys) (ap (newPoint k) (turned-twice r (newCount k) (rankOf p) (first .number)) ∙ first .point) (x .point);
+        }
 
--- ---- axis 1 slowest, positions rising
-
--- of two numbers the lower has a lower first digit, or the same and a lower rest
-first-or-rest : (n m s : ℕ) → 0 < s → n < m → (n / s < m / s) ⊎ ((n / s ≡ m / s) × (n % s < m % s))
-first-or-rest n m s z h = step (decLt (n / s) (m / s)) (ℕ-discrete (n / s) (m / s))
-  where
-    same-rest : n / s ≡ m / s → n % s < m % s
-    same-rest e = omega (arith, div-add-mod' n s, div-add-mod' m s, ap (λ x. x * s) e)
-
-    higher : (n / s < m / s → ⊥) → (n / s ≡ m / s → ⊥) → ⊥
-    higher f g =
-        omega (arith, div-add-mod' n s, div-add-mod' m s, mul-le-mul-right s (below (n / s) (m / s) f g), NatL.suc-mul (m / s) s, mod-le-self)
-      where
-        below : (a b : ℕ) → (a < b → ⊥) → (a ≡ b → ⊥) → suc b ≤ a
-        below a b f g = omega arith
-
-        mod-le-self : m % s ≤ s
-        mod-le-self = NatL.le-of-lt (mod-lt m z)
-
-    step : Dec (n / s < m / s) → Dec (n / s ≡ m / s) → (n / s < m / s) ⊎ ((n / s ≡ m / s) × (n % s < m % s))
-    step (yes q) e = inl q
-    step (no q) (yes e) = inr (e, same-rest e)
-    step (no q) (no e) = absurd (higher q e)
-
-pub points-ordered : (k : List ℕ) (n m : ℕ) → Levels 8 k → n < m → m < blockSize k → Before (pointOf k n) (pointOf k m)
-unfolding pointOf blockSize
-points-ordered [] n m w l h = absurd (omega arith)
-points-ordered (k ∷ ks) n m w l h =
-    ⊎-elim (λ q. inl (rising k (n / blockSize ks) (m / blockSize ks) (w .0) (w .1) q (high-digit m (newCount k) (blockSize ks) h)))
-    (λ q. inr (ap (newPoint k) (q .0), points-ordered ks (n % blockSize ks) (m % blockSize ks) (w .2) (q .1) (low-digit m (newCount k) (blockSize ks) h)))
-    (first-or-rest n m (blockSize ks) (product-pos m (newCount k) (blockSize ks) h) l)
+ranks-of-points : (r : ℕ) (k : List ℕ) (n : ℕ) → Levels 8 k → n < blockSize k → rankAfter r k (pointAfter r k n) ≡ r * blockSize k + n
+unfolding rankAfter pointAfter blockSize
+ranks-of-points r [] n w h = omega arith
+ranks-of-points r (k ∷ ks) n w h =
+    ap (λ x. rankAfter (r * newCount k + x) ks (pointAfter (r * newCount k + n / blockSize ks) ks (n % blockSize ks)))
+    (visit-of r k (n / blockSize ks) (w .0) (w .1) (high-digit n (newCount k) (blockSize ks) h))
+    ∙ ranks-of-points (r * newCount k + n / blockSize ks) ks (n % blockSize ks) (w .2) (low-digit n (newCount k) (blockSize ks) h)
+    ∙ carried r (newCount k) (n / blockSize ks) (blockSize ks) (n % blockSize ks)
+    ∙ ap (λ x. r * (newCount k * blockSize ks) + x) (div-add-mod' n (blockSize ks))
 
 -- ---- a position for each level, and the level of each
 
+positions-after : (r : ℕ) (k : List ℕ) (n : ℕ) → length (pointAfter r k n) ≡ length k
+unfolding pointAfter
+positions-after r [] n = refl
+positions-after r (k ∷ ks) n = ap suc (positions-after (r * newCount k + n / blockSize ks) ks (n % blockSize ks))
+
 pub positions : (k : List ℕ) (n : ℕ) → length (pointOf k n) ≡ length k
 unfolding pointOf
-positions [] n = refl
-positions (k ∷ ks) n = ap suc (positions ks (n % blockSize ks))
+positions k n = positions-after 0 k n
 
 levels-of : (k p : List ℕ) → Levels 8 k → newOnEach k p ≡ true → map levelOf p ≡ k
 unfolding newOnEach
@@ -206,27 +237,35 @@ at-in [] n h = absurd (omega arith)
 at-in (x ∷ l) zero h = List·Memᴰ·head refl
 at-in (x ∷ l) (suc n) h = List·Memᴰ·tail (at-in l n (omega arith))
 
+-- with no earlier axes the rank is the number
+first-rank : (s n : ℕ) → 0 * s + n ≡ n
+first-rank s n = omega (arith, NatL.zero-mul s)
+
 module _ (k : List ℕ) (v : levelsWithin k ≡ true) where
   pub new : (n : ℕ) → n < blockSize k → newOnEach k (pointOf k n) ≡ true
-  new n h = points-new k n (levels-sure k v) h
+  unfolding pointOf
+  new n h = points-new 0 k n (levels-sure k v) h
 
   pub rank-of-point : (n : ℕ) → n < blockSize k → rankIn k (pointOf k n) ≡ n
-  rank-of-point n h = ranks-of-points k n (levels-sure k v) h
+  unfolding pointOf rankIn
+  rank-of-point n h = ranks-of-points 0 k n (levels-sure k v) h ∙ first-rank (blockSize k) n
+
+  number-is : (p : List ℕ) (e : newOnEach k p ≡ true) → rankIn k p ≡ ranked 0 k p (levels-sure k v) e .number
+  unfolding rankIn
+  number-is p e = ranked 0 k p (levels-sure k v) e .rank ∙ first-rank (blockSize k) (ranked 0 k p (levels-sure k v) e .number)
 
   pub rank-is-below : (p : List ℕ) → newOnEach k p ≡ true → rankIn k p < blockSize k
-  rank-is-below p e = ranks-below k p (levels-sure k v) e
+  rank-is-below p e = subst (λ n. n < blockSize k) (sym (number-is p e)) (ranked 0 k p (levels-sure k v) e .below)
 
   pub point-of-rank : (p : List ℕ) → newOnEach k p ≡ true → pointOf k (rankIn k p) ≡ p
-  point-of-rank p e = points-of-ranks k p (levels-sure k v) e
+  unfolding pointOf
+  point-of-rank p e = ap (pointAfter 0 k) (number-is p e) ∙ ranked 0 k p (levels-sure k v) e .point
 
   pub levels : (p : List ℕ) → newOnEach k p ≡ true → map levelOf p ≡ k
   levels p e = levels-of k p (levels-sure k v) e
 
   pub different : (n m : ℕ) → n < blockSize k → m < blockSize k → pointOf k n ≡ pointOf k m → n ≡ m
   different n m a b e = sym (rank-of-point n a) ∙ ap (rankIn k) e ∙ rank-of-point m b
-
-  pub ordered : (n m : ℕ) → n < m → m < blockSize k → Before (pointOf k n) (pointOf k m)
-  ordered n m l h = points-ordered k n m (levels-sure k v) l h
 
   pub every : (p : List ℕ) → newOnEach k p ≡ true → List·Memᴰ p (block k)
   every p e =

@@ -21,7 +21,7 @@ use Rattle.rule.specs.Rules.{unit, isPoint, pointWeight, wholeAt, unitStep, dif
 use Rattle.rule.specs.Weights.{wholeWeight, endsOne, differenceWeight, endsMinusOne}
 use Rattle.rule.proofs.Weights.{difference-sum}
 use Rattle.grid.specs.Index.{level, excess, Within, levelsWithin, within, root, inFront, lower, backward}
-use Rattle.grid.specs.Block.{cartesian, block, blockSize}
+use Rattle.grid.specs.Block.{directed, rows, blockAfter, block, blockSize}
 use Rattle.grid.specs.Difference.{units, differenceProduct, differenceSum, scaledDifference, scaledMean, behind}
 use Rattle.grid.specs.Tensor.{tensorSum, tensorRule}
 use Rattle.grid.specs.Coefficient.{sameLevels, isIn, subsets, sign, raisedOn, coefficient}
@@ -167,13 +167,13 @@ unfolding points tabulate
 p2-points = refl
 
 p4 : length (block (3 ∷ 4 ∷ 1 ∷ [])) ≡ 8
-unfolding block cartesian newPoints tabulate
+unfolding block blockAfter rows directed newPoints newCount tabulate
 p4 = refl
 
 p4-order : block (3 ∷ 4 ∷ 1 ∷ [])
     ≡ (32 ∷ 16 ∷ 64 ∷ []) ∷ (32 ∷ 48 ∷ 64 ∷ []) ∷ (32 ∷ 80 ∷ 64 ∷ []) ∷ (32 ∷ 112 ∷ 64 ∷ [])
-    ∷ (96 ∷ 16 ∷ 64 ∷ []) ∷ (96 ∷ 48 ∷ 64 ∷ []) ∷ (96 ∷ 80 ∷ 64 ∷ []) ∷ (96 ∷ 112 ∷ 64 ∷ []) ∷ []
-unfolding block cartesian newPoints tabulate
+    ∷ (96 ∷ 112 ∷ 64 ∷ []) ∷ (96 ∷ 80 ∷ 64 ∷ []) ∷ (96 ∷ 48 ∷ 64 ∷ []) ∷ (96 ∷ 16 ∷ 64 ∷ []) ∷ []
+unfolding block blockAfter rows directed newPoints newCount tabulate
 p4-order = refl
 
 file-counts : map (λ (e : Delivery). length (e .readings)) file ≡ map (λ (e : Delivery). blockSize (e .levels)) file

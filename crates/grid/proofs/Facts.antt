@@ -8,6 +8,7 @@ use Rattle.grid.proofs.Neighbours as Neighbours
 use Rattle.grid.proofs.Lower as Lower
 use Rattle.grid.proofs.Members as Members
 use Rattle.grid.proofs.Blocks as Blocks
+use Rattle.grid.proofs.Reflected as Reflected
 use Rattle.grid.proofs.Rules as Rules
 use Rattle.grid.proofs.Differences as Differences
 use Rattle.grid.proofs.Sampled as Sampled
@@ -47,13 +48,18 @@ block-facts =
       nth = Blocks.nth;
       new = λ k n v h. Blocks.new k v n h;
       every = λ k p v e. Blocks.every k v p e;
-      ordered = λ k n m v l h. Blocks.ordered k v n m l h;
       different = λ k n m v a b e. Blocks.different k v n m a b e;
       rank-of-point = λ k n v h. Blocks.rank-of-point k v n h;
       rank-below = λ k p v e. Blocks.rank-is-below k v p e;
       point-of-rank = λ k p v e. Blocks.point-of-rank k v p e;
       positions = Blocks.positions;
       levels = λ k p v e. Blocks.levels k v p e;
+      earlier = λ k i n v. Reflected.earlier k v i n;
+      turning-rank = λ k i n v h. Reflected.turning-rank k v i n h;
+      first-rises = λ k n m v l h. Reflected.first-rises k v n m l h;
+      rises = λ k i n m v l h e z. Reflected.rises k v i n m l h e z;
+      falls = λ k i n m v l h e z. Reflected.falls k v i n m l h e z;
+      one-step = λ k n v h. Reflected.one-step k v n h;
     }
 
 pub difference-facts : DifferenceFacts

@@ -16,7 +16,7 @@ use Rattle.rule.specs.Points.{newCount, newPoint}
 use Rattle.rule.specs.Rules.{unit}
 use Rattle.rule.specs.Weights.{wholeWeight, differenceWeight}
 use Rattle.grid.specs.Index.{excess, levelsWithin, within}
-use Rattle.grid.specs.Block.{blockSize, pointOf}
+use Rattle.grid.specs.Block.{turned, blockSize, pointAfter, pointOf}
 use Rattle.grid.specs.Difference.{Readings, units, scaledDifference, scaledMean}
 use Rattle.grid.specs.Tensor.{tensorRule}
 use Rattle.grid.specs.Coefficient.{sameLevels, isIn, coefficient}
@@ -60,15 +60,22 @@ size-same (k ∷ ks) m = ap (λ x. newCount k * x) (size-same ks m)
 
 -- ---- points
 
-ones-point : (m n : ℕ) → pointOf (replicate m 1) n ≡ replicate m 64
-unfolding pointOf newPoint
-ones-point zero n = refl
-ones-point (suc m) n = ap (λ (l : List ℕ). 64 ∷ l) (ones-point m (n % blockSize (replicate m 1)))
+ones-point : (r m n : ℕ) → pointAfter r (replicate m 1) n ≡ replicate m 64
+unfolding pointAfter newPoint
+ones-point r zero n = refl
+ones-point r (suc m) n =
+    ap (λ (l : List ℕ). 64 ∷ l) (ones-point (r * newCount 1 + n / blockSize (replicate m 1)) m (n % blockSize (replicate m 1)))
+
+point-after-same : (r : ℕ) (k : List ℕ) (m n : ℕ) → pointAfter r (pad m k) n ≡ pointAfter r k n ++ replicate m 64
+unfolding pointAfter pad
+point-after-same r [] m n = ones-point r m n
+point-after-same r (k ∷ ks) m n =
+    rw (size-same ks m)
+    (ap (λ (l : List ℕ). newPoint k (turned r (newCount k) (n / blockSize ks)) ∷ l) (point-after-same (r * newCount k + n / blockSize ks) ks m (n % blockSize ks)))
 
 pub point-same : (k : List ℕ) (m n : ℕ) → pointOf (pad m k) n ≡ pointOf k n ++ replicate m 64
-unfolding pointOf pad
-point-same [] m n = ones-point m n
-point-same (k ∷ ks) m n = rw (size-same ks m) (ap (λ (l : List ℕ). newPoint k (n / blockSize ks) ∷ l) (point-same ks m (n % blockSize ks)))
+unfolding pointOf
+point-same k m n = point-after-same 0 k m n
 
 -- ---- rules with a weight of one at level 1
 

@@ -8,7 +8,9 @@ pub mod Members
 pub mod Scales
 pub mod Combine
 pub mod Differences
+pub mod Turns
 pub mod Blocks
+pub mod Reflected
 pub mod Sampled
 pub mod LevelOne
 pub mod Largest

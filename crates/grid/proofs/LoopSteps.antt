@@ -18,7 +18,7 @@ use lib.Pow.{pow-add, pow-mono, pow-pos, shr-shr}
 use lib.Seq.{drop-cons, take-suc-set, drop-set-lt, take-suc, append-snoc, take-all}
 use Rattle.rule.specs.Points.{newCount, newPoint}
 use Rattle.grid.specs.Index.{level, excess, Within, levelsWithin, within}
-use Rattle.grid.specs.Block.{blockSize, pointOf}
+use Rattle.grid.specs.Block.{turned as turnedAt, blockSize, pointAfter}
 use Rattle.grid.specs.Coefficient.{sign, raisedOn, marks}
 use Rattle.grid.proofs.Levels.{Levels, within-levels}
 
@@ -123,14 +123,16 @@ factor-le a b n h e = le-trans (le-of-eq (sym (NatL.mul-one a))) (le-trans (mul-
 
 -- ---- points
 
-pub point-step : (k : List ℕ) (a n : ℕ) → a < length k
-    → pointOf (drop a k) n ≡ newPoint (level k a) (n / blockSize (drop (a + 1) k)) ∷ pointOf (drop (a + 1) k) (n % blockSize (drop (a + 1) k))
-unfolding pointOf
-point-step k a n h = rw (axis-left k a h)
+pub point-step : (r : ℕ) (k : List ℕ) (a n : ℕ) → a < length k
+    → pointAfter r (drop a k) n
+    ≡ newPoint (level k a) (turnedAt r (newCount (level k a)) (n / blockSize (drop (a + 1) k)))
+    ∷ pointAfter (r * newCount (level k a) + n / blockSize (drop (a + 1) k)) (drop (a + 1) k) (n % blockSize (drop (a + 1) k))
+unfolding pointAfter
+point-step r k a n h = rw (axis-left k a h)
 
-pub point-done : (k : List ℕ) (a n : ℕ) → length k ≤ a → pointOf (drop a k) n ≡ []
-unfolding pointOf
-point-done k a n h = rw (none-left k a h)
+pub point-done : (r : ℕ) (k : List ℕ) (a n : ℕ) → length k ≤ a → pointAfter r (drop a k) n ≡ []
+unfolding pointAfter
+point-done r k a n h = rw (none-left k a h)
 
 -- an element is stored at the end of what is done
 pub store-next : (p rest : List ℕ) (a x : ℕ) → a < length p → take (a + 1) (set p a x) ++ rest ≡ take a p ++ (x ∷ rest)

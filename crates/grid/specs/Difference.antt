@@ -1,5 +1,5 @@
 -- The difference of an index ("Blocks and differences"), with the weights of the difference rule.
--- Readings come in as a function of the index and of the point's number in its block.
+-- Readings come in as a function of the index and of the point's number in its block: they are numbered in the order of the walk.
 use mathlib.Core.List.{List, [], _∷_}
 use Prim.Native.Nat.{ℕ, suc, _+_, _*_, _-_, _^_}
 use lib.IntN.{ℤ, pos, _*ℤ_}
@@ -34,12 +34,12 @@ differenceSum k R = sumOf (lower k) (λ l. sumTo (blockSize l) (λ n. difference
 unfoldable pub scaledDifference : List ℕ → Readings → ℤ
 scaledDifference k R = pos (2 ^ (20 - units k)) *ℤ differenceSum k R
 
--- The readings that are left to the later axes once the first stands at the n-th new point of level l.
+-- The readings that are left to the later axes once the first stands at its n-th point of level l in the order of the walk.
 unfoldable pub behind : Readings → ℕ → ℕ → Readings
 behind R l n = λ ls m. R (l ∷ ls) (n * blockSize ls + m)
 
--- The same worked axis by axis: along an axis the levels are gone through, in each level its points, and below each point the
--- next axis.
+-- The same worked axis by axis: along an axis the levels are gone through, in each level its points in the order of the walk, and
+-- below each point the next axis.
 unfoldable pub differenceWalk : List ℕ → Readings → ℤ
 differenceWalk [] R = R [] 0
 differenceWalk (k ∷ ks) R =

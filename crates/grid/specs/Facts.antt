@@ -3,19 +3,19 @@ use mathlib.Core.Path.{_≡_}
 use mathlib.Core.Logic.{_≢_}
 use mathlib.Core.Bool.{true, cond}
 use mathlib.Core.List.{List, [], _++_, map, List·Memᴰ}
-use Prim.Native.Nat.{ℕ, suc, _+_, _*_, _-_, _^_, _<_, _≤_}
+use Prim.Native.Nat.{ℕ, suc, _+_, _*_, _-_, _/_, _%_, _^_, _<_, _≤_}
 use lib.IntN.{ℤ, pos, natAbs, _+ℤ_, _*ℤ_}
-use lib.ListN.{length, getD, take, replicate}
+use lib.ListN.{length, getD, take, drop, replicate}
 use Rattle.sums.specs.Sums.{sumTo, sumOf}
 use Rattle.rule.specs.Points.{levelOf}
 use Rattle.rule.specs.Rules.{wholeRule, differenceRule}
 use Rattle.grid.specs.Index.{level, excess, Within, levelsWithin, within, Index, root, forward, backward, cappedAxes, NowhereHigher, lower}
-use Rattle.grid.specs.Block.{block, blockSize, pointOf, rankIn, newOnEach}
+use Rattle.grid.specs.Block.{block, blockSize, pointAfter, pointOf, rankIn, newOnEach}
 use Rattle.grid.specs.Difference.{Readings, units, differenceProduct, differenceSum, scaledDifference, differenceWalk, scaledMean}
 use Rattle.grid.specs.Coefficient.{isIn, subsets, sign, raisedOn, coefficient, marks}
 use Rattle.grid.specs.Tensor.{tensorSum, tensorRule}
 use Rattle.grid.specs.Cross.{crossTotal}
-use Rattle.grid.specs.Terms.{NoDup, Before, InRange, Agree, blockSum, wholeProduct, loweredOn, tensorProduct, sampled, pad, padded, centred, DownSet}
+use Rattle.grid.specs.Terms.{NoDup, OneStep, InRange, Agree, blockSum, wholeProduct, loweredOn, tensorProduct, sampled, pad, padded, centred, DownSet}
 
 -- ---- indices
 
@@ -54,8 +54,7 @@ pub record BlockFacts : Type 0 where
   -- its points are exactly the points that are new on each axis
   pub new : (k : List ℕ) (n : ℕ) → levelsWithin k ≡ true → n < blockSize k → newOnEach k (pointOf k n) ≡ true
   pub every : (k p : List ℕ) → levelsWithin k ≡ true → newOnEach k p ≡ true → List·Memᴰ p (block k)
-  -- axis 1 slowest, positions rising; so they are pairwise different
-  pub ordered : (k : List ℕ) (n m : ℕ) → levelsWithin k ≡ true → n < m → m < blockSize k → Before (pointOf k n) (pointOf k m)
+  -- pairwise different
   pub different : (k : List ℕ) (n m : ℕ) → levelsWithin k ≡ true → n < blockSize k → m < blockSize k
       → pointOf k n ≡ pointOf k m → n ≡ m
   -- the rank of a point in its block, and back
@@ -65,6 +64,25 @@ pub record BlockFacts : Type 0 where
   -- a point has a position for each level, and a position tells its level
   pub positions : (k : List ℕ) (n : ℕ) → length (pointOf k n) ≡ length k
   pub levels : (k p : List ℕ) → levelsWithin k ≡ true → newOnEach k p ≡ true → map levelOf p ≡ k
+  -- the order, for any number of axes; i is how many axes are earlier, so the next of them is axis i + 1
+  -- the earlier axes' points are the walk of those axes alone, each kept while the axes left are gone through once
+  pub earlier : (k : List ℕ) (i n : ℕ) → levelsWithin k ≡ true
+      → take i (pointOf k n) ≡ pointOf (take i k) (n / blockSize (drop i k))
+  -- the rank under which the axes left are walked is that of the earlier axes' point in this walk
+  pub turning-rank : (k : List ℕ) (i n : ℕ) → levelsWithin k ≡ true → n < blockSize k
+      → drop i (pointOf k n) ≡ pointAfter (rankIn (take i k) (take i (pointOf k n))) (drop i k) (n % blockSize (drop i k))
+  -- axis 1 rises
+  pub first-rises : (k : List ℕ) (n m : ℕ) → levelsWithin k ≡ true → n ≤ m → m < blockSize k
+      → getD (pointOf k n) 0 0 ≤ getD (pointOf k m) 0 0
+  -- behind one point of the earlier axes, axis i + 1 rises if the rank of that point is even, and falls if it is odd
+  pub rises : (k : List ℕ) (i n m : ℕ) → levelsWithin k ≡ true → n ≤ m → m < blockSize k
+      → take i (pointOf k n) ≡ take i (pointOf k m) → rankIn (take i k) (take i (pointOf k n)) % 2 ≡ 0
+      → getD (pointOf k n) i 0 ≤ getD (pointOf k m) i 0
+  pub falls : (k : List ℕ) (i n m : ℕ) → levelsWithin k ≡ true → n ≤ m → m < blockSize k
+      → take i (pointOf k n) ≡ take i (pointOf k m) → rankIn (take i k) (take i (pointOf k n)) % 2 ≡ 1
+      → getD (pointOf k m) i 0 ≤ getD (pointOf k n) i 0
+  -- two points in a row differ on one axis only, and there by one step among the new points
+  pub one-step : (k : List ℕ) (n : ℕ) → levelsWithin k ≡ true → suc n < blockSize k → OneStep k (pointOf k n) (pointOf k (suc n))
 
 -- ---- differences and full tensor rules
 

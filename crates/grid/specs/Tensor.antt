@@ -8,7 +8,7 @@ use Rattle.rule.specs.Weights.{wholeWeight}
 use Rattle.grid.specs.Difference.{Readings, units, behind}
 
 -- The product of the axes' whole rules, one axis taken off at a time, in units of 2^−(units k): along the first axis every
--- level up to k, in each level its new points, and at each point the rule of the remaining axes.
+-- level up to k, in each level its new points in the order of the walk, and at each point the rule of the remaining axes.
 unfoldable pub tensorSum : List ℕ → Readings → ℤ
 tensorSum [] R = R [] 0
 tensorSum (k ∷ ks) R =

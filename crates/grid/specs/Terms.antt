@@ -1,12 +1,13 @@
 -- Terms that the statements of Facts use besides the scope document's.
 use mathlib.Core.Path.{_≡_}
-use mathlib.Core.Logic.{_⊎_}
+use mathlib.Core.Logic.{_≢_, _⊎_}
 use mathlib.Core.Bool.{Bool, true, false}
 use mathlib.Core.List.{List, [], _∷_, _++_, List·Memᴰ}
-use Prim.Native.Nat.{ℕ, _-_, _<_, _≤_}
+use Prim.Native.Nat.{ℕ, suc, _-_, _<_, _≤_}
 use lib.IntN.{ℤ, pos, natAbs, _*ℤ_}
-use lib.ListN.{length, replicate}
+use lib.ListN.{length, getD, replicate}
 use Rattle.sums.specs.Sums.{sumTo}
+use Rattle.rule.specs.Points.{newAt, rankOf}
 use Rattle.rule.specs.Weights.{wholeWeight}
 use Rattle.grid.specs.Index.{level, Within, backward, NowhereHigher}
 use Rattle.grid.specs.Block.{blockSize, pointOf}
@@ -17,11 +18,18 @@ abbrev pub NoDup : List (List ℕ) → Type 0
 NoDup [] = Unit {0}
 NoDup (x ∷ xs) = (List·Memᴰ x xs → ⊥) × NoDup xs
 
--- Axis 1 slowest: the first position in which two points part is the lower one's.
-abbrev pub Before : List ℕ → List ℕ → Type 0
-Before [] q = ⊥
-Before (x ∷ xs) [] = ⊥
-Before (x ∷ xs) (y ∷ ys) = (x < y) ⊎ ((x ≡ y) × Before xs ys)
+-- Two positions are one step apart among the new points of a level: both are new there, and their numbers are one apart.
+pub record NextNew (k x y : ℕ) : Type 0 where
+  pub first : newAt k x ≡ true
+  pub second : newAt k y ≡ true
+  pub apart : (rankOf y ≡ suc (rankOf x)) ⊎ (rankOf x ≡ suc (rankOf y))
+
+-- Two points differ on one axis only, and there by one step among the new points of that axis's level.
+pub record OneStep (k p q : List ℕ) : Type 0 where
+  pub axis : ℕ
+  pub inside : axis < length k
+  pub step : NextNew (level k axis) (getD p axis 0) (getD q axis 0)
+  pub others : (b : ℕ) → b ≢ axis → getD p b 0 ≡ getD q b 0
 
 -- A *reading* is a signed whole number from −1,048,576 to 1,048,576.
 abbrev pub IsReading : ℤ → Type 0
@@ -58,7 +66,7 @@ unfoldable pub tensorProduct : (ℕ → (ℕ → ℤ) → ℤ) → List ℕ → 
 tensorProduct Q [] f = f []
 tensorProduct Q (k ∷ ks) f = Q k (λ p. tensorProduct Q ks (λ ps. f (p ∷ ps)))
 
--- Readings that are taken from a function on positions.
+-- Readings that are taken from a function on positions: the n-th is taken at the n-th point of the walk.
 unfoldable pub sampled : (List ℕ → ℤ) → Readings
 sampled f = λ l n. f (pointOf l n)
 

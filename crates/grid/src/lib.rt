@@ -2,7 +2,7 @@
 ghost use mathlib.Core.Path.{_≡_};
 ghost use Prim.Native.Nat.{_≤_, _<_};
 ghost use Rattle.grid.specs.Index.{level, excess, Within, within, forward, backward, cappedAxes};
-ghost use Rattle.grid.specs.Block.{blockSize, pointOf};
+ghost use Rattle.grid.specs.Block.{turned, blockSize, pointOf};
 ghost use Rattle.grid.specs.Coefficient.{sign, marks};
 
 // The excess of an index within the ceilings.
@@ -72,7 +72,17 @@ pub fn block_size(levels: [u32; 8]) -> usize
     size
 }
 
-// The positions of the n-th point of a block, from 0: axis 1 slowest. The axes at level 1 stand at the centre.
+// On an axis with `count` new points, the number of the one visited q-th, where the earlier axes' point has this rank: the axis rises if
+// the rank is even and falls if it is odd.
+fn number_visited(rank: usize, count: usize, q: usize) -> usize
+    requires { ⌜ q < count ⌝ }
+    ensures { λ r. ⌜ (r ≡ turned rank count q) × (r < count) ⌝ }
+{
+    if rank % 2 == 0 { q } else { count - 1 - q }
+}
+
+// The positions of the n-th point of a block, from 0, in reflected order: axis 1 slowest, and each axis turned by the rank of the earlier
+// axes' point. The axes at level 1 stand at the centre.
 pub fn point_of(levels: [u32; 8], n: usize) -> [u8; 8]
     requires { ⌜ Within levels × (n < blockSize levels) ⌝ }
     ensures { λ r. ⌜ r ≡ pointOf levels n ⌝ }
@@ -80,12 +90,15 @@ pub fn point_of(levels: [u32; 8], n: usize) -> [u8; 8]
     let mut point = [0u8; 8];
     let mut left = n;
     let mut size = block_size(levels);
+    let mut rank: usize = 0;
     let mut axis: usize = 0;
     while axis < 8 {
         let level = levels[axis];
         let count = rule::new_count(level);
         size /= count;
-        point[axis] = rule::new_point(level, left / size);
+        let q = left / size;
+        point[axis] = rule::new_point(level, number_visited(rank, count, q));
+        rank = rank * count + q;
         left %= size;
         axis += 1;
     }

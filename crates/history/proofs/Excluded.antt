@@ -12,7 +12,7 @@ use Rattle.rule.specs.Points.{newPoints, newCount, newPoint}
 use Rattle.rule.specs.Rules.{unit}
 use Rattle.rule.specs.Weights.{wholeWeight, endsOne, differenceWeight}
 use Rattle.grid.specs.Index.{root, excess, levelsWithin, within, cappedAxes, forward, backward}
-use Rattle.grid.specs.Block.{cartesian, block, blockSize, pointOf}
+use Rattle.grid.specs.Block.{directed, turned, rows, blockAfter, block, blockSize, pointAfter, pointOf}
 use Rattle.grid.specs.Difference.{units, behind}
 use Rattle.grid.specs.Tensor.{tensorSum, tensorRule}
 use Rattle.grid.specs.Coefficient.{sameLevels, isIn, subsets, sign, raisedOn, coefficient}
@@ -189,5 +189,5 @@ excluded =
     }
 
 pub call-cases : CallCases
-unfolding answersAfter axesFit budgetFit readingsFor readingCount leastStore startCauses pointOf newPoint answersBy answerBy answerOf acceptedAnswer refusedAnswer passesCheck refusal causesOf effectOf row promotionEffect changed stateAfter stateOf logStep fileCalls firstCause short inRange anyWanted firstWanted wanted root steps.started steps.deliver steps.promoteStep deliverAt delivered rule.promote rule.promoteAt rule.refine rule.makeOld rule.madeOld rule.selected rule.firstActive rule.largest rule.isMet rule.fits rule.admittedAxes rule.passing rule.admits rule.backwardOld rule.isOld within levelsWithin excess forward backward allFrom sameLevels countsOf countOf cappedAxes ceilingCount reservedBy pendingOf crossOf grid-cross.crossTotal deliveredOf readingIn readingsOf coefficient sumOf subsets sign raisedOn isIn tensorRule tensorSum units unit sumTo wholeWeight endsOne newCount behind blockSize pointsFitting positionsOf writtenOver block cartesian newPoints callOf verdictNumber exportAnswer exportAnswersBy fileExports lowWord highWord numberOf pointsAfter outcomeWord outcomeAfter countsAfter totalAfter
+unfolding answersAfter axesFit budgetFit readingsFor readingCount leastStore startCauses pointOf pointAfter turned newPoint answersBy answerBy answerOf acceptedAnswer refusedAnswer passesCheck refusal causesOf effectOf row promotionEffect changed stateAfter stateOf logStep fileCalls firstCause short inRange anyWanted firstWanted wanted root steps.started steps.deliver steps.promoteStep deliverAt delivered rule.promote rule.promoteAt rule.refine rule.makeOld rule.madeOld rule.selected rule.firstActive rule.largest rule.isMet rule.fits rule.admittedAxes rule.passing rule.admits rule.backwardOld rule.isOld within levelsWithin excess forward backward allFrom sameLevels countsOf countOf cappedAxes ceilingCount reservedBy pendingOf crossOf grid-cross.crossTotal deliveredOf readingIn readingsOf coefficient sumOf subsets sign raisedOn isIn tensorRule tensorSum units unit sumTo wholeWeight endsOne newCount behind blockSize pointsFitting positionsOf writtenOver block blockAfter rows directed newPoints callOf verdictNumber exportAnswer exportAnswersBy fileExports lowWord highWord numberOf pointsAfter outcomeWord outcomeAfter countsAfter totalAfter
 call-cases = record { large-pending = refl; number-returned = λ n. refl; between = refl; many-points = refl; mean-zero = refl; threshold-equal = refl; budget-four = refl; budget-five = refl; file = refl; start-order = refl; wanted-order = refl; delivered-order = refl; file-words = refl; other-words = refl; ceiling-axes = (refl, refl, refl) }

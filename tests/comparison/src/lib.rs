@@ -5,6 +5,8 @@ use reference::area::WORDS;
 /// The exported functions. Each asks for what a sound area gives, so nothing
 /// here may hand them anything else.
 pub mod proved {
+    use reference::grid::Point;
+
     #[allow(improper_ctypes)]
     extern "C" {
         pub fn figures_difference(axes: usize, place: usize, cells: &[u32], store: &[i32]) -> i64;
@@ -16,6 +18,7 @@ pub mod proved {
             cells: &[u32],
             store: &[i32],
         ) -> i64;
+        pub fn figures_point(place: usize, n: usize, point: &mut Point, cells: &[u32]);
     }
 }
 

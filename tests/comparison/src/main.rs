@@ -1,12 +1,16 @@
 //! Compares the proved figures with the reference's, on areas that the
 //! reference writes as bytes: those that the example jobs and the generator's
-//! jobs end with, samples by seed, and full areas. One figure apart fails.
+//! jobs end with, samples by seed, and full areas; and the points of every
+//! block of up to four axes. One figure or one point apart fails.
 
 use comparison::{proved, words};
-use reference::area::Area;
-use reference::grid::{Levels, BUDGET_LIMIT, HELD_LIMIT};
+use reference::area::{Area, WORDS};
+use reference::grid::{self, Levels, BUDGET_LIMIT, HELD_LIMIT, MOST_AXES};
 use reference::{calls, examples, generate, jobfile, program, sample, soundness, sums};
 use std::process::ExitCode;
+
+/// The most axes of the blocks that are compared point by point, each of them.
+const WALKED_AXES: usize = 4;
 
 /// What was compared.
 #[derive(Default)]
@@ -14,6 +18,8 @@ struct Tally {
     areas: usize,
     unsound: usize,
     indices: usize,
+    blocks: usize,
+    points: usize,
     faults: usize,
 }
 
@@ -56,6 +62,24 @@ impl Tally {
         self.expect(&format!("{name}, sum of differences"), total, expected);
     }
 
+    /// Compares the points of one block by their numbers. As cells the index is
+    /// the first words of a record.
+    fn compare_block(&mut self, axes: usize, levels: &Levels) {
+        let mut cells = [0; WORDS];
+        cells[..MOST_AXES].copy_from_slice(levels);
+        let block = grid::block(axes, levels);
+        self.blocks += 1;
+        self.points += block.len();
+        for (n, expected) in block.iter().enumerate() {
+            let mut point = [0; MOST_AXES];
+            unsafe { proved::figures_point(0, n, &mut point, &cells) };
+            if point != *expected {
+                self.faults += 1;
+                eprintln!("block {levels:?}, point {n}: proved {point:?}, reference {expected:?}");
+            }
+        }
+    }
+
     fn compare_job(&mut self, name: &str, bytes: &[u8]) {
         if let Ok(job) = jobfile::parse(bytes) {
             let mut area = Area::empty(HELD_LIMIT, BUDGET_LIMIT as usize);
@@ -67,6 +91,9 @@ impl Tally {
 
 fn main() -> ExitCode {
     let mut tally = Tally::default();
+    for axes in 1..=WALKED_AXES {
+        grid::for_each_within_ceilings(axes, |levels| tally.compare_block(axes, levels));
+    }
     for example in examples::examples() {
         tally.compare_job(example.name, &example.job);
     }
@@ -80,10 +107,12 @@ fn main() -> ExitCode {
         let axes = 1 + seed as usize;
         tally.compare(&format!("full area {seed}"), &sample::full_area(seed, axes));
     }
-    let Tally { areas, unsound, indices, faults } = tally;
-    println!("comparison: {areas} areas, {indices} delivered indices, {faults} figures apart");
+    let Tally { areas, unsound, indices, blocks, points, faults } = tally;
+    println!("comparison: {areas} areas, {indices} delivered indices");
+    println!("comparison: {blocks} blocks of one to four axes, {points} points by number");
+    println!("comparison: {faults} figures or points apart");
     println!("comparison: {unsound} areas left out, whose jobs were refused and are not sound");
-    match faults == 0 && areas > 1000 {
+    match faults == 0 && areas > 1000 && blocks > 1000 {
         true => ExitCode::SUCCESS,
         false => ExitCode::FAILURE,
     }
