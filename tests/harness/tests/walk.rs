@@ -1,5 +1,6 @@
-//! The order in which point gives a block's points: it turns at the end of a
-//! row. Each block is reached by calls.
+//! The order in which point gives the points of the blocks whose walks are
+//! written by hand: (2,2), (2,1,2), (3,4,1), (4) and others. Each block is
+//! reached by calls.
 
 mod support;
 
@@ -7,6 +8,7 @@ use harness::calls;
 use harness::lent::Lent;
 use reference::area::WORDS;
 use reference::grid::BUDGET_LIMIT;
+use reference::walks::{Case, CASES};
 use support::*;
 
 /// The levels of the first index that is wanted; none if none is.
@@ -43,37 +45,18 @@ fn wanting(levels: &[u32]) -> Lent {
     }
 }
 
-/// Point must give these points, by number, and then no more.
-fn assert_walk(levels: &[u32], expected: &[&[u8]]) {
-    let mut lent = wanting(levels);
-    for (n, &positions) in expected.iter().enumerate() {
-        let mut buffer = vec![MARKED_BYTE; levels.len()];
-        assert_eq!(calls::point(lent.all(), n, &mut buffer), 0, "{levels:?}, point {n}");
-        assert_eq!(buffer, positions, "{levels:?}, point {n}");
+/// Point must give the points of the walk, by number, and then no more.
+fn assert_walk(case: &Case) {
+    let mut lent = wanting(case.levels);
+    for (n, &positions) in case.walk.iter().enumerate() {
+        let mut buffer = vec![MARKED_BYTE; case.axes()];
+        assert_eq!(calls::point(lent.all(), n, &mut buffer), 0, "{}, point {n}", case.name);
+        assert_eq!(buffer, positions, "{}, point {n}", case.name);
     }
-    refused(&mut lent, &point(expected.len() as u64), 9);
+    refused(&mut lent, &point(case.walk.len() as u64), 9);
 }
 
 #[test]
-fn one_axis_rises() {
-    assert_walk(&[4], &[&[16], &[48], &[80], &[112]]);
-}
-
-#[test]
-fn the_second_axis_turns() {
-    assert_walk(&[2, 2], &[&[0, 0], &[0, 128], &[128, 128], &[128, 0]]);
-}
-
-#[test]
-fn an_axis_with_one_point_keeps_the_turn() {
-    let expected: [&[u8]; 4] = [&[0, 64, 0], &[0, 64, 128], &[128, 64, 128], &[128, 64, 0]];
-    assert_walk(&[2, 1, 2], &expected);
-}
-
-#[test]
-fn a_row_of_four_rises_and_then_falls() {
-    let rising = [16, 48, 80, 112].map(|second| [32, second, 64]);
-    let falling = [112, 80, 48, 16].map(|second| [96, second, 64]);
-    let expected: Vec<&[u8]> = rising.iter().chain(&falling).map(|point| &point[..]).collect();
-    assert_walk(&[3, 4, 1], &expected);
+fn point_gives_the_named_walks() {
+    CASES.iter().for_each(assert_walk);
 }
