@@ -34,7 +34,9 @@
  * wihupya_cross_total 3 KB, every other call less than 1 KB.
  *
  * LATER RELEASES. Words, doubles and outcomes are only ever appended, never moved. When they are, compile anew with the new header: the arrays that
- * you lend become longer. There is no version word: an area that an earlier release saved has to be started anew. Kept for later, and
+ * you lend become longer. There is no version word: an area that an earlier release saved has to be started anew, and no call can tell
+ * it. The order of a block's points (wihupya_point) changed once: before, every row began at its lower end. Job files from then have to be
+ * written anew, though their form and the reports that they give are the same. Kept for later, and
  * none of them in use: job words 10 and 11 (carried error), 12 to 17 (means of outputs 2 to 4), 18 (outputs), 19 (edition) and 20 (weight);
  * words 9 and 10 (carried error) and 11 to 16 (further means) of result; outcomes 3 (capped) and 4 (a place was chosen).
  *
@@ -128,7 +130,7 @@ extern "C" {
 #define WIHUPYA_CELL_LEVELS 0    /* 8 cells: the levels; 1 beyond the job's axes */
 #define WIHUPYA_CELL_STATE 8     /* WIHUPYA_WANTED, WIHUPYA_ACTIVE or WIHUPYA_OLD */
 #define WIHUPYA_CELL_INDICATOR 9 /* the indicator that came with the block; 0 while it is wanted */
-#define WIHUPYA_CELL_FIRST 10    /* where the block's readings begin in the store */
+#define WIHUPYA_CELL_FIRST 10    /* where the block's readings begin in the store, in the order of wihupya_point */
 #define WIHUPYA_CELL_FORWARD 11  /* 8 cells: the place of the index with this axis' level one higher, or WIHUPYA_NONE */
 #define WIHUPYA_CELL_BACKWARD 19 /* 8 cells: the place of the index with this axis' level one lower, or WIHUPYA_NONE */
 
@@ -156,9 +158,10 @@ uint32_t wihupya_start(uint32_t job[WIHUPYA_JOB_WORDS], uint32_t axes, uint64_t 
  * dimension's limits: 0 for the lower one, 128 for the upper one. The mean weighs all values between the limits alike.
  *
  * A block's points come in an order in which a rig need not jump back. Axis 1 rises, and each later axis rises or falls as the rank of the
- * earlier axes' point in this walk, from 0, is even or odd. So two points in a row differ on one axis only, and there by one step among the
- * block's positions on that axis. Where the block has two positions, 0 and 128, on each of two axes, its points are (0,0), (0,128),
- * (128,128), (128,0). A block's readings are delivered, kept in the reading store and written to a job file in the same order.
+ * earlier axes' point in this walk, from 0, is even or odd: behind the first of their points it goes up, behind the second down, and so on.
+ * So two points in a row differ on one axis only, and there by one step among the block's positions on that axis. Where two axes have the
+ * positions 0 and 128, the points are (0,0), (0,128), (128,128), (128,0). A block's readings are delivered, kept in the reading store and
+ * written to a job file in the same order.
  *
  *   n       the number of the point in its block; readings are delivered in this order
  *   buffer  at least as many bytes as the job has axes (8 suffice for every job); `bytes` is its length

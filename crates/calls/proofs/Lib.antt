@@ -17,5 +17,6 @@ pub mod Next
 pub mod StepEffects
 pub mod Facts
 pub mod OwnCases
+pub mod PointSteps
 pub mod PointsWritten
 pub mod ReportTold

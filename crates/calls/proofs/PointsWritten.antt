@@ -33,6 +33,7 @@ use Rattle.calls.proofs.Rows.{point-refuses, point-accepts, points-refu
 use Rattle.calls.proofs.Buffers.{clauses}
 use Rattle.calls.proofs.CausesApplied.{no-cause, no-refusal}
 use Rattle.calls.proofs.Facts.{call-facts}
+use Rattle.calls.proofs.PointSteps.{one-step}
 
 refused-alike : (a : Area) (n : ℕ) (buffer : List ℕ) → refusalOn a (points n buffer) ≡ refusalOn a (point n buffer)
 unfolding refusal causesOf row
@@ -199,6 +200,7 @@ whole-block a buffer long g = whole-block-axes a buffer (omega (arith, long, axe
 pub points-facts : PointsFacts
 points-facts =
     record {
+      one-step = one-step;
       refused-alike = refused-alike;
       writes = λ a n buffer g. (count a n buffer (open-there a n buffer g), wrote-points a n buffer (open-there a n buffer g));
       length-same = length-same;

@@ -2,10 +2,11 @@
 use mathlib.Core.Path.{_≡_}
 use mathlib.Core.Logic.{_⊎_}
 use mathlib.Core.List.{List}
-use Prim.Native.Nat.{ℕ, _+_, _*_, _<_, _≤_}
+use Prim.Native.Nat.{ℕ, suc, _+_, _*_, _<_, _≤_}
 use lib.ListN.{length, getD, take, drop}
 use Rattle.grid.specs.Index.{Index}
 use Rattle.grid.specs.Block.{blockSize}
+use Rattle.grid.specs.Terms.{OneStep}
 use Rattle.area.specs.Encoding.{Area, entriesOf}
 use Rattle.machine.specs.Log.{wantedIndex}
 use Rattle.calls.specs.Replies.{wrote}
@@ -39,7 +40,18 @@ pub record WrotePoints (a : Area) (n : ℕ) (buffer : List ℕ) (written : ℕ) 
   -- every later byte stays
   pub later : (i : ℕ) → written * a .job .settings .axes ≤ i → getD (pointsBuffer a n buffer) i 0 ≡ getD buffer i 0
 
+-- The first d levels of the first wanted index, d being the number of axes, and the positions that point writes of its n-th point.
+abbrev pub wantedLevels : Area → List ℕ
+wantedLevels a = take (a .job .settings .axes) (wantedIndex (entriesOf a))
+
+abbrev pub pointWritten : Area → ℕ → List ℕ → List ℕ
+pointWritten a n buffer = take (a .job .settings .axes) (pointBuffer a n buffer)
+
 pub record PointsFacts : Type 0 where
+  -- point writes a block's points in reflected order: two in a row differ on one of the job's axes only, and there by one step among the
+  -- new points
+  pub one-step : (a : Area) (n : ℕ) (one two : List ℕ) → NotRefused a (point n one) → NotRefused a (point (suc n) two)
+      → OneStep (wantedLevels a) (pointWritten a n one) (pointWritten a (suc n) two)
   -- refused exactly as point is
   pub refused-alike : (a : Area) (n : ℕ) (buffer : List ℕ) → refusalOn a (points n buffer) ≡ refusalOn a (point n buffer)
   pub writes : (a : Area) (n : ℕ) (buffer : List ℕ) → NotRefused a (points n buffer) → (written : ℕ) × WrotePoints a n buffer written

@@ -238,7 +238,7 @@ at-in (x ∷ l) zero h = List·Memᴰ·head refl
 at-in (x ∷ l) (suc n) h = List·Memᴰ·tail (at-in l n (omega arith))
 
 -- with no earlier axes the rank is the number
-first-rank : (s n : ℕ) → 0 * s + n ≡ n
+pub first-rank : (s n : ℕ) → 0 * s + n ≡ n
 first-rank s n = omega (arith, NatL.zero-mul s)
 
 module _ (k : List ℕ) (v : levelsWithin k ≡ true) where

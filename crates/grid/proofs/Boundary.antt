@@ -176,6 +176,12 @@ p4-order : block (3 ∷ 4 ∷ 1 ∷ [])
 unfolding block blockAfter rows directed newPoints newCount tabulate
 p4-order = refl
 
+three-axes : block (2 ∷ 2 ∷ 2 ∷ [])
+    ≡ (0 ∷ 0 ∷ 0 ∷ []) ∷ (0 ∷ 0 ∷ 128 ∷ []) ∷ (0 ∷ 128 ∷ 128 ∷ []) ∷ (0 ∷ 128 ∷ 0 ∷ [])
+    ∷ (128 ∷ 128 ∷ 0 ∷ []) ∷ (128 ∷ 128 ∷ 128 ∷ []) ∷ (128 ∷ 0 ∷ 128 ∷ []) ∷ (128 ∷ 0 ∷ 0 ∷ []) ∷ []
+unfolding block blockAfter rows directed newPoints newCount
+three-axes = refl
+
 file-counts : map (λ (e : Delivery). length (e .readings)) file ≡ map (λ (e : Delivery). blockSize (e .levels)) file
 unfolding file pair blockSize newCount
 file-counts = refl
@@ -226,6 +232,7 @@ boundary-cases =
       p3 = p3;
       p4 = p4;
       p4-order = p4-order;
+      three-axes = three-axes;
       p5-passes = p5-passes;
       p5-breaks = p5-breaks;
       file-counts = file-counts;

@@ -9,6 +9,7 @@ use Rattle.grid.proofs.Lower as Lower
 use Rattle.grid.proofs.Members as Members
 use Rattle.grid.proofs.Blocks as Blocks
 use Rattle.grid.proofs.Reflected as Reflected
+use Rattle.grid.proofs.Earlier as Earlier
 use Rattle.grid.proofs.Rules as Rules
 use Rattle.grid.proofs.Differences as Differences
 use Rattle.grid.proofs.Sampled as Sampled
@@ -54,11 +55,12 @@ block-facts =
       point-of-rank = λ k p v e. Blocks.point-of-rank k v p e;
       positions = Blocks.positions;
       levels = λ k p v e. Blocks.levels k v p e;
-      earlier = λ k i n v. Reflected.earlier k v i n;
-      turning-rank = λ k i n v h. Reflected.turning-rank k v i n h;
-      first-rises = λ k n m v l h. Reflected.first-rises k v n m l h;
-      rises = λ k i n m v l h e z. Reflected.rises k v i n m l h e z;
-      falls = λ k i n m v l h e z. Reflected.falls k v i n m l h e z;
+      behind-point = Earlier.behind-point;
+      earlier = λ k i n v. Earlier.earlier k v i n;
+      turning-rank = λ k i n v h. Earlier.turning-rank k v i n h;
+      first-rises = λ k n m v l h. Earlier.first-rises k v n m l h;
+      rises = λ k i n m v l h e z. Earlier.rises k v i n m l h e z;
+      falls = λ k i n m v l h e z. Earlier.falls k v i n m l h e z;
       one-step = λ k n v h. Reflected.one-step k v n h;
     }
 

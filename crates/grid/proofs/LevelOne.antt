@@ -8,7 +8,7 @@ use Prim.Native.Nat.{ℕ, zero, suc, _+_, _*_, _-_, _/_, _%_, _^_}
 use native.Mathlib.Omega.{arith}
 use lib.Dec.{leb, eqb}
 use lib.ListN.{length, replicate, length-append, length-replicate}
-use lib.IntN.{ℤ, pos, _+ℤ_, _-ℤ_, _*ℤ_, +ℤ-idl, +ℤ-idr}
+use lib.IntN.{ℤ, pos, _-ℤ_, _*ℤ_, +ℤ-idl, +ℤ-idr}
 use Rattle.sums.specs.Sums.{sumTo}
 use Rattle.sums.proofs.Ring.{one-*ℤ}
 use Rattle.sums.proofs.Sums.{sumTo-cong, sumOf-cong, sumOf-map}

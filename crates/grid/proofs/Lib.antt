@@ -11,6 +11,7 @@ pub mod Differences
 pub mod Turns
 pub mod Blocks
 pub mod Reflected
+pub mod Earlier
 pub mod Sampled
 pub mod LevelOne
 pub mod Largest

@@ -3,7 +3,7 @@
 -- Assumes nothing.
 use mathlib.Core.Path.{_≡_, refl, sym, ap, _∙_}
 use mathlib.Core.Bool.{Bool, true, false, not, _&&_}
-use mathlib.Core.List.{List, [], _∷_, _++_, append-nil}
+use mathlib.Core.List.{List, [], _∷_, _++_}
 use Prim.Native.Nat.{ℕ, zero, suc, _+_, _*_, _-_, _/_, _%_, _^_, _<_, _≤_}
 use native.Mathlib.Nat as NatL
 use native.Mathlib.Nat.{le-trans, le-of-eq, mul-le-mul, mul-div-cancel-left}
@@ -15,7 +15,7 @@ use lib.Dec.{leb, eqb}
 use lib.IntN.{ℤ, pos, negℤ, negℤ-negℤ}
 use lib.ListN.{length, take, drop, set, drop-of-length-le}
 use lib.Pow.{pow-add, pow-mono, pow-pos, shr-shr}
-use lib.Seq.{drop-cons, take-suc-set, drop-set-lt, take-suc, append-snoc, take-all}
+use lib.Seq.{drop-cons, take-suc-set, drop-set-lt, take-suc, append-snoc}
 use Rattle.rule.specs.Points.{newCount, newPoint}
 use Rattle.grid.specs.Index.{level, excess, Within, levelsWithin, within}
 use Rattle.grid.specs.Block.{turned as turnedAt, blockSize, pointAfter}

@@ -1,11 +1,11 @@
 -- The direction of an axis: it rises where the rank of the earlier axes' point is even, and falls where it is odd.
 -- The idea: only the parity of the rank counts, and to fall is to rise counted from the other end.
 -- Assumes nothing.
-use mathlib.Core.Path.{_≡_, refl, sym, ap, _∙_, subst}
+use mathlib.Core.Path.{_≡_, sym, ap, _∙_, subst}
 use mathlib.Core.Logic.{_⊎_, inl, inr, ⊎-elim}
 use mathlib.Core.Bool.{cond}
-use mathlib.Core.List.{List, [], _∷_, reverse, reverseAux}
-use Prim.Native.Nat.{ℕ, zero, suc, _+_, _*_, _-_, _/_, _%_, _<_, _≤_}
+use mathlib.Core.List.{List, [], _∷_, reverseAux}
+use Prim.Native.Nat.{ℕ, suc, _+_, _*_, _-_, _/_, _%_, _<_}
 use native.Mathlib.Nat as NatL
 use native.Mathlib.Nat.{div-add-mod'}
 use native.Mathlib.Decide.{ℕ-discrete, decLt}

@@ -1,9 +1,10 @@
--- Blocks and their points ("Blocks and differences"), walked in reflected order: axis 1 rises, and each later axis rises or falls as
--- the rank of the earlier axes' point in this walk, from 0, is even or odd. So the walk turns at the end of a row and does not run back.
+-- Blocks and their points ("Blocks and differences"), walked in reflected order, which replaces that section's "positions rising": axis 1
+-- rises, and each later axis rises or falls as the rank of the earlier axes' point in this walk, from 0, is even or odd. So the walk turns at
+-- the end of a row and does not run back.
 --
--- Block, point and rank are defined for the axes left, with r, the rank of the earlier axes' point in the walk of those axes alone. On an
--- axis with c new points that point has c successors, so with the one visited q-th, from 0, its rank is r · c + q. Axis 1 has no earlier
--- axes: r is 0.
+-- Block, point and rank are defined for the axes left, with r, the rank of the earlier axes' point in the walk of those axes alone. An axis
+-- with c new points continues that point in c ways, one after the other, so that continued by the new point visited q-th, from 0, it has the
+-- rank r · c + q. Axis 1 has no earlier axes: r is 0.
 use mathlib.Core.Bool.{Bool, true, false, cond, _&&_}
 use mathlib.Core.List.{List, [], _∷_, _++_, map, reverse}
 use Prim.Native.Nat.{ℕ, suc, _+_, _*_, _-_, _/_, _%_}
@@ -40,7 +41,7 @@ block k = blockAfter 0 k
 -- ---- a point by its number
 
 -- On an axis with c new points the one visited q-th is number q if r is even, and number c − 1 − q, counted from the other end, if r is
--- odd; and number q is visited so late.
+-- odd. The other way round it is the same: number q is visited turned-r-c-q-th.
 unfoldable pub turned : ℕ → ℕ → ℕ → ℕ
 turned r c q = cond (eqb (r % 2) 0) q (c - 1 - q)
 
@@ -56,7 +57,7 @@ pointOf k n = pointAfter 0 k n
 
 -- ---- the number of a point
 
--- The rank of the earlier axes' point with these positions behind it, from the numbers of the positions among the new points of their levels.
+-- The rank of the point that these positions make behind the earlier axes' point, from their numbers among the new points of their levels.
 unfoldable pub rankAfter : ℕ → List ℕ → List ℕ → ℕ
 rankAfter r [] ps = r
 rankAfter r (k ∷ ks) [] = r

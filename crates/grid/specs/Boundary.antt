@@ -53,11 +53,15 @@ pub record BoundaryCases : Type 0 where
   pub p2 : map (differenceAt 3) (points 3) ≡ negsuc 0 ∷ pos 2 ∷ negsuc 1 ∷ pos 2 ∷ negsuc 0 ∷ []
   -- P3: new at level 4: 16, 48, 80, 112
   pub p3 : newPoints 4 ≡ 16 ∷ 48 ∷ 80 ∷ 112 ∷ []
-  -- P4: block of (3,4,1): 8 points, and in this order: axis 2 rises, then falls
+  -- P4: block of (3,4,1): 8 points; and in reflected order: axis 2 rises, then falls
   pub p4 : length (block (3 ∷ 4 ∷ 1 ∷ [])) ≡ 8
   pub p4-order : block (3 ∷ 4 ∷ 1 ∷ [])
       ≡ (32 ∷ 16 ∷ 64 ∷ []) ∷ (32 ∷ 48 ∷ 64 ∷ []) ∷ (32 ∷ 80 ∷ 64 ∷ []) ∷ (32 ∷ 112 ∷ 64 ∷ [])
       ∷ (96 ∷ 112 ∷ 64 ∷ []) ∷ (96 ∷ 80 ∷ 64 ∷ []) ∷ (96 ∷ 48 ∷ 64 ∷ []) ∷ (96 ∷ 16 ∷ 64 ∷ []) ∷ []
+  -- with three refined axes: axis 3 rises and falls by the rank of the first two together
+  pub three-axes : block (2 ∷ 2 ∷ 2 ∷ [])
+      ≡ (0 ∷ 0 ∷ 0 ∷ []) ∷ (0 ∷ 0 ∷ 128 ∷ []) ∷ (0 ∷ 128 ∷ 128 ∷ []) ∷ (0 ∷ 128 ∷ 0 ∷ [])
+      ∷ (128 ∷ 128 ∷ 0 ∷ []) ∷ (128 ∷ 128 ∷ 128 ∷ []) ∷ (128 ∷ 0 ∷ 128 ∷ []) ∷ (128 ∷ 0 ∷ 0 ∷ []) ∷ []
   -- P5: (8,6) passes, (8,7) breaks the ceiling
   pub p5-passes : Within (pair 8 6)
   pub p5-breaks : Within (pair 8 7) → ⊥

@@ -34,7 +34,8 @@ differenceSum k R = sumOf (lower k) (λ l. sumTo (blockSize l) (λ n. difference
 unfoldable pub scaledDifference : List ℕ → Readings → ℤ
 scaledDifference k R = pos (2 ^ (20 - units k)) *ℤ differenceSum k R
 
--- The readings that are left to the later axes once the first stands at its n-th point of level l in the order of the walk.
+-- The readings that are left to the later axes once the first stands at its n-th point of level l in the order of the walk; they are
+-- numbered as the later axes are walked behind that point (`BlockFacts.behind-point`).
 unfoldable pub behind : Readings → ℕ → ℕ → Readings
 behind R l n = λ ls m. R (l ∷ ls) (n * blockSize ls + m)
 

@@ -64,17 +64,21 @@ pub record BlockFacts : Type 0 where
   -- a point has a position for each level, and a position tells its level
   pub positions : (k : List ℕ) (n : ℕ) → length (pointOf k n) ≡ length k
   pub levels : (k p : List ℕ) → levelsWithin k ≡ true → newOnEach k p ≡ true → map levelOf p ≡ k
-  -- the order, for any number of axes; i is how many axes are earlier, so the next of them is axis i + 1
+  -- the order, for any number of axes: the first i axes are the earlier ones, and the axis after them is axis i + 1
+  -- behind the point of the earlier axes ks whose number is r, the axes left are walked with this rank
+  pub behind-point : (ks ls : List ℕ) (r m : ℕ) → r < blockSize ks → m < blockSize ls
+      → pointOf (ks ++ ls) (r * blockSize ls + m) ≡ pointOf ks r ++ pointAfter r ls m
   -- the earlier axes' points are the walk of those axes alone, each kept while the axes left are gone through once
   pub earlier : (k : List ℕ) (i n : ℕ) → levelsWithin k ≡ true
       → take i (pointOf k n) ≡ pointOf (take i k) (n / blockSize (drop i k))
-  -- the rank under which the axes left are walked is that of the earlier axes' point in this walk
+  -- the rank with which the axes left are walked is that of the earlier axes' point in the walk of those axes alone
   pub turning-rank : (k : List ℕ) (i n : ℕ) → levelsWithin k ≡ true → n < blockSize k
       → drop i (pointOf k n) ≡ pointAfter (rankIn (take i k) (take i (pointOf k n))) (drop i k) (n % blockSize (drop i k))
-  -- axis 1 rises
+  -- axis 1 rises: it never falls, and stays while the later axes are walked
   pub first-rises : (k : List ℕ) (n m : ℕ) → levelsWithin k ≡ true → n ≤ m → m < blockSize k
       → getD (pointOf k n) 0 0 ≤ getD (pointOf k m) 0 0
-  -- behind one point of the earlier axes, axis i + 1 rises if the rank of that point is even, and falls if it is odd
+  -- behind one point of the earlier axes, axis i + 1 rises if the rank of that point is even, and falls if it is odd: it never goes the
+  -- other way, and as the points are pairwise different it stays only while the axes behind it are walked
   pub rises : (k : List ℕ) (i n m : ℕ) → levelsWithin k ≡ true → n ≤ m → m < blockSize k
       → take i (pointOf k n) ≡ take i (pointOf k m) → rankIn (take i k) (take i (pointOf k n)) % 2 ≡ 0
       → getD (pointOf k n) i 0 ≤ getD (pointOf k m) i 0

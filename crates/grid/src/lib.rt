@@ -81,8 +81,8 @@ fn number_visited(rank: usize, count: usize, q: usize) -> usize
     if rank % 2 == 0 { q } else { count - 1 - q }
 }
 
-// The positions of the n-th point of a block, from 0, in reflected order: axis 1 slowest, and each axis turned by the rank of the earlier
-// axes' point. The axes at level 1 stand at the centre.
+// The positions of the n-th point of a block, from 0, in reflected order: axis 1 slowest and rising, and each later axis rising or falling
+// as the rank of the earlier axes' point is even or odd. The axes at level 1 stand at the centre.
 pub fn point_of(levels: [u32; 8], n: usize) -> [u8; 8]
     requires { ⌜ Within levels × (n < blockSize levels) ⌝ }
     ensures { λ r. ⌜ r ≡ pointOf levels n ⌝ }

@@ -18,7 +18,8 @@ use Rattle.area.specs.declared.IndexRecord.{IndexRecord}
 use Rattle.quadrature.specs.Readings.{recordAt, storedReading}
 use Rattle.quadrature.specs.Linked.{deliveredIn}
 
--- The readings that are left to the axes from here on, once the axes passed stand at these levels and at a point of this rank.
+-- The readings that are left to the axes from here on, once the axes passed stand at these levels and at a point of this rank. They are
+-- numbered as those axes are walked behind that point (`BlockFacts.behind-point`, crate `grid`).
 unfoldable pub left : Readings → List ℕ → ℕ → Readings
 left R passed rank = λ ls n. R (passed ++ ls) (rank * blockSize ls + n)
 
@@ -26,7 +27,7 @@ left R passed rank = λ ls n. R (passed ++ ls) (rank * blockSize ls + n)
 abbrev pub leftAt : List IndexRecord → List ℤ → ℕ → ℕ → ℕ → Readings
 leftAt rs s axis place rank = left (storedReading rs s) (take axis (recordAt rs place .levels)) rank
 
--- The new points of a level from `point` on, `n` of them; below each the axes ks.
+-- The new points of a level from `point` on in the order of the walk, `n` of them; below each the axes ks.
 unfoldable pub pointsLeft : ℕ → ℕ → ℕ → List ℕ → Readings → ℤ
 pointsLeft n point l ks R = sumTo n (λ i. differenceWalk ks (behind R l (point + i)))
 
@@ -40,11 +41,11 @@ unfoldable pub walkLeft : ℕ → List ℕ → ℕ → ℕ → Readings → ℤ
 walkLeft axes k axis l R =
     cond (ltb axis axes) (levelsLeft (suc (level k axis) - l) (level k axis) l (drop (axis + 1) k) R) (differenceWalk (drop axis k) R)
 
--- The first `n` new points of a level; below each the full tensor rule of the axes ks.
+-- The first `n` new points of a level in the order of the walk; below each the full tensor rule of the axes ks.
 unfoldable pub pointsDone : ℕ → ℕ → List ℕ → Readings → ℤ
 pointsDone n l ks R = sumTo n (λ i. tensorSum ks (behind R l i))
 
--- The levels below l of an axis with the level `top`, and the first `point` new points of l.
+-- The levels below l of an axis with the level `top`, and the first `point` new points of l in the order of the walk.
 unfoldable pub tensorDone : ℕ → ℕ → ℕ → List ℕ → Readings → ℤ
 tensorDone top l point ks R =
     sumTo (l - 1) (λ i. wholeWeight top (suc i) *ℤ pointsDone (newCount (suc i)) (suc i) ks R) +ℤ wholeWeight top l *ℤ pointsDone point l ks R

@@ -86,8 +86,8 @@ fn level_walk(
     }
 }
 
-// Goes through the new points of a level from `point` on; below each, the next axis. It calls itself only where a point is left, so
-// that no call is spent on finding the end.
+// Goes through the new points of a level from `point` on, in the order of the block's walk; below each, the next axis. It calls itself
+// only where a point is left, so that no call is spent on finding the end.
 fn point_walk(
     axes: usize,
     target: &[u32; 8],

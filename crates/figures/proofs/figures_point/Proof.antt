@@ -1,7 +1,6 @@
 -- `figures::figures_point` meets its contract: the levels that were read are those of the record. Assumes nothing.
 use borrow.Author.Needs.{needs}
-use mathlib.Core.Path.{sym, ap, _∙_, subst}
-use native.Mathlib.Omega.{arith}
+use mathlib.Core.Path.{ap, _∙_}
 use Rattle.grid.specs.Block.{pointOf}
 use Rattle.figures.proofs.figures_point.Statement.{statement}
 use Rattle.figures.proofs.figures_point.Tie as tie

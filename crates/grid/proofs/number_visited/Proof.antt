@@ -1,9 +1,8 @@
 -- `grid::number_visited` meets its contract: its branches are the two directions of an axis. Assumes nothing.
 use borrow.Author.Needs.{needs}
 use native.Mathlib.Omega.{arith}
-use mathlib.Core.Path.{sym, _∙_, subst}
-use Prim.Native.Nat.{_<_}
-use Rattle.grid.proofs.Turns.{turned-even, turned-odd, turned-below}
+use mathlib.Core.Path.{sym}
+use Rattle.grid.proofs.Turns.{turned-even, turned-odd}
 use Rattle.grid.proofs.number_visited.Statement.{statement}
 use Rattle.grid.proofs.number_visited.Tie as tie
 
