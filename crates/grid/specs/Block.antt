@@ -41,7 +41,7 @@ block k = blockAfter 0 k
 -- ---- a point by its number
 
 -- On an axis with c new points the one visited q-th is number q if r is even, and number c − 1 − q, counted from the other end, if r is
--- odd. The other way round it is the same: number q is visited turned-r-c-q-th.
+-- odd. It is its own inverse, so it also says as which, from 0, number q is visited.
 unfoldable pub turned : ℕ → ℕ → ℕ → ℕ
 turned r c q = cond (eqb (r % 2) 0) q (c - 1 - q)
 
