@@ -32,7 +32,8 @@ const FOUR_AXES: &str = "\
 # at most 16 nanolitres; it ends met.
 # Axis 1: bore, 10.000 mm +- 0.128 mm.         Axis 2: stroke, 8.000 mm +- 0.256 mm.
 # Axis 3: seal clearance, 12.00 um +- 7.04 um. Axis 4: spring rate, 2,000 +- 1,152 N/m.
-# Readings: delivered volume of one stroke in nanolitres.
+# Readings: delivered volume of one stroke in nanolitres, in the order in which
+# the rig walks a block, turning at the end of each row.
 # Indicators and threshold: 1,024ths of a nanolitre, from the block's difference.
 ";
 
@@ -43,7 +44,8 @@ const EIGHT_AXES: &str = "\
 # Axis 3: seal clearance, 12.00 um +- 7.04 um. Axis 4: spring rate, 2,000 +- 1,152 N/m.
 # Axis 5: supply pressure, 400 +- 128 kPa.     Axis 6: viscosity, 1,000 +- 320 uPa s.
 # Axis 7: valve lift, 600 um +- 256 um.        Axis 8: stroke rate, 120 +- 64 per minute.
-# Readings: delivered volume of one stroke in nanolitres.
+# Readings: delivered volume of one stroke in nanolitres, in the order in which
+# the rig walks a block, turning at the end of each row.
 # Indicators and threshold: 1,024ths of a nanolitre, from the block's difference.
 ";
 
