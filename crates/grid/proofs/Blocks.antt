@@ -211,7 +211,7 @@ ranks-of-points r (k ∷ ks) n w h =
 
 -- ---- a position for each level, and the level of each
 
-positions-after : (r : ℕ) (k : List ℕ) (n : ℕ) → length (pointAfter r k n) ≡ length k
+pub positions-after : (r : ℕ) (k : List ℕ) (n : ℕ) → length (pointAfter r k n) ≡ length k
 unfolding pointAfter
 positions-after r [] n = refl
 positions-after r (k ∷ ks) n = ap suc (positions-after (r * newCount k + n / blockSize ks) ks (n % blockSize ks))

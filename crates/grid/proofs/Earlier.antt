@@ -1,24 +1,25 @@
 -- The earlier axes: behind each of their points the axes left are walked once, with the rank of that point, which tells which way an axis goes.
--- The idea: the number of a point is written in digits, the first of which is the rank of the earlier axes' point.
+-- The idea: the number of a point is written in two digits, the first of which is the rank of the earlier axes' point.
 -- Assumes nothing.
 use mathlib.Core.Path.{_≡_, refl, sym, ap, ap₂, _∙_, subst}
 use mathlib.Core.Bool.{true}
 use mathlib.Core.List.{List, [], _∷_, _++_}
 use Prim.Native.Nat.{ℕ, zero, suc, _+_, _*_, _/_, _%_, _<_, _≤_}
 use native.Mathlib.Nat as NatL
-use native.Mathlib.Nat.{le-of-eq, le-of-lt, mod-lt, mod-eq-of-lt, div-add-mod', div-div-eq-div-mul, le-div-iff-mul-le, div-mul-le-self, le-trans}
+use native.Mathlib.Nat.{le-of-eq, le-of-lt, mod-lt, div-add-mod', le-div-iff-mul-le, div-mul-le-self, le-trans}
 use native.Mathlib.Decide.{ℕ-discrete}
 use native.Mathlib.Omega.{arith}
-use lib.Arith.{digits-lt, digits-div, digits-mod, mod-mul}
-use lib.ListN.{getD, take, drop}
-use Rattle.rule.specs.Points.{newCount, newPoint, rankOf}
+use lib.Arith.{digits-lt}
+use lib.ListN.{length, getD, take, drop, take-append-drop}
+use lib.Seq.{getD-drop}
+use Rattle.rule.specs.Points.{newCount, newPoint}
 use Rattle.rule.proofs.Tables.{rising}
 use Rattle.grid.specs.Index.{levelsWithin}
 use Rattle.grid.specs.Block.{turned, blockSize, pointAfter, pointOf, rankAfter, rankIn}
-use Rattle.grid.proofs.Levels.{Levels, levels-sure}
+use Rattle.grid.proofs.Levels.{Levels, levels-sure, levels-back}
 use Rattle.grid.proofs.LoopSteps.{size-pos, levels-drop}
 use Rattle.grid.proofs.Turns.{turned-even, turned-odd, turned-below}
-use Rattle.grid.proofs.Blocks.{high-digit, low-digit, at-digits, visit-of, carried, first-rank}
+use Rattle.grid.proofs.Blocks.{high-digit, low-digit, at-digits, carried, first-rank, positions, positions-after, rank-of-point}
 
 -- ---- behind a point of the earlier axes
 
@@ -64,18 +65,11 @@ behind-points s (k ∷ ks) ls r m h l =
         ∙ carried q (blockSize ks) t (blockSize ls) m
         ∙ ap (λ x. q * x + (t * blockSize ls + m)) (sym (size-joined ks ls))
 
--- ---- the earlier axes
+pub behind-point : (ks ls : List ℕ) (r m : ℕ) → r < blockSize ks → m < blockSize ls → pointOf (ks ++ ls) (r * blockSize ls + m) ≡ pointOf ks r ++ pointAfter r ls m
+unfolding pointOf
+behind-point ks ls r m h l = behind-points 0 ks ls r m h l ∙ ap (λ x. pointAfter 0 ks r ++ pointAfter x ls m) (first-rank (blockSize ks) r)
 
--- a number in three digits: what stays when the lowest is taken off, and what the middle one is
-module _ (n t d : ℕ) (p : 0 < t) (o : 0 < d) where
-  upper : n / d / t ≡ n / (t * d)
-  upper = div-div-eq-div-mul n d t ∙ ap (λ x. n / x) (NatL.mul-comm d t)
-
-  middle : n / d % t ≡ n % (t * d) / d
-  middle = sym (ap (λ x. x / d) (mod-mul n p o) ∙ digits-div (n / d % t) (mod-lt n o))
-
-  lower : n % (t * d) % d ≡ n % d
-  lower = ap (λ x. x % d) (mod-mul n p o) ∙ digits-mod (n / d % t) (mod-lt n o)
+-- ---- the earlier axes and the axes left
 
 levels-take : (i : ℕ) (k : List ℕ) → Levels 8 k → Levels 8 (take i k)
 levels-take zero [] w = tt
@@ -83,58 +77,51 @@ levels-take zero (k ∷ ks) w = tt
 levels-take (suc i) [] w = tt
 levels-take (suc i) (k ∷ ks) w = (w .0, w .1, levels-take i ks (w .2))
 
-size-parts : (i : ℕ) (k : List ℕ) → blockSize k ≡ blockSize (take i k) * blockSize (drop i k)
-unfolding blockSize
-size-parts zero [] = omega arith
-size-parts zero (k ∷ ks) = sym (NatL.one-mul (newCount k * blockSize ks))
-size-parts (suc i) [] = omega arith
-size-parts (suc i) (k ∷ ks) = ap (λ x. newCount k * x) (size-parts i ks) ∙ sym (NatL.mul-assoc (newCount k) (blockSize (take i ks)) (blockSize (drop i ks)))
+-- two parts that are as long as those of another list
+parts-of : (i : ℕ) (k p q : List ℕ) → length p ≡ length (take i k) → length q ≡ length (drop i k) → (take i (p ++ q) ≡ p) × (drop i (p ++ q) ≡ q)
+parts-of zero k [] q a b = (refl, refl)
+parts-of zero k (x ∷ p) q a b = absurd (omega (arith, a))
+parts-of (suc i) [] [] [] a b = (refl, refl)
+parts-of (suc i) [] [] (x ∷ q) a b = absurd (omega (arith, b))
+parts-of (suc i) [] (x ∷ p) q a b = absurd (omega (arith, a))
+parts-of (suc i) (y ∷ k) [] q a b = absurd (omega (arith, a))
+parts-of (suc i) (y ∷ k) (x ∷ p) q a b = let rest = parts-of i k p q (omega (arith, a)) b in (ap (λ (l : List ℕ). x ∷ l) (rest .0), rest .1)
 
-earlier-points : (r i : ℕ) (k : List ℕ) (n : ℕ) → Levels 8 k → take i (pointAfter r k n) ≡ pointAfter r (take i k) (n / blockSize (drop i k))
-unfolding pointAfter
-earlier-points r zero [] n w = refl
-earlier-points r zero (k ∷ ks) n w = refl
-earlier-points r (suc i) [] n w = refl
-earlier-points r (suc i) (k ∷ ks) n w =
-    ap (λ (xs : List ℕ). newPoint k (turned r (newCount k) (n / blockSize ks)) ∷ xs) (earlier-points (r * newCount k + n / blockSize ks) i ks (n % blockSize ks) (w .2))
-    ∙ ap₂ (λ q m. newPoint k (turned r (newCount k) q) ∷ pointAfter (r * newCount k + q) (take i ks) m)
-    (ap (λ x. n / x) (size-parts i ks) ∙ sym (upper n t d p o)) (ap (λ x. n % x / d) (size-parts i ks) ∙ sym (middle n t d p o))
-  where
-    t : ℕ
-    t = blockSize (take i ks)
+module _ (k : List ℕ) (v : levelsWithin k ≡ true) (i : ℕ) where
+  -- how many points the axes left have
+  left : ℕ
+  left = blockSize (drop i k)
 
-    d : ℕ
-    d = blockSize (drop i ks)
+  some-left : 0 < left
+  unfolding left
+  some-left = size-pos 8 (drop i k) (levels-drop 8 k i (levels-sure k v))
 
-    p : 0 < t
-    p = size-pos 8 (take i ks) (levels-take i ks (w .2))
+  module _ (n : ℕ) (h : n < blockSize k) where
+    first : n / left < blockSize (take i k)
+    unfolding left
+    first = high-digit n (blockSize (take i k)) left (subst (λ s. n < s) (ap blockSize (sym (take-append-drop i k)) ∙ size-joined (take i k) (drop i k)) h)
 
-    o : 0 < d
-    o = size-pos 8 (drop i ks) (levels-drop 8 ks i (w .2))
+    parts : (take i (pointOf k n) ≡ pointOf (take i k) (n / left)) × (drop i (pointOf k n) ≡ pointAfter (n / left) (drop i k) (n % left))
+    unfolding left
+    parts =
+        subst (λ x. (take i x ≡ pointOf (take i k) (n / left)) × (drop i x ≡ pointAfter (n / left) (drop i k) (n % left))) (sym joined)
+        (parts-of i k (pointOf (take i k) (n / left)) (pointAfter (n / left) (drop i k) (n % left)) (positions (take i k) (n / left)) (positions-after (n / left) (drop i k) (n % left)))
+      where
+        joined : pointOf k n ≡ pointOf (take i k) (n / left) ++ pointAfter (n / left) (drop i k) (n % left)
+        joined =
+            ap₂ pointOf (sym (take-append-drop i k)) (sym (div-add-mod' n left))
+            ∙ behind-point (take i k) (drop i k) (n / left) (n % left) first (mod-lt n some-left)
 
-turning-ranks : (r i : ℕ) (k : List ℕ) (n : ℕ) → Levels 8 k → n < blockSize k
-    → drop i (pointAfter r k n) ≡ pointAfter (rankAfter r (take i k) (take i (pointAfter r k n))) (drop i k) (n % blockSize (drop i k))
-unfolding pointAfter rankAfter
-turning-ranks r zero [] n w h = refl
-turning-ranks r zero (k ∷ ks) n w h = ap (pointAfter r (k ∷ ks)) (sym (mod-eq-of-lt h))
-turning-ranks r (suc i) [] n w h = refl
-turning-ranks r (suc i) (k ∷ ks) n w h =
-    turning-ranks (r * newCount k + q) i ks (n % blockSize ks) (w .2) (low-digit n (newCount k) (blockSize ks) below)
-    ∙ ap₂ (λ x m. pointAfter (rankAfter (r * newCount k + x) (take i ks) (take i (pointAfter (r * newCount k + q) ks (n % blockSize ks)))) (drop i ks) m)
-    (sym (visit-of r k q (w .0) (w .1) (high-digit n (newCount k) (blockSize ks) below)))
-    (ap (λ x. n % x % blockSize (drop i ks)) (size-parts i ks) ∙ lower n (blockSize (take i ks)) (blockSize (drop i ks)) p o)
-  where
-    q : ℕ
-    q = n / blockSize ks
+    pub earlier : take i (pointOf k n) ≡ pointOf (take i k) (n / blockSize (drop i k))
+    unfolding left
+    earlier = parts .0
 
-    below : n < newCount k * blockSize ks
-    below = unfold blockSize in h
+    earlier-rank : rankIn (take i k) (take i (pointOf k n)) ≡ n / left
+    earlier-rank = ap (rankIn (take i k)) (parts .0) ∙ rank-of-point (take i k) (levels-back (take i k) (levels-take i k (levels-sure k v))) (n / left) first
 
-    p : 0 < blockSize (take i ks)
-    p = size-pos 8 (take i ks) (levels-take i ks (w .2))
-
-    o : 0 < blockSize (drop i ks)
-    o = size-pos 8 (drop i ks) (levels-drop 8 ks i (w .2))
+    pub turning-rank : drop i (pointOf k n) ≡ pointAfter (rankIn (take i k) (take i (pointOf k n))) (drop i k) (n % blockSize (drop i k))
+    unfolding left
+    turning-rank = parts .1 ∙ ap (λ r. pointAfter r (drop i k) (n % left)) (sym earlier-rank)
 
 -- ---- which way an axis goes
 
@@ -155,70 +142,47 @@ first-goes r k a b l h c i = (
   λ e. not-lower k (turned r (newCount k) b) (turned r (newCount k) a) l h (omega (arith, c, turned-odd r (newCount k) a e, turned-odd r (newCount k) b e)) (turned-below r (newCount k) a (omega arith)),
 )
 
-goes : (r i : ℕ) (k : List ℕ) (n m : ℕ) → Levels 8 k → n ≤ m → m < blockSize k → take i (pointAfter r k n) ≡ take i (pointAfter r k m)
-    → Goes (rankAfter r (take i k) (take i (pointAfter r k n))) (getD (pointAfter r k n) i 0) (getD (pointAfter r k m) i 0)
-unfolding pointAfter rankAfter
-goes r zero [] n m w l h e = (λ z. omega arith, λ z. omega arith)
-goes r (suc i) [] n m w l h e = (λ z. omega arith, λ z. omega arith)
-goes r zero (k ∷ ks) n m w l h e =
-    first-goes r k (n / blockSize ks) (m / blockSize ks) (w .0) (w .1) (le-div-iff-mul-le (size-pos 8 ks (w .2)) .1 (le-trans (div-mul-le-self n (blockSize ks)) l)) (high-digit m (newCount k) (blockSize ks) (unfold blockSize in h))
-goes r (suc i) (k ∷ ks) n m w l h e =
-    subst (λ x. Goes (rankAfter (r * newCount k + x) (take i ks) (take i (pointAfter (r * newCount k + a) ks (n % s)))) (getD (pointAfter (r * newCount k + a) ks (n % s)) i 0) (getD (pointAfter (r * newCount k + b) ks (m % s)) i 0))
-    (sym (visit-of r k a (w .0) (w .1) high))
-    (subst (λ x. Goes (rankAfter (r * newCount k + a) (take i ks) (take i (pointAfter (r * newCount k + a) ks (n % s)))) (getD (pointAfter (r * newCount k + a) ks (n % s)) i 0) (getD (pointAfter (r * newCount k + x) ks (m % s)) i 0)) same
-    (goes (r * newCount k + a) i ks (n % s) (m % s) (w .2) rest-le (low-digit m (newCount k) s below) rest-same))
-  where
-    s : ℕ
-    s = blockSize ks
+-- the first of the axes left
+left-goes : (r : ℕ) (k : List ℕ) (n m : ℕ) → Levels 8 k → n ≤ m → m < blockSize k → Goes r (getD (pointAfter r k n) 0 0) (getD (pointAfter r k m) 0 0)
+unfolding pointAfter blockSize
+left-goes r [] n m w l h = (λ z. omega arith, λ z. omega arith)
+left-goes r (k ∷ ks) n m w l h =
+    first-goes r k (n / blockSize ks) (m / blockSize ks) (w .0) (w .1) (le-div-iff-mul-le (size-pos 8 ks (w .2)) .1 (le-trans (div-mul-le-self n (blockSize ks)) l)) (high-digit m (newCount k) (blockSize ks) h)
 
-    a : ℕ
-    a = n / s
+module _ (k : List ℕ) (v : levelsWithin k ≡ true) (i n m : ℕ) (l : n ≤ m) (h : m < blockSize k) (e : take i (pointOf k n) ≡ take i (pointOf k m)) where
+  below : n < blockSize k
+  below = omega (arith, l, h)
 
-    b : ℕ
-    b = m / s
+  rank : ℕ
+  rank = rankIn (take i k) (take i (pointOf k n))
 
-    below : m < newCount k * s
-    below = unfold blockSize in h
+  same : n / left k v i ≡ m / left k v i
+  same = sym (earlier-rank k v i n below) ∙ ap (rankIn (take i k)) e ∙ earlier-rank k v i m h
 
-    high : a < newCount k
-    high = high-digit n (newCount k) s (omega (arith, l, below))
+  at-axis : (j : ℕ) → getD (pointOf k j) i 0 ≡ getD (drop i (pointOf k j)) 0 0
+  at-axis j = sym (getD-drop i (pointOf k j) 0 0 ∙ ap (λ a. getD (pointOf k j) a 0) (NatL.add-zero i))
 
-    same : a ≡ b
-    same =
-        sym (visit-of r k a (w .0) (w .1) high)
-        ∙ ap (λ x. turned r (newCount k) (rankOf x)) (ap (λ (x : List ℕ). getD x 0 0) e)
-        ∙ visit-of r k b (w .0) (w .1) (high-digit m (newCount k) s below)
-
-    rest-le : n % s ≤ m % s
-    rest-le = omega (arith, l, div-add-mod' n s, div-add-mod' m s, ap (λ x. x * s) same)
-
-    rest-same : take i (pointAfter (r * newCount k + a) ks (n % s)) ≡ take i (pointAfter (r * newCount k + a) ks (m % s))
-    rest-same = ap (drop 1) e ∙ ap (λ x. take i (pointAfter (r * newCount k + x) ks (m % s))) (sym same)
+  pub goes : Goes (rankIn (take i k) (take i (pointOf k n))) (getD (pointOf k n) i 0) (getD (pointOf k m) i 0)
+  unfolding left rank
+  goes =
+      subst (λ x. Goes rank x (getD (pointOf k m) i 0)) (sym (at-axis n ∙ ap (λ p. getD p 0 0) (turning-rank k v i n below)))
+      (subst (λ y. Goes rank (getD (pointAfter rank (drop i k) (n % left k v i)) 0 0) y)
+      (sym (at-axis m ∙ ap (λ p. getD p 0 0) (turning-rank k v i m h) ∙ ap (λ p. getD (pointAfter (rankIn (take i k) p) (drop i k) (m % left k v i)) 0 0) (sym e)))
+      (left-goes rank (drop i k) (n % left k v i) (m % left k v i) (levels-drop 8 k i (levels-sure k v)) less (mod-lt m (some-left k v i))))
+    where
+      less : n % left k v i ≤ m % left k v i
+      less = omega (arith, l, div-add-mod' n (left k v i), div-add-mod' m (left k v i), ap (λ x. x * left k v i) same)
 
 -- ---- as the statement has them
 
-pub behind-point : (ks ls : List ℕ) (r m : ℕ) → r < blockSize ks → m < blockSize ls → pointOf (ks ++ ls) (r * blockSize ls + m) ≡ pointOf ks r ++ pointAfter r ls m
-unfolding pointOf
-behind-point ks ls r m h l = behind-points 0 ks ls r m h l ∙ ap (λ x. pointAfter 0 ks r ++ pointAfter x ls m) (first-rank (blockSize ks) r)
-
 module _ (k : List ℕ) (v : levelsWithin k ≡ true) where
-  pub earlier : (i n : ℕ) → take i (pointOf k n) ≡ pointOf (take i k) (n / blockSize (drop i k))
-  unfolding pointOf
-  earlier i n = earlier-points 0 i k n (levels-sure k v)
-
-  pub turning-rank : (i n : ℕ) → n < blockSize k → drop i (pointOf k n) ≡ pointAfter (rankIn (take i k) (take i (pointOf k n))) (drop i k) (n % blockSize (drop i k))
-  unfolding pointOf rankIn
-  turning-rank i n h = turning-ranks 0 i k n (levels-sure k v) h
-
   pub rises : (i n m : ℕ) → n ≤ m → m < blockSize k → take i (pointOf k n) ≡ take i (pointOf k m) → rankIn (take i k) (take i (pointOf k n)) % 2 ≡ 0
       → getD (pointOf k n) i 0 ≤ getD (pointOf k m) i 0
-  unfolding pointOf rankIn
-  rises i n m l h e z = goes 0 i k n m (levels-sure k v) l h e .0 z
+  rises i n m l h e z = goes k v i n m l h e .0 z
 
   pub falls : (i n m : ℕ) → n ≤ m → m < blockSize k → take i (pointOf k n) ≡ take i (pointOf k m) → rankIn (take i k) (take i (pointOf k n)) % 2 ≡ 1
       → getD (pointOf k m) i 0 ≤ getD (pointOf k n) i 0
-  unfolding pointOf rankIn
-  falls i n m l h e z = goes 0 i k n m (levels-sure k v) l h e .1 z
+  falls i n m l h e z = goes k v i n m l h e .1 z
 
   pub first-rises : (n m : ℕ) → n ≤ m → m < blockSize k → getD (pointOf k n) 0 0 ≤ getD (pointOf k m) 0 0
   first-rises n m l h = rises 0 n m l h refl (unfold rankIn rankAfter in refl)

@@ -69,7 +69,7 @@ pub record BlockFacts : Type 0 where
   pub behind-point : (ks ls : List ℕ) (r m : ℕ) → r < blockSize ks → m < blockSize ls
       → pointOf (ks ++ ls) (r * blockSize ls + m) ≡ pointOf ks r ++ pointAfter r ls m
   -- the earlier axes' points are the walk of those axes alone, each kept while the axes left are gone through once
-  pub earlier : (k : List ℕ) (i n : ℕ) → levelsWithin k ≡ true
+  pub earlier : (k : List ℕ) (i n : ℕ) → levelsWithin k ≡ true → n < blockSize k
       → take i (pointOf k n) ≡ pointOf (take i k) (n / blockSize (drop i k))
   -- the rank with which the axes left are walked is that of the earlier axes' point in the walk of those axes alone
   pub turning-rank : (k : List ℕ) (i n : ℕ) → levelsWithin k ≡ true → n < blockSize k

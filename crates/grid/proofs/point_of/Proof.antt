@@ -54,11 +54,10 @@ module _ (k : List ℕ) (a s n : ℕ) (h : a < length k) (w : Within k) (e : s �
   next-rank : (r i : ℕ) → (r * n + i / (s / n)) * (s / n) + i % (s / n) ≡ r * s + i
   next-rank r i = carried r n (i / (s / n)) (s / n) (i % (s / n)) ∙ ap₂ (λ x y. r * x + y) (sym size-whole) (div-add-mod' i (s / n))
 
-  -- it is no more than the point's number, and so are its parts
-  rank-small : (r i : ℕ) → r * n + i / (s / n) ≤ r * s + i
-  rank-small r i =
-      le-trans (factor-le (r * n + i / (s / n)) (s / n) ((r * n + i / (s / n)) * (s / n)) size-next-pos refl)
-      (omega (arith, next-rank r i))
+  -- it is no more than the point's number, so it fits
+  rank-small : (r i total : ℕ) → r * s + i ≡ total → total < blockSize k → r * n + i / (s / n) < 4096
+  rank-small r i total q below =
+      le-trans (omega (arith, below, q, next-rank r i, factor-le (r * n + i / (s / n)) (s / n) ((r * n + i / (s / n)) * (s / n)) size-next-pos refl)) (size-small k w)
 
   next-point : (pt : List ℕ) (r i x : ℕ) → length pt ≡ 8 → a < 8 → x ≡ newPoint (level k a) (turned r n (i / (s / n)))
       → take a pt ++ pointAfter r (drop a k) i ≡ take (a + 1) (set pt a x) ++ pointAfter (r * n + i / (s / n)) (drop (a + 1) k) (i % (s / n))
@@ -126,15 +125,19 @@ mul-rank : tie.Need-mul-rank Inv-loop μ-loop
 mul-rank c =
     let l = c .before .before .before .before .loop in
     let s = c .before .before .before .before .before .before in
-    let small = rank-small (s .args .t1) (l .axis) (l .size) (c .before .before .new-count .result) (omega arith) (s .pre .0) (l .inv .3) (c .before .before .new-count .ensures) (l .rank) (l .left) in
-    omega (arith, small, l .inv .6, s .pre .1, size-small (s .args .t1) (s .pre .0))
+    omega (
+      arith,
+      rank-small (s .args .t1) (l .axis) (l .size) (c .before .before .new-count .result) (omega arith) (s .pre .0) (l .inv .3) (c .before .before .new-count .ensures) (l .rank) (l .left) (s .args .n) (l .inv .6) (s .pre .1),
+    )
 
 add-rank : tie.Need-add-rank Inv-loop μ-loop
 add-rank c =
     let l = c .before .before .before .before .loop in
     let s = c .before .before .before .before .before .before in
-    let small = rank-small (s .args .t1) (l .axis) (l .size) (c .before .before .new-count .result) (omega arith) (s .pre .0) (l .inv .3) (c .before .before .new-count .ensures) (l .rank) (l .left) in
-    omega (arith, small, l .inv .6, s .pre .1, size-small (s .args .t1) (s .pre .0))
+    omega (
+      arith,
+      rank-small (s .args .t1) (l .axis) (l .size) (c .before .before .new-count .result) (omega arith) (s .pre .0) (l .inv .3) (c .before .before .new-count .ensures) (l .rank) (l .left) (s .args .n) (l .inv .6) (s .pre .1),
+    )
 
 rem-left : tie.Need-rem-left Inv-loop μ-loop
 rem-left c =
