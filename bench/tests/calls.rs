@@ -33,6 +33,7 @@ fn garbage(rng: &mut Rng) -> Area {
         reserved: rng.number() as u32,
         pending: rng.number(),
         mean: rng.number() as i64,
+        carried: rng.number(),
     };
     Area { job, records, store }
 }

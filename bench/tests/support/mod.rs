@@ -32,7 +32,7 @@ impl Lent {
 }
 
 fn job_of(job: &area::JobRecord) -> JobRecord {
-    let area::JobRecord { axes, threshold, budget, held, reserved, pending, mean } = *job;
+    let area::JobRecord { axes, threshold, budget, held, reserved, pending, mean, .. } = *job;
     JobRecord { axes, threshold, budget, held, reserved, pending, mean }
 }
 
@@ -138,6 +138,7 @@ fn totals(counts: Counts) -> Answer {
         wanted,
         reserved,
         pending,
+        carried: 0,
         mean,
         ceiling,
     })

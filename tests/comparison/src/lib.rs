@@ -28,8 +28,8 @@ pub fn words(bytes: &[u8]) -> (Vec<u32>, Vec<i32>) {
         .chunks_exact(4)
         .map(|word| u32::from_le_bytes(word.try_into().expect("four bytes")))
         .collect();
-    let (records, readings) = (all[10] as usize, all[11] as usize);
-    let (cells, store) = all[12..].split_at(records * WORDS);
+    let (records, readings) = (all[12] as usize, all[13] as usize);
+    let (cells, store) = all[14..].split_at(records * WORDS);
     assert_eq!(store.len(), readings);
     (cells.to_vec(), store.iter().map(|&word| word as i32).collect())
 }

@@ -90,11 +90,12 @@ pub fn outcome_word(promotion: Promotion) -> u32 {
         Promotion::Met => 0,
         Promotion::Spent => 1,
         Promotion::Promoted => 2,
+        Promotion::Capped => 3,
     }
 }
 
 pub fn count_words(totals: &Totals) -> CountWords {
-    let Totals { old, active, wanted, reserved, pending, mean, ceiling } = *totals;
+    let Totals { old, active, wanted, reserved, pending, mean, ceiling, .. } = *totals;
     let low = |wide: u64| wide as u32;
     let high = |wide: u64| (wide >> 32) as u32;
     let mean = mean as u64;

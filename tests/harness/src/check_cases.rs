@@ -197,6 +197,7 @@ fn garbage(case: &mut Case, rng: &mut Rng) {
             reserved: word(rng),
             pending: wide(rng),
             mean: wide(rng) as i64,
+            carried: wide(rng),
         },
         records: (0..records).map(|_| any_record(rng, word)).collect(),
         store: (0..readings).map(|_| any_word(rng) as i32).collect(),

@@ -183,6 +183,7 @@ impl Coverage {
     fn note_promotion(&mut self, promotion: Promotion, area: &Area) {
         let outcome = match promotion {
             Promotion::Met => "met",
+            Promotion::Capped => "capped",
             Promotion::Promoted if calls::first_wanted(area).is_none() => {
                 self.count("promoted with nothing admitted");
                 "promoted"

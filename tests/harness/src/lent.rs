@@ -20,7 +20,7 @@ pub struct JobRecord {
 
 impl From<area::JobRecord> for JobRecord {
     fn from(job: area::JobRecord) -> JobRecord {
-        let area::JobRecord { axes, threshold, budget, held, reserved, pending, mean } = job;
+        let area::JobRecord { axes, threshold, budget, held, reserved, pending, mean, .. } = job;
         JobRecord { threshold, pending, mean, axes, budget, held, reserved }
     }
 }
@@ -149,6 +149,7 @@ mod tests {
             reserved: job.reserved,
             pending: job.pending,
             mean: job.mean,
+            carried: 0,
         };
         assert_eq!(JobRecord::from(same), job);
     }

@@ -11,7 +11,7 @@ pub const OLD: u32 = 2;
 pub const NONE: u32 = u32::MAX;
 /// A record is 27 words of 32 bits.
 pub const WORDS: usize = 27;
-const JOB_BYTES: usize = 40;
+const JOB_BYTES: usize = 48;
 const COUNT_BYTES: usize = 8;
 
 #[derive(Clone, Copy, Debug, PartialEq, Eq)]
@@ -23,6 +23,8 @@ pub struct JobRecord {
     pub reserved: u32,
     pub pending: u64,
     pub mean: i64,
+    /// The carried error.
+    pub carried: u64,
 }
 
 #[derive(Clone, Copy, Debug, PartialEq, Eq)]
@@ -95,6 +97,7 @@ impl JobRecord {
         bytes.extend(self.reserved.to_le_bytes());
         bytes.extend(self.pending.to_le_bytes());
         bytes.extend(self.mean.to_le_bytes());
+        bytes.extend(self.carried.to_le_bytes());
         bytes
     }
 
@@ -107,6 +110,7 @@ impl JobRecord {
             reserved: u32_at(bytes, 20),
             pending: u64_at(bytes, 24),
             mean: u64_at(bytes, 32) as i64,
+            carried: u64_at(bytes, 40),
         }
     }
 }
@@ -131,6 +135,7 @@ impl Area {
                 reserved: 0,
                 pending: 0,
                 mean: 0,
+                carried: 0,
             },
             records: vec![IndexRecord::wanted(ROOT, 0); records],
             store: vec![0; store],
@@ -143,7 +148,7 @@ impl Area {
         &self.records[..count]
     }
 
-    /// Little-endian: the job record of 40 bytes, the number of records, the
+    /// Little-endian: the job record of 48 bytes, the number of records, the
     /// number of readings in the store, the records, the readings.
     pub fn to_bytes(&self) -> Vec<u8> {
         let mut bytes = self.job.to_bytes();

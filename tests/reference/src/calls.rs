@@ -37,6 +37,9 @@ pub enum Promotion {
     Met,
     Spent,
     Promoted,
+    /// The pending error is at most the threshold, but not together with the
+    /// carried error.
+    Capped,
 }
 
 /// What points answers.
@@ -56,6 +59,7 @@ pub struct Totals {
     pub wanted: u32,
     pub reserved: u32,
     pub pending: u64,
+    pub carried: u64,
     pub mean: i64,
     pub ceiling: u32,
 }
@@ -106,7 +110,8 @@ pub fn start(area: &mut Area, axes: u32, threshold: u64, budget: u32) -> Result<
         return Err(Cause::StorageShort);
     }
     let reserved = grid::block_size(&ROOT) as u32;
-    area.job = JobRecord { axes, threshold, budget, held: 1, reserved, pending: 0, mean: 0 };
+    area.job =
+        JobRecord { axes, threshold, budget, held: 1, reserved, pending: 0, mean: 0, carried: 0 };
     area.records[0] = IndexRecord::wanted(ROOT, 0);
     Ok(())
 }
@@ -255,51 +260,69 @@ pub fn limits_passed(area: &Area) -> (bool, bool) {
     past_limits(area, &admit(area, selected))
 }
 
-/// Promote: met, spent or promoted.
+/// How many of an index's forward neighbours pass a ceiling.
+fn past_ceilings(axes: usize, levels: &Levels) -> u32 {
+    let passes = |axis: &usize| {
+        let neighbour = grid::forward_neighbour(levels, *axis);
+        !neighbour.is_some_and(|index| grid::within_ceilings(&index))
+    };
+    (0..axes).filter(passes).count() as u32
+}
+
+/// Where the pending error is at most the threshold: "met exactly if pending and
+/// carried together are at most the threshold, and otherwise capped".
+fn ending(job: &JobRecord) -> Promotion {
+    // Each sums at most 512 indicators of 32 bits.
+    match job.pending + job.carried <= job.threshold {
+        true => Promotion::Met,
+        false => Promotion::Capped,
+    }
+}
+
+/// Promote: met or capped, spent, or promoted. What a promoted index takes out of
+/// the pending error it carries if it is at a ceiling.
 pub fn promote(area: &mut Area) -> Result<Promotion, Cause> {
     refuse_storage_or_area(area)?;
     if first_wanted(area).is_some() {
         return Err(Cause::BlockWanted);
     }
     if area.job.pending <= area.job.threshold {
-        return Ok(Promotion::Met);
+        return Ok(ending(&area.job));
     }
     let selected = select(area).expect("a pending error above 0 comes from an active index");
     let admitted = admit(area, selected);
     if past_limits(area, &admitted) != (false, false) {
         return Ok(Promotion::Spent);
     }
+    let IndexRecord { levels, indicator, .. } = area.records[selected];
     area.records[selected].state = OLD;
-    area.job.pending -= u64::from(area.records[selected].indicator);
+    area.job.pending -= u64::from(indicator);
+    if past_ceilings(area.job.axes as usize, &levels) > 0 {
+        area.job.carried += u64::from(indicator);
+    }
     for levels in admitted {
         append(area, levels);
     }
     Ok(Promotion::Promoted)
 }
 
-/// Result: the counts, the recorded pending error and mean, and the ceiling
-/// count, "the number of pairs of an old index and an axis whose forward
+/// Result: the counts, the recorded pending error, carried error and mean, and
+/// the ceiling count, "the number of pairs of an old index and an axis whose forward
 /// neighbour passes a ceiling".
 pub fn result(area: &Area) -> Result<Totals, Cause> {
     refuse_storage_or_area(area)?;
     let count = |state: u32| area.held().iter().filter(|r| r.state == state).count() as u32;
-    let mut ceiling = 0;
-    for record in area.held().iter().filter(|record| record.state == OLD) {
-        for axis in 0..area.job.axes as usize {
-            let neighbour = grid::forward_neighbour(&record.levels, axis);
-            if !neighbour.is_some_and(|levels| grid::within_ceilings(&levels)) {
-                ceiling += 1;
-            }
-        }
-    }
+    let old = area.held().iter().filter(|record| record.state == OLD);
+    let axes = area.job.axes as usize;
     Ok(Totals {
         old: count(OLD),
         active: count(ACTIVE),
         wanted: count(WANTED),
         reserved: area.job.reserved,
         pending: area.job.pending,
+        carried: area.job.carried,
         mean: area.job.mean,
-        ceiling,
+        ceiling: old.map(|record| past_ceilings(axes, &record.levels)).sum(),
     })
 }
 

@@ -1,9 +1,13 @@
 //! The scope document's cases about job files, by name, each with the report
 //! that its sentences ask for, written by hand.
 
+use crate::call::{Answer, Call};
+use crate::calls::Promotion;
 use crate::examples::scope_job;
-use crate::grid::READING_LIMIT;
+use crate::grid::{self, READING_LIMIT, ROOT};
 use crate::jobfile::{self, Entry, JobFile};
+use crate::log::Log;
+use crate::replay::LENT;
 
 pub struct Case {
     pub name: &'static str,
@@ -54,15 +58,18 @@ fn longer(mut bytes: Vec<u8>, extra: usize) -> Vec<u8> {
 }
 
 pub fn cases() -> Vec<Case> {
-    [endings(), form(), early_ends(), order()].into_iter().flatten().collect()
+    [endings(), ceilings(), corners(), form(), early_ends(), order()]
+        .into_iter()
+        .flatten()
+        .collect()
 }
 
 /// What a run of the right form prints.
 fn endings() -> Vec<Case> {
     let scope = "axes 2\nold 2\nactive 2\nwanted 0\nreserved 7\npending 10\n\
-                 ceiling 0\nscaled 5972688896\nunused 0\nend met\n";
+                 carried 0\nceiling 0\nscaled 5972688896\nunused 0\nend met\n";
     let start = "axes 2\nold 0\nactive 0\nwanted 1\nreserved 1\npending 0\n\
-                 ceiling 0\nscaled 0\nunused 0\nend short\n";
+                 carried 0\nceiling 0\nscaled 0\nunused 0\nend short\n";
     let fives: [(u32, &[i32]); 4] = [(9, &[5]), (8, &[5, 5]), (7, &[5, 5]), (0, &[5, 5])];
     vec![
         case("the scope document's file", with(&[]), scope),
@@ -86,6 +93,89 @@ fn endings() -> Vec<Case> {
             file(1, 1, 0, &[(0, &[-3])]),
             "scaled -3145728\nunused 0\nend met\n",
         ),
+    ]
+}
+
+/// One axis up to level 8, the readings all 3, with these indicators.
+pub fn one_axis(threshold: u64, indicators: [u32; 8]) -> Vec<u8> {
+    let sizes = [1, 2, 2, 4, 8, 16, 32, 64];
+    let entry = |(indicator, size)| Entry { indicator, readings: vec![3; size] };
+    let entries = indicators.into_iter().zip(sizes).map(entry).collect();
+    jobfile::write(&JobFile { axes: 1, budget: 129, threshold, entries })
+}
+
+/// Two axes, the first up to level 8, the readings all 1 and the indicators 100,
+/// but 5 for (1,2) and 6 for (8,1).
+pub fn two_axes(threshold: u64, budget: u32) -> Vec<u8> {
+    let blocks = [(100, 1), (100, 2), (5, 2), (100, 2), (100, 4), (100, 8), (100, 16)];
+    let entry = |(indicator, size)| Entry { indicator, readings: vec![1; size] };
+    let entries = blocks.into_iter().chain([(100, 32), (6, 64)]).map(entry).collect();
+    jobfile::write(&JobFile { axes: 2, budget, threshold, entries })
+}
+
+/// Two axes with threshold 9, the readings all 1; this indicator for every index
+/// nowhere higher than these levels, 0 for the others. All but those become old.
+fn up_to(levels: [u32; 2], budget: u32, indicator: u32) -> Vec<u8> {
+    let mut target = ROOT;
+    target[..2].copy_from_slice(&levels);
+    let mut log = Log::default();
+    let start = Call::Start { axes: 2, threshold: 9, budget };
+    assert_eq!(log.expect(&start, LENT), Answer::Started);
+    let mut entries = Vec::new();
+    loop {
+        let job = log.job.as_ref().expect("the start was accepted");
+        let Some(wanted) = job.first_wanted() else {
+            if log.expect(&Call::Promote, LENT) == Answer::Promotion(Promotion::Promoted) {
+                continue;
+            }
+            return jobfile::write(&JobFile { axes: 2, budget, threshold: 9, entries });
+        };
+        let index = job.entries[wanted].levels;
+        let indicator = if grid::nowhere_higher(&index, &target) { indicator } else { 0 };
+        let readings = vec![1; grid::block_size(&index)];
+        let call = Call::Deliver { readings: readings.clone(), indicator };
+        assert_eq!(log.expect(&call, LENT), Answer::Delivered);
+        entries.push(Entry { indicator, readings });
+    }
+}
+
+/// Jobs up to both ceilings on two axes.
+fn corners() -> Vec<Case> {
+    // (7,7) alone is at a ceiling, by its excess, on both axes.
+    let excess = "axes 2\nold 49\nactive 2\nwanted 0\nreserved 4353\npending 0\n\
+                  carried 10\nceiling 2\nscaled 1048576\nunused 0\nend capped\n";
+    // (8,1) to (8,6) are, by their level, and (8,6) by its excess too.
+    let both = "axes 2\nold 48\nactive 1\nwanted 0\nreserved 4289\npending 0\n\
+                carried 60\nceiling 7\nscaled 1048576\nunused 0\nend capped\n";
+    let wide = "axes 2\nold 16\nactive 1\nwanted 0\nreserved 389\npending 0\n\
+                carried 8589934590\nceiling 2\nscaled 1048576\nunused 0\nend capped\n";
+    vec![
+        case("all up to (7,7) old", up_to([7, 7], 8192, 10), excess),
+        case("all up to (8,6) old", up_to([8, 6], 8192, 10), both),
+        case("carried of more than 32 bits", up_to([8, 2], 389, u32::MAX), wide),
+    ]
+}
+
+/// Jobs with old indices at a ceiling, whose error is carried.
+fn ceilings() -> Vec<Case> {
+    let capped = "axes 1\nold 8\nactive 0\nwanted 0\nreserved 129\npending 0\n\
+                  carried 10\nceiling 1\nscaled 3145728\nunused 0\nend capped\n";
+    let met = "axes 1\nold 7\nactive 1\nwanted 0\nreserved 129\npending 10\n\
+               carried 0\nceiling 0\nscaled 3145728\nunused 0\nend met\n";
+    let both = "axes 2\nold 8\nactive 1\nwanted 0\nreserved 131\npending 5\n\
+                carried 6\nceiling 1\nscaled 1048576\nunused 0\nend capped\n";
+    let spent = "pending 5\ncarried 6\nceiling 1\nscaled 1048576\nunused 0\nend spent\n";
+    let short = "wanted 2\nreserved 137\npending 0\ncarried 6\nceiling 1\n\
+                 scaled 1048576\nunused 0\nend short\n";
+    let elevens = [11, 11, 11, 11, 11, 11, 11, 10];
+    vec![
+        case("the last level old, its indicator carried", one_axis(9, [10; 8]), capped),
+        case("the last level active, its indicator pending", one_axis(10, elevens), met),
+        case("pending 5 and carried 6, threshold 9", two_axes(9, 131), both),
+        case("pending 5 and carried 6, threshold 10", two_axes(10, 131), both),
+        case("pending 5 and carried 6, threshold 5", two_axes(5, 131), both),
+        case("carried 6, spent at threshold 4", two_axes(4, 136), spent),
+        case("carried 6, short at threshold 4", two_axes(4, 137), short),
     ]
 }
 

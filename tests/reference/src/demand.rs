@@ -38,6 +38,7 @@ fn assert_job_record(area: &Area, job: &Job) {
     assert_eq!(record.held as usize, job.entries.len(), "held");
     assert_eq!(u64::from(record.reserved), job.reserved(), "reserved");
     assert_eq!(record.pending, job.pending(), "pending error");
+    assert_eq!(record.carried, job.carried(), "carried error");
 }
 
 fn assert_records(area: &Area, job: &Job) {

@@ -9,7 +9,8 @@ use crate::choice::{Block, Chooser};
 use crate::demand;
 use crate::grid::{self, BUDGET_LIMIT};
 use crate::laws;
-use crate::log::{Log, Plan};
+use crate::log::Log;
+use crate::promotes;
 use crate::rng::Rng;
 use crate::sums::SCALE;
 use std::collections::BTreeMap;
@@ -21,7 +22,7 @@ struct Driver {
     chooser: Chooser,
     area: Area,
     log: Log,
-    /// Set when the job is met or spent: a new one is due soon.
+    /// Set when the job is met, capped or spent: a new one is due soon.
     ended: bool,
     log_changes: u64,
     counts: Counts,
@@ -54,6 +55,7 @@ fn garbage_area(rng: &mut Rng) -> Area {
         reserved: rng.number() as u32,
         pending: rng.number(),
         mean: rng.number() as i64,
+        carried: rng.number(),
     };
     Area { job, records, store }
 }
@@ -83,6 +85,9 @@ impl Driver {
             .map(|_| self.chooser.rng.number() as u8)
             .collect();
         let mut buffer = buffer_before.clone();
+        if call == Call::Promote {
+            laws::assert_promote(&self.area);
+        }
         let answer = call::perform(&mut self.area, &call, &mut buffer);
         match call {
             Call::Point { n, .. } => laws::assert_point(&self.area, n),
@@ -166,7 +171,7 @@ impl Driver {
         }
     }
 
-    /// Which limit a spent promote passes is known only to the log.
+    /// Which limit a spent promote passes, and the rest, is known only to the log.
     fn note_plan(&mut self, call: &Call, lengths: Lengths) {
         let Some(job) = self.log.job.as_ref() else {
             return;
@@ -177,22 +182,8 @@ impl Driver {
         if *call != Call::Promote || refused {
             return;
         }
-        match job.plan() {
-            Plan::Met => self.count("promote met".to_string()),
-            Plan::Promoted { admitted, .. } => {
-                self.count("promote promoted".to_string());
-                if admitted.is_empty() {
-                    self.count("promote promoted with nothing admitted".to_string());
-                }
-            }
-            Plan::Spent { past_held, past_budget } => {
-                let by = match (past_held, past_budget) {
-                    (true, true) => "both limits",
-                    (true, false) => "the limit of 512",
-                    _ => "the budget",
-                };
-                self.count(format!("promote spent by {by}"));
-            }
+        for name in promotes::names(job) {
+            self.count(format!("promote {name}"));
         }
     }
 
@@ -212,8 +203,11 @@ impl Driver {
                 self.ended = false;
                 self.count(format!("jobs of {} axes", self.chooser.parameters.axes));
             }
-            Answer::Promotion(Promotion::Met | Promotion::Spent) => self.ended = true,
-            Answer::Totals(totals) => self.highest("ceiling count", u64::from(totals.ceiling)),
+            Answer::Promotion(promotion) => self.ended = *promotion != Promotion::Promoted,
+            Answer::Totals(totals) => {
+                self.highest("ceiling count", u64::from(totals.ceiling));
+                self.highest("carried error", totals.carried);
+            }
             Answer::Points { counts, positions } => self.note_points(call, *counts, positions),
             Answer::Doubles(_) => self.note_doubles(),
             _ => {}

@@ -37,6 +37,19 @@ pub fn within_ceilings(levels: &Levels) -> bool {
     levels_in_range(levels) && excess(levels) <= EXCESS_CEILING
 }
 
+/// Whether an index is past a ceiling, of level or of excess. Total on any content.
+pub fn past_a_ceiling(levels: &Levels) -> bool {
+    levels.iter().any(|&level| level > rule::TOP_LEVEL) || excess(levels) > EXCESS_CEILING
+}
+
+/// Whether an index is at a ceiling: along the job's axes it has "at least one
+/// forward neighbour past a ceiling". A level that cannot be raised is past one.
+pub fn at_a_ceiling(axes: usize, levels: &Levels) -> bool {
+    (0..axes)
+        .map(|axis| forward_neighbour(levels, axis))
+        .any(|neighbour| neighbour.is_none_or(|index| past_a_ceiling(&index)))
+}
+
 /// "Raising one level gives a forward neighbour." None only where the number
 /// itself cannot be raised, which no level within the ceilings comes near.
 pub fn forward_neighbour(levels: &Levels, axis: usize) -> Option<Levels> {

@@ -1,8 +1,8 @@
 //! An independent reference for the sparse-grid integrator.
 //!
 //! Everything here is written from the scope document alone, the calls points
-//! and doubles and the order of a block's points from the texts that ask for them,
-//! and follows their sentences as literally as possible. Each request changes it
+//! and doubles, the order of a block's points and the carried error from the texts
+//! that ask for them, and follows their sentences as literally as possible. Each request changes it
 //! first, from the request's words. It is a test and not a delivery: where a choice
 //! lay between clear and fast, it is clear.
 //!
@@ -14,13 +14,13 @@
 //! - [`doubles`]: the report of doubles, and doubles as exact fractions;
 //! - [`calls`]: the nine calls;
 //! - [`call`] and [`log`]: a list of calls and the log that predicts answers;
-//! - [`laws`]: what point says of points, that no walk jumps, and what result and
-//!   the differences say of doubles;
+//! - [`laws`]: what point says of points, that no walk jumps, what result and the
+//!   differences say of doubles, and what result says of promote;
 //! - [`jobfile`], [`jobtext`], [`program`], [`replay`]: job files and reports;
 //! - [`rng`], [`style`], [`generate`], [`damage`], [`survey`]: job files by seed;
 //! - [`cases`], [`vectors`]: job files by name, and many in one;
-//! - [`choice`], [`drive`] and [`demand`]: lists of calls by seed and the third
-//!   demand;
+//! - [`choice`], [`drive`], [`promotes`] and [`demand`]: lists of calls by seed, what
+//!   their promotes were like, and the third demand;
 //! - [`sample`], [`alter`], [`figures`]: areas by seed, altered, with figures;
 //! - [`reports`]: areas by name, with what doubles must answer;
 //! - [`walks`]: blocks by name, with their points in order;
@@ -45,6 +45,7 @@ pub mod jobtext;
 pub mod laws;
 pub mod log;
 pub mod program;
+pub mod promotes;
 pub mod pump;
 pub mod replay;
 pub mod reports;

@@ -51,6 +51,7 @@ struct Sums {
 #[derive(Clone, Debug, PartialEq, Eq)]
 pub enum Plan {
     Met,
+    Capped,
     /// Which of the two limits the admitted would pass; both may be.
     Spent {
         past_held: bool,
@@ -79,6 +80,10 @@ impl Entry {
 }
 
 impl Job {
+    pub fn new(axes: usize, threshold: u64, budget: u32, entries: Vec<Entry>) -> Job {
+        Job { axes, threshold, budget, entries, sums: OnceCell::new() }
+    }
+
     pub fn first_wanted(&self) -> Option<usize> {
         self.entries.iter().position(|entry| entry.state == State::Wanted)
     }
@@ -137,17 +142,24 @@ impl Job {
         }
     }
 
+    /// On how many axes an index cannot be raised any more: all of them at an
+    /// excess of 12, else those of level 8.
+    fn axes_used_up(&self, levels: &Levels) -> u32 {
+        let excess: u32 = levels.iter().map(|level| level - 1).sum();
+        let used_up = |level: &&u32| **level == 8 || excess == 12;
+        levels[..self.axes].iter().filter(used_up).count() as u32
+    }
+
     pub fn ceiling(&self) -> u32 {
-        let mut pairs = 0;
-        for entry in self.entries.iter().filter(|entry| entry.state == State::Old) {
-            let excess: u32 = entry.levels.iter().map(|level| level - 1).sum();
-            for level in &entry.levels[..self.axes] {
-                if *level == 8 || excess == 12 {
-                    pairs += 1;
-                }
-            }
-        }
-        pairs
+        let old = self.entries.iter().filter(|entry| entry.state == State::Old);
+        old.map(|entry| self.axes_used_up(&entry.levels)).sum()
+    }
+
+    /// The carried error, worked out from the entries alone.
+    pub fn carried(&self) -> u64 {
+        let old = self.entries.iter().filter(|entry| entry.state == State::Old);
+        let at_a_ceiling = old.filter(|entry| self.axes_used_up(&entry.levels) > 0);
+        at_a_ceiling.map(|entry| u64::from(entry.indicator)).sum()
     }
 
     /// The n-th point of a block, worked out from n alone, where the calls take it
@@ -180,8 +192,11 @@ impl Job {
 
     /// Promote's rule worked on the log, when no block is wanted.
     pub fn plan(&self) -> Plan {
-        if self.pending() <= self.threshold {
-            return Plan::Met;
+        // Met leaves room below the threshold for what is carried.
+        match self.threshold.checked_sub(self.pending()) {
+            Some(room) if self.carried() <= room => return Plan::Met,
+            Some(_) => return Plan::Capped,
+            None => {}
         }
         // From the last to the first, so that the lowest place wins a tie.
         let mut selected = usize::MAX;
@@ -233,6 +248,7 @@ impl Job {
             wanted: self.count(State::Wanted),
             reserved: self.reserved() as u32,
             pending: self.pending(),
+            carried: self.carried(),
             mean: self.mean(),
             ceiling: self.ceiling(),
         }
@@ -303,6 +319,7 @@ impl Log {
                 }
                 Ok(Answer::Promotion(match job.plan() {
                     Plan::Met => Promotion::Met,
+                    Plan::Capped => Promotion::Capped,
                     Plan::Spent { .. } => Promotion::Spent,
                     Plan::Promoted { selected, admitted } => {
                         job.promoted(selected, &admitted);
@@ -334,8 +351,7 @@ impl Log {
             return Err(Cause::StorageShort);
         }
         let entries = vec![Entry::wanted(ROOT)];
-        let sums = OnceCell::new();
-        self.job = Some(Job { axes: axes as usize, threshold, budget, entries, sums });
+        self.job = Some(Job::new(axes as usize, threshold, budget, entries));
         Ok(Answer::Started)
     }
 }

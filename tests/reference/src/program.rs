@@ -11,6 +11,7 @@ pub enum Ending {
     Spent,
     /// "Entries exhausted, block wanted."
     Short,
+    Capped,
 }
 
 impl Ending {
@@ -19,6 +20,7 @@ impl Ending {
             Ending::Met => "met",
             Ending::Spent => "spent",
             Ending::Short => "short",
+            Ending::Capped => "capped",
         }
     }
 }
@@ -42,7 +44,7 @@ pub fn outcome(input: &[u8]) -> Outcome {
 }
 
 /// "While a block is wanted it delivers the next entry, else it promotes,
-/// until met, spent or short." The area is left as the job leaves it.
+/// until met, spent or short", and "capped ends it" too. The area is left as the job leaves it.
 pub fn run(job: &JobFile, area: &mut Area) -> Outcome {
     match run_to_end(job, area) {
         Ok((ending, used)) => Outcome::Ended {
@@ -74,6 +76,7 @@ fn run_to_end(job: &JobFile, area: &mut Area) -> Result<(Ending, usize), (Cause,
             match calls::promote(area).expect("no block is wanted") {
                 Promotion::Met => return Ok((Ending::Met, used)),
                 Promotion::Spent => return Ok((Ending::Spent, used)),
+                Promotion::Capped => return Ok((Ending::Capped, used)),
                 Promotion::Promoted => {}
             }
         }
@@ -98,13 +101,14 @@ pub fn text(outcome: &Outcome) -> String {
     match outcome {
         Outcome::Refused { cause, byte } => format!("refused {} at {byte}\n", cause.number()),
         Outcome::Ended { axes, totals, unused, ending } => format!(
-            "axes {axes}\nold {}\nactive {}\nwanted {}\nreserved {}\npending {}\nceiling {}\n\
-             scaled {}\nunused {unused}\nend {}\n",
+            "axes {axes}\nold {}\nactive {}\nwanted {}\nreserved {}\npending {}\ncarried {}\n\
+             ceiling {}\nscaled {}\nunused {unused}\nend {}\n",
             totals.old,
             totals.active,
             totals.wanted,
             totals.reserved,
             totals.pending,
+            totals.carried,
             totals.ceiling,
             totals.mean,
             ending.name()

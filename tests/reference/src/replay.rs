@@ -3,9 +3,11 @@
 
 use crate::call::{Answer, Call, Lengths};
 use crate::calls::{Cause, Promotion};
-use crate::jobfile::{self, JobFile, Part};
-use crate::log::{Log, Plan};
+use crate::jobfile::{self, Entry, JobFile, Part};
+use crate::log::{Job, Log};
 use crate::program::{Ending, Outcome};
+use crate::promotes;
+use std::collections::BTreeSet;
 
 /// The storage that a run is lent.
 pub const LENT: Lengths = Lengths { records: 512, store: 8192 };
@@ -15,18 +17,14 @@ pub struct Prediction {
     pub outcome: Outcome,
     /// The broken part of a malformed file.
     pub part: Option<Part>,
-    /// For a spent job, whether the limit of 512 and the budget were passed.
-    pub past_held: bool,
-    pub past_budget: bool,
+    /// What the promotes of a run that ended were like, by name.
+    pub promotes: BTreeSet<&'static str>,
 }
 
 impl Prediction {
-    fn plain(outcome: Outcome) -> Prediction {
-        Prediction { outcome, part: None, past_held: false, past_budget: false }
-    }
-
     fn refused(cause: Cause, byte: usize) -> Prediction {
-        Prediction::plain(Outcome::Refused { cause, byte })
+        let outcome = Outcome::Refused { cause, byte };
+        Prediction { outcome, part: None, promotes: BTreeSet::new() }
     }
 }
 
@@ -50,56 +48,82 @@ fn predict_job(file: &JobFile) -> Prediction {
         Answer::Refused(cause) => return Prediction::refused(cause, 4),
         _ => {}
     }
-    // The bytes of the count field and the first reading of the next entry.
-    let mut count_byte = 28;
-    let mut reading_byte = 24 + 12 * file.entries.len();
-    let mut entries = file.entries.iter();
+    let mut replay = Replay {
+        log,
+        entries: file.entries.iter(),
+        count_byte: 28,
+        reading_byte: 24 + 12 * file.entries.len(),
+        promotes: BTreeSet::new(),
+    };
     loop {
-        let job = log.job.as_ref().expect("the start was accepted");
-        if job.first_wanted().is_some() {
-            let Some(entry) = entries.next() else {
-                return ended(&mut log, Ending::Short, entries.len(), false, false);
-            };
-            let call =
-                Call::Deliver { readings: entry.readings.clone(), indicator: entry.indicator };
-            match log.expect(&call, LENT) {
-                Answer::Refused(Cause::ReadingCountWrong) => {
-                    return Prediction::refused(Cause::ReadingCountWrong, count_byte);
-                }
-                Answer::Refused(cause) => {
-                    let good = entry.readings.iter().take_while(|r| r.unsigned_abs() <= 1_048_576);
-                    return Prediction::refused(cause, reading_byte + 4 * good.count());
-                }
-                _ => {}
-            }
-            count_byte += 12;
-            reading_byte += 4 * entry.readings.len();
-            continue;
-        }
-        let plan = job.plan();
-        match (log.expect(&Call::Promote, LENT), plan) {
-            (Answer::Promotion(Promotion::Met), _) => {
-                return ended(&mut log, Ending::Met, entries.len(), false, false);
-            }
-            (Answer::Promotion(Promotion::Spent), Plan::Spent { past_held, past_budget }) => {
-                return ended(&mut log, Ending::Spent, entries.len(), past_held, past_budget);
-            }
-            (answer, _) => assert_eq!(answer, Answer::Promotion(Promotion::Promoted)),
+        if let Some(prediction) = replay.step() {
+            return prediction;
         }
     }
 }
 
-fn ended(
-    log: &mut Log,
-    ending: Ending,
-    unused: usize,
-    past_held: bool,
-    past_budget: bool,
-) -> Prediction {
-    let Answer::Totals(totals) = log.expect(&Call::Result, LENT) else {
-        unreachable!("result is not refused in a run");
-    };
-    let axes = log.job.as_ref().expect("the start was accepted").axes as u32;
-    let outcome = Outcome::Ended { axes, totals, unused, ending };
-    Prediction { past_held, past_budget, ..Prediction::plain(outcome) }
+/// A run on the log whose start was accepted.
+struct Replay<'a> {
+    log: Log,
+    entries: std::slice::Iter<'a, Entry>,
+    /// The bytes of the count field and the first reading of the next entry.
+    count_byte: usize,
+    reading_byte: usize,
+    promotes: BTreeSet<&'static str>,
+}
+
+impl Replay<'_> {
+    fn job(&self) -> &Job {
+        self.log.job.as_ref().expect("the start was accepted")
+    }
+
+    /// The next call, and what the run comes to if that ends it.
+    fn step(&mut self) -> Option<Prediction> {
+        if self.job().first_wanted().is_none() {
+            return self.promote();
+        }
+        match self.entries.next() {
+            Some(entry) => self.deliver(entry),
+            None => Some(self.ended(Ending::Short)),
+        }
+    }
+
+    fn deliver(&mut self, entry: &Entry) -> Option<Prediction> {
+        let call = Call::Deliver { readings: entry.readings.clone(), indicator: entry.indicator };
+        if let Answer::Refused(cause) = self.log.expect(&call, LENT) {
+            let good = entry.readings.iter().take_while(|r| r.unsigned_abs() <= 1_048_576);
+            return Some(match cause {
+                Cause::ReadingCountWrong => Prediction::refused(cause, self.count_byte),
+                _ => Prediction::refused(cause, self.reading_byte + 4 * good.count()),
+            });
+        }
+        self.count_byte += 12;
+        self.reading_byte += 4 * entry.readings.len();
+        None
+    }
+
+    fn promote(&mut self) -> Option<Prediction> {
+        let names = promotes::names(self.job());
+        self.promotes.extend(names);
+        let answer = self.log.expect(&Call::Promote, LENT);
+        let Answer::Promotion(promotion) = answer else {
+            unreachable!("no block is wanted: {answer:?}");
+        };
+        let ending = match promotion {
+            Promotion::Met => Ending::Met,
+            Promotion::Spent => Ending::Spent,
+            Promotion::Capped => Ending::Capped,
+            Promotion::Promoted => return None,
+        };
+        Some(self.ended(ending))
+    }
+
+    fn ended(&mut self, ending: Ending) -> Prediction {
+        let Answer::Totals(totals) = self.log.expect(&Call::Result, LENT) else {
+            unreachable!("result is not refused in a run");
+        };
+        let (axes, unused) = (self.job().axes as u32, self.entries.len());
+        let outcome = Outcome::Ended { axes, totals, unused, ending };
+        Prediction { outcome, part: None, promotes: std::mem::take(&mut self.promotes) }
+    }
 }

@@ -2,9 +2,11 @@
 
 use crate::area::{Area, WANTED};
 use crate::calls::{self, Cause, Doubled, Promotion};
+use crate::cases;
 use crate::doubles::Report;
 use crate::examples::scope_job;
 use crate::grid::{HELD_LIMIT, READING_LIMIT};
+use crate::jobfile;
 use crate::program;
 
 pub struct Case {
@@ -13,7 +15,7 @@ pub struct Case {
     pub answer: Doubled,
 }
 
-/// The budget of every job here.
+/// The budget of every job here but one.
 const BUDGET: u32 = 64;
 
 pub fn cases() -> Vec<Case> {
@@ -50,6 +52,15 @@ fn job(axes: u32, deliveries: &[(u32, &[i32])]) -> Area {
 fn scope_area() -> Area {
     let mut area = storage();
     program::run(&scope_job(), &mut area);
+    area
+}
+
+/// Two axes, the first up to level 8, with readings of 1 throughout: 5 pending,
+/// for (1,2), and 6 carried, for (8,1).
+fn capped() -> Area {
+    let file = cases::two_axes(9, 131);
+    let mut area = Area::empty(HELD_LIMIT, 131);
+    program::run(&jobfile::parse(&file).expect("well-formed"), &mut area);
     area
 }
 
@@ -93,6 +104,7 @@ fn deliveries() -> Vec<Case> {
             job(3, &[(1, &[5]), (u32::MAX, &[5, 5]), (u32::MAX, &[5, 5]), (u32::MAX, &[5, 5])]),
             [5.0, 12_884_901_885.0, 5.0],
         ),
+        reported("a carried error", capped(), [1.0, 5.0, 1.0]),
     ]
 }
 
@@ -141,6 +153,10 @@ fn refusals() -> Vec<Case> {
         area.job.pending += 1;
         area
     };
+    let with_carried = |mut area: Area, carried: u64| {
+        area.job.carried = carried;
+        area
+    };
     let short_of_records = |mut area: Area| {
         area.records.truncate(HELD_LIMIT - 1);
         area
@@ -156,6 +172,8 @@ fn refusals() -> Vec<Case> {
         refused("511 records, not sound", short_of_records(unsound(scope_area())), short),
         refused("a store too short, not sound", short_of_readings(unsound(scope_area())), short),
         refused("a pending error off by one", unsound(scope_area()), broken),
+        refused("a carried error without a ceiling", with_carried(scope_area(), 1), broken),
+        refused("a carried error left out", with_carried(capped(), 0), broken),
         refused("a mean past its bound", with_mean(scope_area(), (4 << 40) + 1), broken),
         refused("nothing delivered, a mean of 1", with_mean(job(3, &[]), 1), broken),
     ]

@@ -1,5 +1,6 @@
 //! What makes an area sound: one function for each clause of the scope
-//! document's sentence, in its order, by plain searching.
+//! document's sentence, in its order, by plain searching. After the pending error
+//! comes the clause that a later text adds: "soundness includes the carried sum".
 //!
 //! Every clause is total: it answers on any content whatever. "Held" means the
 //! first `held` records as far as records are there, and the axes looked at
@@ -33,13 +34,14 @@ pub enum Clause {
     ReservedWithinBudget,
     DeliveredReadingsInRange,
     PendingIsActiveSum,
+    CarriedIsCeilingSum,
     MeanWithinBound,
 }
 
 type Test = fn(&Area) -> bool;
 
 /// The clauses in the document's order, each with its test.
-pub const CLAUSES: [(Clause, Test); 21] = [
+pub const CLAUSES: [(Clause, Test); 22] = [
     (Clause::AxesInRange, axes_in_range),
     (Clause::BudgetInRange, budget_in_range),
     (Clause::LevelsInRange, levels_in_range),
@@ -60,6 +62,7 @@ pub const CLAUSES: [(Clause, Test); 21] = [
     (Clause::ReservedWithinBudget, reserved_within_budget),
     (Clause::DeliveredReadingsInRange, delivered_readings_in_range),
     (Clause::PendingIsActiveSum, pending_is_active_sum),
+    (Clause::CarriedIsCeilingSum, carried_is_ceiling_sum),
     (Clause::MeanWithinBound, mean_within_bound),
 ];
 
@@ -278,6 +281,22 @@ fn delivered_readings_in_range(area: &Area) -> bool {
 fn pending_is_active_sum(area: &Area) -> bool {
     let active = area.held().iter().filter(|record| record.state == ACTIVE);
     active.map(|record| u128::from(record.indicator)).sum::<u128>() == u128::from(area.job.pending)
+}
+
+// The carried error: "the sum of the indicators of old indices with at least one
+// forward neighbour past a ceiling"
+
+/// The carried error as it should be recorded, worked out from the records. An
+/// index counts once, however many of its neighbours are past a ceiling.
+pub fn ceiling_sum(area: &Area) -> u128 {
+    let old = area.held().iter().filter(|record| record.state == OLD);
+    old.filter(|record| grid::at_a_ceiling(axes(area), &record.levels))
+        .map(|record| u128::from(record.indicator))
+        .sum()
+}
+
+fn carried_is_ceiling_sum(area: &Area) -> bool {
+    ceiling_sum(area) == u128::from(area.job.carried)
 }
 
 // "the scaled mean is in size at most the delivered count times 2^40"

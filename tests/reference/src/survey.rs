@@ -56,12 +56,16 @@ fn note(predicted: &Prediction, count: &mut impl FnMut(String)) {
         }
         Outcome::Ended { axes, totals, unused, ending } => {
             count(format!("ended with axes {axes}"));
-            count(spent_by(ending, predicted));
+            count(ending_name(ending, predicted));
+            predicted.promotes.iter().for_each(|name| count(format!("promote {name}")));
             if unused > 0 {
                 count("ended with unused entries".to_string());
             }
             if totals.ceiling > 0 {
                 count("ended with a ceiling reached".to_string());
+            }
+            if totals.carried > 0 {
+                count(format!("end {} with carried above 0", ending.name()));
             }
             if totals.reserved >= 8_000 {
                 count("ended with 8,000 or more reserved".to_string());
@@ -73,17 +77,18 @@ fn note(predicted: &Prediction, count: &mut impl FnMut(String)) {
     }
 }
 
-fn spent_by(ending: Ending, predicted: &Prediction) -> String {
-    match (ending, predicted.past_held, predicted.past_budget) {
-        (Ending::Spent, true, true) => "end spent by both limits".to_string(),
-        (Ending::Spent, true, false) => "end spent by the limit of 512".to_string(),
-        (Ending::Spent, false, _) => "end spent by the budget".to_string(),
+/// An ending, and the limit that a spent one names.
+fn ending_name(ending: Ending, predicted: &Prediction) -> String {
+    let by = predicted.promotes.iter().find(|name| name.starts_with("spent by"));
+    match (ending, by) {
+        (Ending::Spent, Some(by)) => format!("end {by}"),
         _ => format!("end {}", ending.name()),
     }
 }
 
-const DUE: [&str; 11] = [
+const DUE: [&str; 12] = [
     "end met",
+    "end capped",
     "end short",
     "end spent by the limit of 512",
     "end spent by the budget",

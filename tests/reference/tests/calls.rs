@@ -65,11 +65,12 @@ fn start_writes_the_job_record_and_record_0_whole_and_nothing_else() {
         *record = IndexRecord::from_words(&[9; 27]);
     }
     area.store.fill(-9);
-    area.job.held = 77;
+    (area.job.held, area.job.carried) = (77, 78);
     assert_eq!(calls::start(&mut area, 3, 5, 10), Ok(()));
     let job = area.job;
     assert_eq!((job.axes, job.threshold, job.budget), (3, 5, 10));
     assert_eq!((job.held, job.reserved, job.pending, job.mean), (1, 1, 0, 0));
+    assert_eq!(job.carried, 0);
     let mut root = [1u32; 27];
     root[8] = WANTED;
     root[9] = 0;
@@ -86,7 +87,7 @@ fn before_the_first_delivery_the_mean_is_0() {
     let area = started(2, 0, 64);
     let totals = calls::result(&area).unwrap();
     assert_eq!((totals.old, totals.active, totals.wanted, totals.reserved), (0, 0, 1, 1));
-    assert_eq!((totals.mean, totals.pending, totals.ceiling), (0, 0, 0));
+    assert_eq!((totals.mean, totals.pending, totals.carried, totals.ceiling), (0, 0, 0, 0));
     assert_eq!(calls::cross_total(&area), Ok(0));
 }
 
@@ -117,6 +118,7 @@ fn the_scope_document_job_call_by_call() {
     let totals = calls::result(&area).unwrap();
     assert_eq!((totals.old, totals.active, totals.wanted, totals.reserved), (2, 2, 0, 7));
     assert_eq!((totals.pending, totals.mean, totals.ceiling), (10, 5_972_688_896, 0));
+    assert_eq!(totals.carried, 0);
     assert_eq!(calls::cross_total(&area), Ok(5_972_688_896));
 }
 
@@ -183,19 +185,23 @@ fn a_later_index_joins_when_its_last_backward_neighbour_is_old() {
 }
 
 /// One axis: level 8 is the last; its promotion admits nothing, is promoted
-/// all the same, and counts one pair at the ceiling.
+/// all the same, counts one pair at the ceiling and carries its indicator.
 #[test]
 fn nothing_admitted_is_promoted_and_the_ceiling_is_counted() {
     let mut area = started(1, 0, 8192);
     for level in 1..=8u32 {
         let size = if level < 3 { level as usize } else { 1 << (level - 2) };
         deliver(&mut area, &vec![0; size], 1);
-        assert_eq!(calls::result(&area).unwrap().ceiling, 0);
+        let totals = calls::result(&area).unwrap();
+        assert_eq!((totals.ceiling, totals.carried), (0, 0));
         assert_eq!(calls::promote(&mut area), Ok(Promotion::Promoted));
     }
     let totals = calls::result(&area).unwrap();
     assert_eq!((totals.old, totals.wanted, totals.reserved, totals.ceiling), (8, 0, 129, 1));
-    assert_eq!(calls::promote(&mut area), Ok(Promotion::Met));
+    assert_eq!((totals.pending, totals.carried), (0, 1));
+    let before = area.clone();
+    assert_eq!(calls::promote(&mut area), Ok(Promotion::Capped));
+    assert_eq!(area, before, "capped changes nothing");
 }
 
 #[test]

@@ -29,7 +29,7 @@ const SCOPE_FILE: [u8; 100] = [
 ];
 
 const SCOPE_REPORT: &str = "axes 2\nold 2\nactive 2\nwanted 0\nreserved 7\npending 10\n\
-                            ceiling 0\nscaled 5972688896\nunused 0\nend met\n";
+                            carried 0\nceiling 0\nscaled 5972688896\nunused 0\nend met\n";
 
 /// The document's file with one four-byte field replaced.
 fn with_field(at: usize, field: u32) -> Vec<u8> {
@@ -191,24 +191,24 @@ fn entries_never_delivered_are_never_judged() {
 }
 
 #[test]
-fn the_three_endings() {
+fn the_endings_without_a_ceiling() {
     let mut fewer = scope_job();
     fewer.entries.pop();
     assert_eq!(
         report_of(&fewer),
-        "axes 2\nold 2\nactive 1\nwanted 1\nreserved 7\npending 0\nceiling 0\n\
+        "axes 2\nold 2\nactive 1\nwanted 1\nreserved 7\npending 0\ncarried 0\nceiling 0\n\
          scaled 6509559808\nunused 0\nend short\n"
     );
     let mut poorer = scope_job();
     poorer.budget = 6;
     assert_eq!(
         report_of(&poorer),
-        "axes 2\nold 1\nactive 2\nwanted 0\nreserved 5\npending 50\nceiling 0\n\
+        "axes 2\nold 1\nactive 2\nwanted 0\nreserved 5\npending 50\ncarried 0\nceiling 0\n\
          scaled 6509559808\nunused 1\nend spent\n"
     );
     assert_eq!(
         report_of(&job(2, 64, 40, &[])),
-        "axes 2\nold 0\nactive 0\nwanted 1\nreserved 1\npending 0\nceiling 0\n\
+        "axes 2\nold 0\nactive 0\nwanted 1\nreserved 1\npending 0\ncarried 0\nceiling 0\n\
          scaled 0\nunused 0\nend short\n"
     );
     for (budget, ending) in [(4, "end spent\n"), (5, "end short\n")] {

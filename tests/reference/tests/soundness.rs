@@ -126,6 +126,7 @@ fn everything_is_total_on_garbage() {
         area.job.reserved = word();
         area.job.pending = u64::from(word());
         area.job.mean = i64::from(word() as i32);
+        area.job.carried = u64::from(word() % 3);
         if round % 5 == 0 {
             area.records.truncate(word() as usize % 600);
             area.store.truncate(word() as usize % 9_000);
@@ -137,6 +138,7 @@ fn everything_is_total_on_garbage() {
         let _ = calls::check(&area);
         let _ = calls::point(&area, 0, &mut buffer);
         laws::assert_points(&area, 0, &[0; 20]);
+        laws::assert_promote(&area);
         let _ = calls::result(&area);
         let _ = calls::cross_total(&area);
         let promoted = calls::promote(&mut area).is_err();
@@ -145,8 +147,9 @@ fn everything_is_total_on_garbage() {
     }
 }
 
-/// What soundness says nothing of: the threshold, old records' indicators,
-/// records past the last held, the store outside delivered blocks.
+/// What soundness says nothing of: the threshold, the indicators of old records
+/// that are at no ceiling, records past the last held, the store outside delivered
+/// blocks.
 #[test]
 fn what_soundness_leaves_free() {
     let mut area = sample::area(3);
@@ -190,7 +193,7 @@ type Edit = fn(&mut Area);
 #[test]
 fn each_clause_at_its_edge() {
     use Clause::*;
-    let cases: [(Edit, &[Clause]); 44] = [
+    let cases: [(Edit, &[Clause]); 48] = [
         (|_| {}, &[]),
         (|a| a.job.axes = 3, &[AdmissibleAreHeld]),
         (|a| a.job.budget = 8_192, &[]),
@@ -205,6 +208,10 @@ fn each_clause_at_its_edge() {
         (|a| a.job.pending = 49, &[PendingIsActiveSum]),
         (|a| a.job.pending = 150, &[PendingIsActiveSum]),
         (|a| a.job.pending = u64::MAX, &[PendingIsActiveSum]),
+        (|a| a.job.carried = 1, &[CarriedIsCeilingSum]),
+        (|a| a.job.carried = 100, &[CarriedIsCeilingSum]),
+        (|a| a.job.carried = 1 << 32, &[CarriedIsCeilingSum]),
+        (|a| a.job.carried = u64::MAX, &[CarriedIsCeilingSum]),
         (|a| a.job.mean = 2 << 40, &[]),
         (|a| a.job.mean = -(2 << 40), &[]),
         (|a| a.job.mean = (2 << 40) + 1, &[MeanWithinBound]),

@@ -156,6 +156,11 @@ fn more_slips() -> Vec<Slip> {
             "a pending error of more than 32 bits",
             Program { pending: |area| (area.job.pending as f32).into(), ..RIGHT },
         ),
+        slip(
+            "pending_with_carried",
+            "a carried error",
+            Program { pending: |area| (area.job.pending + area.job.carried) as f64, ..RIGHT },
+        ),
         slip("wanted_counted", "a block wanted", Program { counts: |_| true, ..RIGHT }),
         slip("active_alone", SCOPE, Program { counts: |record| record.state == ACTIVE, ..RIGHT }),
         slip("old_alone", BELOW_0, Program { counts: |record| record.state == OLD, ..RIGHT }),
