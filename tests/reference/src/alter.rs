@@ -7,6 +7,7 @@ use crate::grid::{self, MOST_AXES, READING_LIMIT};
 use crate::rng::Rng;
 use crate::sums::DIFFERENCE_LIMIT;
 
+mod carried;
 mod held;
 mod near_misses;
 
@@ -16,7 +17,7 @@ type Change = fn(&mut Area, &mut Rng) -> Option<String>;
 
 /// Every kind of change; each says what it did, or nothing if it cannot be
 /// made in this area.
-const CHANGES: [Change; 31] = [
+const CHANGES: [Change; 42] = [
     job_field,
     record_word,
     record_word,
@@ -48,6 +49,17 @@ const CHANGES: [Change; 31] = [
     near_misses::forward_past_held,
     near_misses::backward_past_held,
     near_misses::drop_leaf,
+    carried::carried_off,
+    carried::carried_off,
+    carried::carried_indicator,
+    carried::uncarried_indicator,
+    carried::exchange_indicators,
+    carried::carried_left_behind,
+    carried::threshold_near,
+    carried::threshold_near,
+    carried::threshold_near,
+    carried::carry_all,
+    carried::take_back,
 ];
 
 /// Alters the area in one to three places and says how.
@@ -74,6 +86,14 @@ fn any_in_state(area: &Area, rng: &mut Rng, state: u32) -> Option<usize> {
 
 fn axes(area: &Area) -> usize {
     MOST_AXES.min(area.job.axes as usize)
+}
+
+/// What a record adds to the carried error where it is old.
+fn carries(area: &Area, record: &IndexRecord) -> u64 {
+    match grid::at_a_ceiling(axes(area), &record.levels) {
+        true => record.indicator.into(),
+        false => 0,
+    }
 }
 
 /// A number of 32 bits that is likely to matter in place of this one.
@@ -107,7 +127,7 @@ fn significant_wide(area: &Area, rng: &mut Rng, was: u64) -> u64 {
 
 fn job_field(area: &mut Area, rng: &mut Rng) -> Option<String> {
     let was = area.job;
-    let field = rng.below(7);
+    let field = rng.below(8);
     match field {
         0 => area.job.axes = significant(area, rng, was.axes),
         1 => area.job.threshold = significant_wide(area, rng, was.threshold),
@@ -115,6 +135,7 @@ fn job_field(area: &mut Area, rng: &mut Rng) -> Option<String> {
         3 => area.job.held = significant(area, rng, was.held),
         4 => area.job.reserved = significant(area, rng, was.reserved),
         5 => area.job.pending = significant_wide(area, rng, was.pending),
+        6 => area.job.carried = significant_wide(area, rng, was.carried),
         _ => area.job.mean = significant_wide(area, rng, was.mean as u64) as i64,
     }
     Some(format!("job field {field}: {was:?} became {:?}", area.job))
@@ -207,23 +228,32 @@ fn mean_within_or_at_bound(area: &mut Area, rng: &mut Rng) -> Option<String> {
     Some(format!("mean became {} where the bound is {bound}", area.job.mean))
 }
 
-/// Makes an old record active and carries the pending error along.
+/// Makes an old record active and takes both errors along.
 fn make_active(area: &mut Area, place: usize) {
+    let record = area.records[place];
     area.records[place].state = ACTIVE;
-    area.job.pending = area.job.pending.wrapping_add(u64::from(area.records[place].indicator));
+    area.job.pending = area.job.pending.wrapping_add(u64::from(record.indicator));
+    area.job.carried = area.job.carried.wrapping_sub(carries(area, &record));
+}
+
+/// Makes an active record old and takes both errors along.
+fn make_old(area: &mut Area, place: usize) {
+    let record = area.records[place];
+    area.records[place].state = OLD;
+    area.job.pending = area.job.pending.wrapping_sub(u64::from(record.indicator));
+    area.job.carried = area.job.carried.wrapping_add(carries(area, &record));
 }
 
 fn old_becomes_active(area: &mut Area, rng: &mut Rng) -> Option<String> {
     let place = any_in_state(area, rng, OLD)?;
     make_active(area, place);
-    Some(format!("old {place} became active, pending with it"))
+    Some(format!("old {place} became active, both errors with it"))
 }
 
 fn active_becomes_old(area: &mut Area, rng: &mut Rng) -> Option<String> {
     let place = any_in_state(area, rng, ACTIVE)?;
-    area.records[place].state = OLD;
-    area.job.pending = area.job.pending.wrapping_sub(u64::from(area.records[place].indicator));
-    Some(format!("active {place} became old, pending with it"))
+    make_old(area, place);
+    Some(format!("active {place} became old, both errors with it"))
 }
 
 /// The first wanted record becomes active with whatever the store holds.

@@ -4,6 +4,7 @@
 //! ones included, can use it.
 
 use crate::call::Call;
+use crate::corner::{self, Corner};
 use crate::generate::ceiling_target;
 use crate::grid::{self, Levels, BUDGET_LIMIT, READING_LIMIT};
 use crate::rng::Rng;
@@ -36,6 +37,36 @@ pub struct Chooser {
     pub parameters: Parameters,
 }
 
+impl Parameters {
+    /// A job that fills the held places, the budget, or goes toward a ceiling.
+    fn grow(&mut self, which: u64, rng: &mut Rng) {
+        match which {
+            0 => {
+                self.axes = rng.between(5, 8) as u32;
+                self.indicators = IndicatorStyle::SmallBlocksFirst;
+                self.budget = BUDGET_LIMIT;
+            }
+            1 => {
+                self.indicators =
+                    rng.pick(&[IndicatorStyle::LargeBlocksFirst, IndicatorStyle::Any]);
+                self.budget = rng.between(6_000, 8_192) as u32;
+            }
+            _ => {
+                self.indicators = IndicatorStyle::Toward(ceiling_target(rng, self.axes as usize));
+                self.budget = BUDGET_LIMIT;
+            }
+        }
+        // A job meant to grow isn't cut off by its threshold or by many calls that do not advance it.
+        self.threshold = 0;
+        self.steps = 95;
+    }
+
+    fn turn_to(&mut self, corner: Corner) {
+        let Corner { indicators, threshold, budget } = corner;
+        (self.indicators, self.threshold, self.budget) = (indicators, threshold, budget);
+    }
+}
+
 pub fn random_parameters(rng: &mut Rng) -> Parameters {
     let axes = rng.between(1, 8) as usize;
     let readings = style::any_reading_style(rng);
@@ -48,25 +79,16 @@ pub fn random_parameters(rng: &mut Rng) -> Parameters {
         steps: rng.pick(&[40, 60, 80]),
     };
     match rng.below(900) {
-        0 => {
-            parameters.axes = rng.between(5, 8) as u32;
-            parameters.indicators = IndicatorStyle::SmallBlocksFirst;
-            parameters.budget = BUDGET_LIMIT;
+        which @ 0..=2 => parameters.grow(which, rng),
+        3..=14 => {
+            // Two axes, for each step goes through all readings so far.
+            parameters.axes = 2;
+            parameters.turn_to(corner::of_excess(rng, 2));
+            parameters.steps = 95;
         }
-        1 => {
-            parameters.indicators =
-                rng.pick(&[IndicatorStyle::LargeBlocksFirst, IndicatorStyle::Any]);
-            parameters.budget = rng.between(6_000, 8_192) as u32;
-        }
-        2 => {
-            parameters.indicators = IndicatorStyle::Toward(ceiling_target(rng, axes));
-            parameters.budget = BUDGET_LIMIT;
-        }
-        _ => return parameters,
+        15..=74 => parameters.turn_to(corner::of_level(rng, axes)),
+        _ => {}
     }
-    // A job meant to grow isn't cut off by its threshold or by many calls that do not advance it.
-    parameters.threshold = 0;
-    parameters.steps = 95;
     parameters
 }
 

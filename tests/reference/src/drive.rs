@@ -204,10 +204,7 @@ impl Driver {
                 self.count(format!("jobs of {} axes", self.chooser.parameters.axes));
             }
             Answer::Promotion(promotion) => self.ended = *promotion != Promotion::Promoted,
-            Answer::Totals(totals) => {
-                self.highest("ceiling count", u64::from(totals.ceiling));
-                self.highest("carried error", totals.carried);
-            }
+            Answer::Totals(totals) => self.highest("ceiling count", u64::from(totals.ceiling)),
             Answer::Points { counts, positions } => self.note_points(call, *counts, positions),
             Answer::Doubles(_) => self.note_doubles(),
             _ => {}
@@ -215,6 +212,7 @@ impl Driver {
         if self.log.job.is_some() {
             self.highest("held", u64::from(self.area.job.held));
             self.highest("reserved", u64::from(self.area.job.reserved));
+            self.highest("carried error", self.area.job.carried);
         }
     }
 

@@ -4,6 +4,7 @@
 
 use crate::call::{Answer, Call};
 use crate::calls::Promotion;
+use crate::corner::{self, Corner};
 use crate::damage::{self, Damage};
 use crate::grid::{self, Levels, BUDGET_LIMIT, READING_LIMIT, ROOT};
 use crate::jobfile::{self, Entry, JobFile, MOST_ENTRIES, MOST_READINGS};
@@ -24,6 +25,9 @@ pub enum Kind {
     ExactBudget,
     /// Drawn toward an index at a ceiling: levels of 8, excess of 12.
     Ceilings,
+    /// Drawn toward an index at a ceiling, with a threshold near what is left
+    /// pending beside it.
+    Corner,
     /// A threshold equal to a pending error on the way, or one below it.
     ThresholdMet,
     /// Entries cut off before the job's end.
@@ -147,7 +151,8 @@ fn job_of(shape: &Shape, entries: Vec<Entry>) -> JobFile {
 
 fn choose_kind(rng: &mut Rng) -> Kind {
     match rng.below(1_000) {
-        0..=249 => Kind::Small,
+        0..=189 => Kind::Small,
+        190..=249 => Kind::Corner,
         250..=264 => Kind::HeldLimit,
         265..=289 => Kind::FullBudget,
         290..=369 => Kind::ExactBudget,
@@ -191,6 +196,7 @@ fn job_of_kind(kind: Kind, rng: &mut Rng) -> JobFile {
             let history = run(&shape, rng);
             job_of(&shape, history.entries)
         }
+        Kind::Corner => corner_job(rng),
         Kind::ExactBudget | Kind::ThresholdMet => {
             let mut shape = lasting_shape(rng);
             let history = run(&shape, rng);
@@ -267,6 +273,25 @@ fn shape_near_limits(kind: Kind, rng: &mut Rng) -> Shape {
         readings: style::any_reading_style(rng),
         most_promotes: usize::MAX,
     }
+}
+
+/// A job with a hard corner, that of excess in one of five where there are axes
+/// for it; at times without its last blocks, so that it may carry and end short.
+fn corner_job(rng: &mut Rng) -> JobFile {
+    let axes = rng.between(1, 8) as usize;
+    let Corner { indicators, threshold, budget } = match axes > 1 && rng.percent(20) {
+        true => corner::of_excess(rng, axes),
+        false => corner::of_level(rng, axes),
+    };
+    let readings = style::any_reading_style(rng);
+    let most_promotes = usize::MAX;
+    let shape = Shape { axes, threshold, budget, indicators, readings, most_promotes };
+    let mut entries = run(&shape, rng).entries;
+    if rng.percent(35) {
+        let last = rng.place(1 + entries.len() / 3);
+        entries.truncate(entries.len() - last);
+    }
+    job_of(&shape, entries)
 }
 
 /// Entries that a job may leave unused, with readings of any kind.

@@ -17,7 +17,8 @@
 //! - [`laws`]: what point says of points, that no walk jumps, what result and the
 //!   differences say of doubles, and what result says of promote;
 //! - [`jobfile`], [`jobtext`], [`program`], [`replay`]: job files and reports;
-//! - [`rng`], [`style`], [`generate`], [`damage`], [`survey`]: job files by seed;
+//! - [`rng`], [`style`], [`corner`], [`generate`], [`damage`], [`survey`]: job files
+//!   by seed;
 //! - [`cases`], [`vectors`]: job files by name, and many in one;
 //! - [`choice`], [`drive`], [`promotes`] and [`demand`]: lists of calls by seed, what
 //!   their promotes were like, and the third demand;
@@ -32,6 +33,7 @@ pub mod call;
 pub mod calls;
 pub mod cases;
 pub mod choice;
+pub mod corner;
 pub mod damage;
 pub mod demand;
 pub mod doubles;

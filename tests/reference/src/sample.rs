@@ -4,6 +4,7 @@
 
 use crate::area::Area;
 use crate::calls::{self, Promotion};
+use crate::corner::{self, Corner};
 use crate::generate::ceiling_target;
 use crate::grid::{self, BUDGET_LIMIT, HELD_LIMIT, ROOT};
 use crate::rng::Rng;
@@ -19,7 +20,7 @@ pub struct Shape {
     pub deliveries: usize,
 }
 
-/// The area of a seed: mostly small, at times near a ceiling.
+/// The area of a seed: mostly small, at times near a ceiling or past it.
 pub fn area(seed: u64) -> Area {
     let mut rng = Rng::new(seed);
     let axes = rng.between(1, 8) as usize;
@@ -35,6 +36,10 @@ pub fn area(seed: u64) -> Area {
         shape.indicators = IndicatorStyle::Toward(ceiling_target(&mut rng, axes));
         shape.threshold = 0;
         shape.budget = BUDGET_LIMIT;
+        shape.deliveries = rng.between(8, 60) as usize;
+    } else if rng.percent(10) {
+        let Corner { indicators, threshold, budget } = corner::of_level(&mut rng, axes);
+        (shape.indicators, shape.threshold, shape.budget) = (indicators, threshold, budget);
         shape.deliveries = rng.between(8, 60) as usize;
     }
     run(&shape, &mut rng)

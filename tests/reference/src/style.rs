@@ -1,7 +1,7 @@
 //! Ways to choose indicators and readings, which give jobs their shape: wide
 //! or deep, with ties, near the limits, with extreme or smooth readings.
 
-use crate::grid::{self, Levels, MOST_AXES, READING_LIMIT};
+use crate::grid::{self, Levels, MOST_AXES, READING_LIMIT, ROOT};
 use crate::rng::Rng;
 
 #[derive(Clone, Copy, Debug, PartialEq, Eq)]
@@ -21,7 +21,17 @@ pub enum IndicatorStyle {
     Toward(Levels),
     /// Halved with each step on an axis by that axis's own pace.
     Paced([u32; MOST_AXES]),
+    /// Of one size toward the target and of a smaller one beside the way there.
+    Corner {
+        target: Levels,
+        toward: u32,
+    },
 }
+
+/// The size beside the way to a corner.
+pub const BESIDE_CORNER: u32 = 25;
+/// The least that a root has there, above any threshold of such a job.
+const CORNER_ROOT: u32 = 1_000;
 
 #[derive(Clone, Copy, Debug, PartialEq, Eq)]
 pub enum ReadingStyle {
@@ -86,6 +96,11 @@ pub fn indicator(style: IndicatorStyle, rng: &mut Rng, levels: &Levels) -> u32 {
             let steps: u32 = levels.iter().zip(paces).map(|(level, p)| (level - 1) * p).sum();
             (1 << 30) >> steps.min(31)
         }
+        IndicatorStyle::Corner { toward, .. } if *levels == ROOT => toward.max(CORNER_ROOT),
+        IndicatorStyle::Corner { target, toward } => match grid::nowhere_higher(levels, &target) {
+            true => toward,
+            false => BESIDE_CORNER,
+        },
     }
 }
 

@@ -86,7 +86,7 @@ fn ending_name(ending: Ending, predicted: &Prediction) -> String {
     }
 }
 
-const DUE: [&str; 12] = [
+const DUE: [&str; 25] = [
     "end met",
     "end capped",
     "end short",
@@ -96,6 +96,19 @@ const DUE: [&str; 12] = [
     "ended with 512 held",
     "ended with a ceiling reached",
     "ended with 8,000 or more reserved",
+    "end short with carried above 0",
+    "end spent with carried above 0",
+    "promote met with the threshold equal to the pending error",
+    "promote capped with the threshold equal to the pending error",
+    "promote capped with pending above 0",
+    "promote capped with carried at most the threshold",
+    "promote capped with the threshold one below both",
+    "promote promoted with nothing admitted",
+    "promote promoted with carried above 0",
+    "promote promoted at the ceiling of level alone",
+    "promote promoted at the ceiling of excess alone",
+    "promote promoted at both ceilings",
+    "promote spent with carried above 0",
     "fault in Header",
     "fault in EntryTable",
     "fault in Readings",

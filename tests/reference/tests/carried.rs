@@ -195,7 +195,7 @@ fn old_indicators_at_a_ceiling_and_elsewhere() {
 fn the_laws_on_altered_areas() {
     let mut rng = Rng::new(41);
     let mut seen: BTreeMap<&str, u32> = BTreeMap::new();
-    for seed in 0..6_000 {
+    for seed in 0..8_000 {
         let mut area = sample::area(seed);
         if rng.percent(80) {
             alter::alter(&mut area, &mut rng);

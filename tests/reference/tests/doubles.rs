@@ -156,7 +156,7 @@ fn cause_3_comes_before_4_and_both_leave_the_array() {
 fn the_laws_on_altered_areas_and_short_storage() {
     let mut rng = Rng::new(21);
     let (mut sound, mut other_mean, mut short, mut unsound) = (0, 0, 0, 0);
-    for seed in 0..1_200 {
+    for seed in 0..1_600 {
         let mut area = sample::area(seed);
         if rng.percent(70) {
             alter::alter(&mut area, &mut rng);

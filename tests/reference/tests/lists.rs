@@ -5,6 +5,10 @@ use reference::drive::drive;
 use reference::generate::{generate, Kind};
 use reference::survey;
 
+/// What promote comes to; `coverage.rs` has more of it.
+const PROMOTES: [&str; 5] =
+    ["met", "capped", "promoted", "promoted with nothing admitted", "spent by the budget"];
+
 /// What points comes to as the block or the buffer ends first, and as a row does.
 const POINTS: [&str; 8] = [
     "went on to another row",
@@ -34,7 +38,7 @@ const DOUBLES: [&str; 9] = [
 fn random_lists_of_calls() {
     let mut seen = std::collections::BTreeMap::new();
     for seed in [1, 2, 4] {
-        for (what, count) in drive(seed, 8_000) {
+        for (what, count) in drive(seed, 12_000) {
             *seen.entry(what).or_insert(0) += count;
         }
     }
@@ -42,7 +46,7 @@ fn random_lists_of_calls() {
         assert!(seen[&format!("refusal {number}")] > 100, "refusal {number}: {seen:?}");
     }
     assert!(!seen.contains_key("refusal 4"), "cause 4 never comes from the area");
-    for answer in ["met", "promoted", "promoted with nothing admitted", "spent by the budget"] {
+    for answer in PROMOTES {
         assert!(seen.contains_key(&format!("promote {answer}")), "{answer}: {seen:?}");
     }
     for number in [3, 5, 9] {

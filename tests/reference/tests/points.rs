@@ -300,7 +300,7 @@ fn point_says_of_points_on_altered_areas() {
     let mut rng = Rng::new(11);
     let mut chooser = Chooser::new(Rng::new(12));
     let (mut written, mut unsound) = (0, 0);
-    for seed in 0..400 {
+    for seed in 0..500 {
         let mut area = sample::area(seed);
         let block = calls::first_wanted(&area).map(|place| Block {
             axes: area.job.axes as usize,

@@ -54,8 +54,8 @@ fn every_clause_is_hit_and_also_alone() {
     let mut tally = Tally::default();
     let mut rng = Rng::new(2);
     let mut bases: Vec<(Area, u32)> = (0..1_200).map(|seed| (sample::area(seed), 8)).collect();
-    bases.push((sample::ceiling_area(1), 300));
-    bases.push((sample::full_area(1, 8), 120));
+    bases.push((sample::ceiling_area(1), 400));
+    bases.push((sample::full_area(1, 8), 300));
     for (base, times) in &bases {
         assert!(sound(base));
         for time in 0..*times {

@@ -1,7 +1,7 @@
 //! Changes of how many are held: records appended or dropped with everything
 //! that goes with them.
 
-use super::{any_in_state, axes};
+use super::{any_in_state, axes, make_old};
 use crate::area::{Area, IndexRecord, ACTIVE, NONE, OLD, WANTED};
 use crate::grid::{self, Levels, HELD_LIMIT, ROOT};
 use crate::rng::Rng;
@@ -93,8 +93,7 @@ pub fn promote_past_limits(area: &mut Area, rng: &mut Rng) -> Option<String> {
 
 fn promote_ignoring_limits(area: &mut Area, selected: usize) {
     let levels = area.records[selected].levels;
-    area.records[selected].state = OLD;
-    area.job.pending = area.job.pending.wrapping_sub(u64::from(area.records[selected].indicator));
+    make_old(area, selected);
     for axis in 0..axes(area) {
         let Some(forward) = grid::forward_neighbour(&levels, axis) else {
             continue;

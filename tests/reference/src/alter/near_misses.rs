@@ -2,7 +2,7 @@
 //! that might look at links, states and sums and leave one thing out.
 
 use super::held::{append, place_past_held};
-use super::{any_in_state, axes, make_active};
+use super::{any_in_state, axes, carries, make_active};
 use crate::area::{Area, IndexRecord, ACTIVE, NONE, OLD};
 use crate::grid::{self, ROOT};
 use crate::rng::Rng;
@@ -124,6 +124,9 @@ fn remove(area: &mut Area, place: usize) -> Option<()> {
     area.job.reserved = area.job.reserved.wrapping_sub(size);
     if record.state == ACTIVE {
         area.job.pending = area.job.pending.wrapping_sub(u64::from(record.indicator));
+    }
+    if record.state == OLD {
+        area.job.carried = area.job.carried.wrapping_sub(carries(area, &record));
     }
     for (at, other) in area.records[..held - 1].iter_mut().enumerate() {
         if at >= place {
