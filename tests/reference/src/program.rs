@@ -44,7 +44,8 @@ pub fn outcome(input: &[u8]) -> Outcome {
 }
 
 /// "While a block is wanted it delivers the next entry, else it promotes,
-/// until met, spent or short", and "capped ends it" too. The area is left as the job leaves it.
+/// until met, spent or short"; capped ends it too. The area is left as the job
+/// leaves it.
 pub fn run(job: &JobFile, area: &mut Area) -> Outcome {
     match run_to_end(job, area) {
         Ok((ending, used)) => Outcome::Ended {
