@@ -5,4 +5,5 @@ pub mod Records
 pub mod Cells
 pub mod Lookups
 pub mod LookupPlaces
+pub mod Carried
 pub mod Facts

@@ -3,10 +3,10 @@
 -- Assumes nothing.
 use mathlib.Core.Path.{_≡_, refl, ap, sym, _∙_}
 use mathlib.Core.List.{List, [], _∷_, _++_, append-assoc}
-use Prim.Native.Nat.{ℕ, zero, suc, _+_, _≤_, _<_, _-_, _*_, _/_}
+use Prim.Native.Nat.{ℕ, zero, suc, _+_, _≤_, _<_, _-_, _*_, _/_, _^_}
 use native.Mathlib.Nat.{add-assoc}
 use native.Mathlib.Omega.{arith}
-use lib.ListN.{length, getD, take, drop, set, length-drop, length-append, take-append-drop, List·getD-append}
+use lib.ListN.{length, getD, take, drop, set, length-take, length-drop, length-append, take-append-drop, List·getD-append}
 use lib.Seq.{take-all, drop-append-add, drop-cons, length-take-le, getD-drop, getD-take, sets, sets-eq, length-sets, take-add, drop-drop, take-at, drop-at, take-append-le, drop-append-le, getD-append-add}
 use Rattle.area.specs.Encoding.{none}
 use Rattle.area.specs.declared.IndexRecord.{IndexRecord}
@@ -96,6 +96,14 @@ module _ (c : List ℕ) (p : ℕ) (h : p * 27 + 27 ≤ length c) where
 
   pub link-in : (i : ℕ) → i < 16 → getD c (p * 27 + 11 + i) 0 ≡ getD (getD (recordsOf c) p blank .links) i none
   link-in i b = link-zero i b ∙ there-same (getD (recordsOf c) p blank .links) i 0 none (omega (arith, sixteen-links, b))
+
+-- cells are 32-bit numbers in the code, and so are then the indicators of the first n records
+pub indicators-small : (c : List ℕ) (n : ℕ) → ((i : ℕ) → getD c i 0 < 2 ^ 32) → (p : ℕ) → p < length (take n (recordsOf c))
+    → getD (take n (recordsOf c)) p blank .indicator < 2 ^ 32
+indicators-small c n words p h =
+    let l = length-take n (recordsOf c) in
+    let here : p * 27 + 27 ≤ length c = omega (arith, l, h, length-recordsOf c) in
+    omega (arith, words (p * 27 + 9), indicator-in c p here, ap (λ (r : IndexRecord). r .indicator) (getD-take n (recordsOf c) p blank (omega (arith, l, h))))
 
 -- ---- one record written
 

@@ -13,7 +13,7 @@ use Rattle.area.specs.declared.JobRecord.{JobRecord}
 use Rattle.area.specs.declared.Settings.{Settings}
 use Rattle.area.specs.Settings.{readingCount}
 use Rattle.area.specs.Records.{Run, runOf}
-use Rattle.area.specs.Entry.{Entry, indicesOf, reservedBy, pendingOf}
+use Rattle.area.specs.Entry.{Entry, indicesOf, reservedBy, pendingOf, carriedOf}
 use Rattle.area.specs.Log.{Log, Machine}
 
 pub record Area : Type 0 where
@@ -99,6 +99,7 @@ jobWith m =
       held = length (m .log .entries);
       reserved = reservedBy (m .log .entries);
       pending = pendingOf (m .log .entries);
+      carried = carriedOf (m .log .settings .axes) (m .log .entries);
       mean = m .mean;
     }
 

@@ -1,10 +1,11 @@
 -- Entries, as the log has them and as an area holds them: each held index with its state, indicator and readings.
-use mathlib.Core.Bool.{cond}
+use mathlib.Core.Bool.{cond, _&&_}
 use mathlib.Core.List.{List, [], _∷_, map}
 use Prim.Native.Nat.{ℕ, _+_}
 use lib.Dec.{leb, eqb}
 use lib.IntN.{ℤ, pos}
 use lib.ListN.{getD}
+use Rattle.grid.specs.Index.{atCeiling}
 use Rattle.grid.specs.Block.{blockSize}
 use Rattle.grid.specs.Difference.{Readings}
 use Rattle.grid.specs.Coefficient.{sameLevels}
@@ -42,3 +43,9 @@ reservedBy (e ∷ es) = blockSize (e .levels) + reservedBy es
 unfoldable pub pendingOf : List Entry → ℕ
 pendingOf [] = 0
 pendingOf (e ∷ es) = cond (eqb (e .state) 1) (e .indicator) 0 + pendingOf es
+
+-- The *carried error* is the sum of the indicators of old indices with at least one forward neighbour, along the job's d axes, past a
+-- ceiling. An index counts once, along however many axes; one that is active is pending and not carried.
+unfoldable pub carriedOf : ℕ → List Entry → ℕ
+carriedOf d [] = 0
+carriedOf d (e ∷ es) = cond (eqb (e .state) 2 && atCeiling d (e .levels)) (e .indicator) 0 + carriedOf d es

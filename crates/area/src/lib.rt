@@ -33,6 +33,7 @@ pub struct JobRecord {
     pub held: u32,
     pub reserved: u32,
     pub pending: u64,
+    pub carried: u64,
     pub mean: i64,
 }
 

@@ -16,7 +16,7 @@ use Rattle.soundness.specs.Clauses.{isSound}
 use Rattle.encoding.specs.Encodes.{WellFormed}
 use Rattle.grid.specs.Block.{block}
 use Rattle.machine.specs.Log.{firstWanted, wantedIndex}
-use Rattle.machine.specs.Promote.{met, spent}
+use Rattle.machine.specs.Promote.{promoted}
 use Rattle.machine.specs.Steps.{started}
 use Rattle.machine.specs.Causes.{firstCause, startCauses, pointCauses, deliverCauses, promoteCauses}
 use Rattle.machine.specs.Areas.{startOn, deliverOn, promoteOn}
@@ -32,7 +32,7 @@ use Rattle.calls.proofs.CausesApplied.{same-number, no-cause, own-case,
 use Rattle.calls.proofs.Rows.{promote-effect, point-accepts, start-accepts, start-refuses, promote-accepts}
 use Rattle.calls.proofs.Outcomes.{idle-area}
 use Rattle.calls.proofs.Next.{IsJob, Next, next-start, next-valid, allowed-there, valid-before, after-valid, after-state, after-lengths, after-past}
-use Rattle.calls.proofs.ResultValues.{cross-mean, result-recorded, check-answer}
+use Rattle.calls.proofs.ResultValues.{met-recorded, capped-recorded, cross-mean, result-recorded, check-answer}
 use Rattle.calls.proofs.StepEffects.{started-store, started-same, delivered-outside, delivered-stored, promoted-store}
 use Rattle.calls.proofs.Written.{written-state}
 
@@ -196,14 +196,9 @@ module _ (a : Area) where
   unfolding refusal causesOf row promoteCauses
   promote-store well-formed = promote-ways (λ (x : CallResult). x .area .store ≡ a .store) (λ none. promoted-store a well-formed none) (λ some. refl)
 
-  promote-unchanged : (callOn a promote .answer .reply ≡ promotion met) ⊎ (callOn a promote .answer .reply ≡ promotion spent) → callOn a promote .area ≡ a
+  promote-unchanged : (callOn a promote .answer .reply ≡ promotion promoted → ⊥) → callOn a promote .area ≡ a
   promote-unchanged =
-      promote-ways (λ (x : CallResult). (x .answer .reply ≡ promotion met) ⊎ (x .answer .reply ≡ promotion spent) → x .area ≡ a) (λ none h. idle-area a (outcomes h)) (λ some h. refl)
-    where
-      outcomes : (promotion (promoteOn a .outcome) ≡ promotion met) ⊎ (promotion (promoteOn a .outcome) ≡ promotion spent)
-          → (promoteOn a .outcome ≡ met) ⊎ (promoteOn a .outcome ≡ spent)
-      outcomes (inl e) = inl cc
-      outcomes (inr e) = inr cc
+      promote-ways (λ (x : CallResult). (x .answer .reply ≡ promotion promoted → ⊥) → x .area ≡ a) (λ none n. idle-area a (λ e. n (ap promotion e))) (λ some n. refl)
 
 -- ---- the store, whatever the call
 
@@ -264,6 +259,8 @@ call-facts =
       point-length = point-length;
       point-later = λ a n i buffer. point-later a n i buffer;
       result-recorded = result-recorded;
+      met-recorded = met-recorded;
+      capped-recorded = capped-recorded;
       cross-mean = cross-mean;
       check-answer = check-answer;
       start-answer = start-answer;

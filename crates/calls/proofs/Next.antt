@@ -85,6 +85,7 @@ module _ (z : Lengths) (sound : Bool) (m : Machine) (known : firstCause (resultC
   by-outcome : (o : rule.Outcome) (n : Machine) → Next z n → Allowed z (promotionEffect o n)
   unfolding promotionEffect
   by-outcome rule.met n x = tt
+  by-outcome rule.capped n x = tt
   by-outcome rule.spent n x = tt
   by-outcome rule.promoted n x = x
 

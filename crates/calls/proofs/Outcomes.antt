@@ -1,17 +1,18 @@
 -- Promote on an area leaves the area itself, or the selected place refined; and either holds the machine's next state.
 -- The idea: split the tests that the definition asks, with the answers kept.
 -- Assumes nothing.
-use mathlib.Core.Path.{_≡_, refl, sym, subst}
-use mathlib.Core.Logic.{_⊎_, inl, inr}
+use mathlib.Core.Path.{_≡_, refl, ap, _∙_}
 use mathlib.Core.Bool.{Bool, true, false, cond}
-use Prim.Native.Nat.{ℕ}
-use native.Mathlib.Omega.{arith}
+use Prim.Native.Nat.{ℕ, _<_}
+use Rattle.area.specs.Entry.{pendingOf}
 use Rattle.area.specs.Encoding.{Area, entriesOf, machineOf, written}
 use Rattle.area.specs.Log.{Log, withEntries}
-use Rattle.machine.specs.Promote.{Outcome, met, spent, promoted, selected, isMet, fits, refine, Promotion, promoteAt, promote}
+use Rattle.machine.specs.Choose.{selected}
+use Rattle.machine.specs.Promote.{Outcome, met, capped, spent, promoted, fits, refine, Promotion, promoteAt, promote}
 use Rattle.machine.specs.Steps.{promoteStep}
-use Rattle.machine.specs.Areas.{AreaPromotion, changedBy, refineOn, promoteOn}
-use Rattle.machine.proofs.Promotes.{promote-by}
+use Rattle.machine.specs.Areas.{changedBy, refineOn, promoteOn}
+use Rattle.machine.proofs.Answers.{Answered, is-met, is-capped, is-refined, answered}
+use Rattle.machine.proofs.Promotes.{AnsweredOn, met-on, capped-on, refined-on, answered-on}
 
 -- ---- refined where the pending error is above the threshold and it fits
 
@@ -35,13 +36,15 @@ module _ (a : Area) where
         step true e = more e
         step false e = same
 
-    pub outcome-ways : ((isMet (machineOf a .log) ≡ true → ⊥) → fits (a .job .settings .budget) (refine (a .job .settings .axes) (entriesOf a) (selected (entriesOf a))) ≡ true
+    pub outcome-ways : (a .job .settings .threshold < pendingOf (entriesOf a) → fits (a .job .settings .budget) (refine (a .job .settings .axes) (entriesOf a) (selected (entriesOf a))) ≡ true
         → P (grown (selected (entriesOf a)))) → P (promoteOn a .area)
-    outcome-ways more = subst (λ (x : AreaPromotion). P (x .area)) (sym (promote-by a)) (step (isMet (machineOf a .log)) refl)
+    unfolding machineOf
+    outcome-ways more = step (answered-on a)
       where
-        step : (t : Bool) → isMet (machineOf a .log) ≡ t → P (cond t (record { outcome = met; area = a }) (refineOn a (selected (entriesOf a))) .area)
-        step true e = same
-        step false e = refine-ways (selected (entriesOf a)) (more (λ f. let z : _≡_ {A = ℕ} 0 1 = cc in omega arith))
+        step : AnsweredOn a → P (promoteOn a .area)
+        step (met-on e h) = rw e same
+        step (capped-on e h k) = rw e same
+        step (refined-on e h) = rw e (refine-ways (selected (entriesOf a)) (more h))
 
 -- ---- a promotion leaves the settings
 
@@ -56,36 +59,41 @@ refined-settings l p = step (fits (l .settings .budget) (refine (l .settings .ax
     step false = refl
 
 pub promoted-settings : (l : Log) → promote l .log .settings ≡ l .settings
-unfolding promote
-promoted-settings l = step (isMet l)
+promoted-settings l = step (answered l)
   where
-    step : (t : Bool) → cond t (record { outcome = met; log = l }) (promoteAt l (selected (l .entries))) .log .settings ≡ l .settings
-    step true = refl
-    step false = refined-settings l (selected (l .entries))
+    step : Answered l → promote l .log .settings ≡ l .settings
+    step (is-met e h) = rw e refl
+    step (is-capped e h k) = rw e refl
+    step (is-refined e h) = rw e (refined-settings l (selected (l .entries)))
 
 -- ---- what isn't a promotion changes nothing
 
-abbrev given : Log → Bool → Bool → Promotion
-given l t u =
-    cond t (record { outcome = met; log = l })
-    (cond u (record { outcome = promoted; log = withEntries l (refine (l .settings .axes) (l .entries) (selected (l .entries))) }) (record { outcome = spent; log = l }))
+refined-same : (l : Log) (p : ℕ) → (promoteAt l p .outcome ≡ promoted → ⊥) → promoteAt l p .log ≡ l
+unfolding promoteAt
+refined-same l p = step (fits (l .settings .budget) (refine (l .settings .axes) (l .entries) p))
+  where
+    given : Bool → Promotion
+    given t = cond t (record { outcome = promoted; log = withEntries l (refine (l .settings .axes) (l .entries) p) }) (record { outcome = spent; log = l })
+
+    step : (t : Bool) → (given t .outcome ≡ promoted → ⊥) → given t .log ≡ l
+    step true n = absurd (n refl)
+    step false n = refl
 
 pub same-log : (l : Log) → (promote l .outcome ≡ promoted → ⊥) → promote l .log ≡ l
-unfolding promote promoteAt
-same-log l = step (isMet l) (fits (l .settings .budget) (refine (l .settings .axes) (l .entries) (selected (l .entries))))
+same-log l n = step (answered l)
   where
-    step : (t u : Bool) → (given l t u .outcome ≡ promoted → ⊥) → given l t u .log ≡ l
-    step true u n = refl
-    step false true n = absurd (n refl)
-    step false false n = refl
+    step : Answered l → promote l .log ≡ l
+    step (is-met e h) = rw e refl
+    step (is-capped e h k) = rw e refl
+    step (is-refined e h) = ap (λ x. x .log) e ∙ refined-same l (selected (l .entries)) (λ f. n (ap (λ x. x .outcome) e ∙ f))
 
 module _ (a : Area) where
-  pub idle-area : (promoteOn a .outcome ≡ met) ⊎ (promoteOn a .outcome ≡ spent) → promoteOn a .area ≡ a
+  pub idle-area : (promoteOn a .outcome ≡ promoted → ⊥) → promoteOn a .area ≡ a
   unfolding promoteOn changedBy
   idle-area = step (promote (machineOf a .log) .outcome)
     where
-      step : (o : Outcome) → (o ≡ met) ⊎ (o ≡ spent) → changedBy o a (written a (promoteStep (machineOf a))) ≡ a
-      step met h = refl
-      step spent h = refl
-      step promoted (inl e) = let z : _≡_ {A = ℕ} 0 1 = cc in absurd (omega arith)
-      step promoted (inr e) = let z : _≡_ {A = ℕ} 0 1 = cc in absurd (omega arith)
+      step : (o : Outcome) → (o ≡ promoted → ⊥) → changedBy o a (written a (promoteStep (machineOf a))) ≡ a
+      step met n = refl
+      step capped n = refl
+      step spent n = refl
+      step promoted n = absurd (n refl)

@@ -26,7 +26,7 @@ use Rattle.machine.specs.Largest.{largestOf, DeliveredAt}
 use Rattle.machine.proofs.Largest.{largest-delivered}
 use Rattle.counting.specs.Doubles.{doublesOf, plusZero}
 use Rattle.counting.proofs.NothingLost.{report-of-sound}
-use Rattle.counting.proofs.Reported.{indicators-small}
+use Rattle.area.proofs.Records.{indicators-small}
 use Rattle.calls.specs.Replies.{counts, doubled, lengthsOf}
 use Rattle.calls.specs.Table.{Answer, result, doubles, row, causesOf, effectOf, acceptedAnswer, refusedAnswer, refusal}
 use Rattle.calls.specs.Calls.{CallResult, refusalOn, callOn}
@@ -104,10 +104,10 @@ module _ (a : Area) (r : Report) (told : Reports a r) where
   as-result =
       let is = ap (λ (x : Answer). x .reply) (sym (result-accepts a 0 (sym (accepted .0)) refl)) in
       let told = call-facts .result-recorded a (countsOf (machineOf a)) is in
-      (countsOf (machineOf a), is, subst (λ z. LosesNothing (r .mean) z (2 ^ 20)) (sym (told .2)) mean, told .1)
+      (countsOf (machineOf a), is, subst (λ z. LosesNothing (r .mean) z (2 ^ 20)) (sym (told .3)) mean, told .1)
 
 pending-cells : (j : JobRecord) (c : List ℕ) (s : List ℤ) (r : Report) → Reports (areaOf j c s) r → ((n : ℕ) → getD c n 0 < 2 ^ 32) → LosesNothing (r .pending) (pos (j .pending)) 1
-pending-cells j c s r told words = pending (areaOf j c s) r told (indicators-small j c s (valid j c s (accepted (areaOf j c s) r told .0)) words)
+pending-cells j c s r told words = pending (areaOf j c s) r told (indicators-small c (j .held) words)
 
 pub report-facts : ReportFacts
 report-facts =

@@ -1,9 +1,9 @@
--- What result and cross total tell of an area that no cause refuses, and what check does.
+-- What result, cross total and promote's ending tell of an area that no cause refuses, and what check does.
 -- The idea: it is sound, so its recorded figures are those of its entries, and the combination identity holds of them.
 -- Assumes nothing.
 use mathlib.Core.Path.{_≡_, refl, ap, sym, _∙_, subst}
 use mathlib.Core.Bool.{Bool, true, false, not, _&&_}
-use Prim.Native.Nat.{ℕ}
+use Prim.Native.Nat.{ℕ, _+_, _<_, _≤_}
 use native.Mathlib.Omega.{arith}
 use lib.Dec.{leb}
 use lib.IntN.{ℤ}
@@ -13,14 +13,17 @@ use Rattle.area.specs.Encoding.{Area, entriesOf, machineOf}
 use Rattle.soundness.specs.Sound.{Sound}
 use Rattle.soundness.specs.Clauses.{isSound, checked}
 use Rattle.encoding.proofs.Facts.{encoding-facts}
-use Rattle.machine.specs.Causes.{firstCause, short, resultCauses}
+use Rattle.machine.specs.Promote as rule
+use Rattle.machine.specs.Causes.{firstCause, short, promoteCauses, resultCauses}
 use Rattle.machine.specs.Counts.{Counts, countsOf}
 use Rattle.encoding.specs.Entries.{SoundMachine}
 use Rattle.machine.specs.Means.{meanOf, crossOf}
+use Rattle.machine.proofs.Answers.{met-only, capped-only}
 use Rattle.machine.proofs.Means.{mean-facts}
-use Rattle.calls.specs.Replies.{counts, total, verdict, lengthsOf}
-use Rattle.calls.specs.Table.{result, crossTotal, check, answer, row, causesOf, effectOf, passesCheck, acceptedAnswer, refusedAnswer, refusal}
+use Rattle.calls.specs.Replies.{promotion, counts, total, verdict, lengthsOf}
+use Rattle.calls.specs.Table.{promote, result, crossTotal, check, answer, row, causesOf, effectOf, passesCheck, acceptedAnswer, refusedAnswer, refusal}
 use Rattle.calls.specs.Calls.{CallResult, areaAfter, callOn}
+use Rattle.calls.proofs.Accepted.{promotable}
 use Rattle.calls.proofs.Validity.{sound-there, long-there}
 use Rattle.calls.proofs.CauseCases.{call-accepts, call-ways}
 
@@ -41,11 +44,11 @@ module _ (a : Area) where
       (λ some e. let z : _≡_ {A = ℕ} 0 1 = cc in absurd (omega arith))
 
   abbrev Recorded : Counts → Type 0
-  Recorded c = (c .reserved ≡ a .job .reserved) × (c .pending ≡ a .job .pending) × (c .mean ≡ a .job .mean)
+  Recorded c = (c .reserved ≡ a .job .reserved) × (c .pending ≡ a .job .pending) × (c .carried ≡ a .job .carried) × (c .mean ≡ a .job .mean)
 
   recorded : Sound a → Recorded (countsOf (machineOf a))
   unfolding countsOf machineOf
-  recorded s = (sym (s .numbers .reserved), sym (s .numbers .pending), refl)
+  recorded s = (sym (s .numbers .reserved), sym (s .numbers .pending), sym (s .numbers .carried), refl)
 
   pub result-recorded : (c : Counts) → callOn a result .answer .reply ≡ counts c → Recorded c
   unfolding row causesOf refusal acceptedAnswer refusedAnswer resultCauses
@@ -53,6 +56,29 @@ module _ (a : Area) where
       call-ways a result (λ (r : CallResult). r .answer .reply ≡ counts c → Recorded c)
       (λ none e. let same : countsOf (machineOf a) ≡ c = cc in subst Recorded same (recorded (sound-there a none)))
       (λ some e. let z : _≡_ {A = ℕ} 0 1 = cc in absurd (omega arith))
+
+  -- promote's answer is that of the entries, whose errors the recorded ones are
+  module _ (o : rule.Outcome) (e : callOn a promote .answer .reply ≡ promotion o) where
+    answered-so : Sound a × (rule.promote (machineOf a .log) .outcome ≡ o)
+    unfolding row causesOf refusal acceptedAnswer refusedAnswer promoteCauses
+    answered-so =
+        call-ways a promote (λ (r : CallResult). r .answer .reply ≡ promotion o → Sound a × (rule.promote (machineOf a .log) .outcome ≡ o))
+        (λ none f. (sound-there a (promotable (lengthsOf a) (isSound a) (machineOf a .log) none .clear), cc))
+        (λ some f. let z : _≡_ {A = ℕ} 0 1 = cc in absurd (omega arith)) e
+
+  pub met-recorded : callOn a promote .answer .reply ≡ promotion rule.met → a .job .pending + a .job .carried ≤ a .job .settings .threshold
+  unfolding machineOf
+  met-recorded e =
+      let x = answered-so rule.met e in
+      omega (arith, x .0 .numbers .pending, x .0 .numbers .carried, met-only (machineOf a .log) (x .1))
+
+  pub capped-recorded : callOn a promote .answer .reply ≡ promotion rule.capped
+      → (a .job .pending ≤ a .job .settings .threshold) × (a .job .settings .threshold < a .job .pending + a .job .carried)
+  unfolding machineOf
+  capped-recorded e =
+      let x = answered-so rule.capped e in
+      let y = capped-only (machineOf a .log) (x .1) in
+      (omega (arith, x .0 .numbers .pending, y .0), omega (arith, x .0 .numbers .pending, x .0 .numbers .carried, y .1))
 
   -- check is never refused, and its verdict is the storage test and the clauses
   passes-checked : passesCheck (lengthsOf a) (isSound a) (machineOf a .log) ≡ checked a

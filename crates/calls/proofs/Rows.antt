@@ -13,7 +13,7 @@ use Rattle.area.specs.Encoding.{Area, entriesOf, machineOf, written}
 use Rattle.soundness.specs.Clauses.{isSound}
 use Rattle.machine.specs.Log.{wantedIndex}
 use Rattle.machine.specs.Promote as rule
-use Rattle.machine.specs.Promote.{Outcome, met, spent, promoted}
+use Rattle.machine.specs.Promote.{Outcome, met, capped, spent, promoted}
 use Rattle.machine.specs.Steps.{promoteStep}
 use Rattle.machine.specs.Points.{pointsFitting, positionsOf, writtenOver}
 use Rattle.machine.specs.Causes.{firstCause, startCauses, pointCauses, deliverCauses, promoteCauses, resultCauses}
@@ -49,6 +49,7 @@ module _ (a : Area) (rs : List ℤ) (i n : ℕ) (is : n ≡ firstCause (deliverC
 pub outcome-area : (a : Area) (o : Outcome) (m : Machine) → areaAfter a (promotionEffect o m) ≡ changedBy o a (written a m)
 unfolding areaAfter promotionEffect changedBy
 outcome-area a met m = refl
+outcome-area a capped m = refl
 outcome-area a spent m = refl
 outcome-area a promoted m = refl
 
@@ -62,6 +63,7 @@ promote-effect m = split (rule.promote (m .log) .outcome) stays
 
     split : (o : Outcome) → ((o ≡ promoted → ⊥) → m ≡ promoteStep m) → changed m (promotionEffect o (promoteStep m)) ≡ promoteStep m
     split met f = f (λ e. let y : _≡_ {A = ℕ} 0 1 = cc in absurd (omega arith))
+    split capped f = f (λ e. let y : _≡_ {A = ℕ} 0 1 = cc in absurd (omega arith))
     split spent f = f (λ e. let y : _≡_ {A = ℕ} 0 1 = cc in absurd (omega arith))
     split promoted f = refl
 

@@ -12,6 +12,7 @@ use lib.ListN.{length, getD, set, take, drop, length-append, List·getD-append}
 use lib.Seq.{sets, sets-eq, length-take-le, getD-set-other, getD-append-add}
 use Rattle.area.specs.Settings.{readingCount}
 use Rattle.area.specs.declared.Settings.{Settings}
+use Rattle.area.specs.Entry.{pendingOf}
 use Rattle.area.specs.Encoding.{Area, heldOf, entriesOf, recordsFor, encodedFrom, runWith, machineOf, written}
 use Rattle.quadrature.specs.Readings.{recordAt}
 use Rattle.soundness.specs.Clauses.{isSound}
@@ -19,7 +20,8 @@ use Rattle.encoding.specs.Encodes.{WellFormed}
 use Rattle.encoding.proofs.Places.{entries-length, levels-at}
 use Rattle.encoding.proofs.Facts.{range-facts}
 use Rattle.machine.specs.Log.{firstWanted}
-use Rattle.machine.specs.Promote.{selected, isMet, fits, refine}
+use Rattle.machine.specs.Choose.{selected}
+use Rattle.machine.specs.Promote.{fits, refine}
 use Rattle.machine.specs.Steps.{started, deliver}
 use Rattle.machine.specs.Causes.{firstCause, deliverCauses, promoteCauses}
 use Rattle.machine.specs.Areas.{startOn, deliverOn, promoteOn}
@@ -121,7 +123,7 @@ module _ (a : Area) (well-formed : WellFormed (heldOf a)) where
     unfolding machineOf
     free = promotable (lengthsOf a) (isSound a) (machineOf a .log) none .free
 
-    module _ (above : isMet (machineOf a .log) ≡ true → ⊥) (fit : fits (a .job .settings .budget) (refine (a .job .settings .axes) (entriesOf a) p) ≡ true) where
+    module _ (above : a .job .settings .threshold < pendingOf (entriesOf a)) (fit : fits (a .job .settings .budget) (refine (a .job .settings .axes) (entriesOf a) p) ≡ true) where
       grown-store : grown a p .store ≡ a .store
       unfolding machineOf
       grown-store =

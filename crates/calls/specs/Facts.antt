@@ -14,7 +14,7 @@ use Rattle.soundness.specs.Clauses.{isSound, checked}
 use Rattle.encoding.specs.Encodes.{WellFormed}
 use Rattle.grid.specs.Block.{block}
 use Rattle.machine.specs.Log.{firstWanted, wantedIndex}
-use Rattle.machine.specs.Promote.{met, spent}
+use Rattle.machine.specs.Promote.{met, capped, promoted}
 use Rattle.machine.specs.Steps as steps
 use Rattle.machine.specs.Steps.{started}
 use Rattle.machine.specs.Causes.{Cause}
@@ -100,16 +100,20 @@ pub record CallFacts : Type 0 where
   -- the readings are stored from the block's first reading on
   pub deliver-stored : (a : Area) (rs : List ℤ) (i n : ℕ) → WellFormed (heldOf a) → callOn a (deliver rs i) .answer .reply ≡ accepted → n < length rs
       → getD (callOn a (deliver rs i) .area .store) (recordAt (heldOf a) (firstWanted (entriesOf a)) .first + n) (pos 0) ≡ getD rs n (pos 0)
-  -- met and spent change nothing
-  pub promote-unchanged : (a : Area) → (callOn a promote .answer .reply ≡ promotion met) ⊎ (callOn a promote .answer .reply ≡ promotion spent) → callOn a promote .area ≡ a
+  -- whatever is not promoted changes nothing: met, capped, spent or a refusal
+  pub promote-unchanged : (a : Area) → (callOn a promote .answer .reply ≡ promotion promoted → ⊥) → callOn a promote .area ≡ a
   -- point writes the first d positions of the block's n-th point; the buffer stays as long, and its later bytes are untouched
   pub point-written : (a : Area) (n : ℕ) (buffer : List ℕ) → NotRefused a (point n buffer)
       → take (a .job .settings .axes) (callOn a (point n buffer) .answer .buffer) ≡ take (a .job .settings .axes) (getD (block (wantedIndex (entriesOf a))) n [])
   pub point-length : (a : Area) (n : ℕ) (buffer : List ℕ) → length (callOn a (point n buffer) .answer .buffer) ≡ length buffer
   pub point-later : (a : Area) (n i : ℕ) (buffer : List ℕ) → a .job .settings .axes ≤ i → getD (callOn a (point n buffer) .answer .buffer) i 0 ≡ getD buffer i 0
-  -- result's reserved, pending error and mean are the recorded ones
+  -- result's reserved, pending and carried error and mean are the recorded ones
   pub result-recorded : (a : Area) (c : Counts) → callOn a result .answer .reply ≡ counts c
-      → (c .reserved ≡ a .job .reserved) × (c .pending ≡ a .job .pending) × (c .mean ≡ a .job .mean)
+      → (c .reserved ≡ a .job .reserved) × (c .pending ≡ a .job .pending) × (c .carried ≡ a .job .carried) × (c .mean ≡ a .job .mean)
+  -- by which promote goes: it is met only where the recorded errors together are at most the threshold, capped only where the pending error alone is
+  pub met-recorded : (a : Area) → callOn a promote .answer .reply ≡ promotion met → a .job .pending + a .job .carried ≤ a .job .settings .threshold
+  pub capped-recorded : (a : Area) → callOn a promote .answer .reply ≡ promotion capped
+      → (a .job .pending ≤ a .job .settings .threshold) × (a .job .settings .threshold < a .job .pending + a .job .carried)
   -- in any sound area the cross total, worked out from the readings, is the sum of the delivered indices' differences
   pub cross-mean : (a : Area) (x : ℤ) → callOn a crossTotal .answer .reply ≡ total x → x ≡ meanOf (entriesOf a)
   -- check answers by the clauses and the storage test, and changes nothing

@@ -5,7 +5,7 @@ use lib.IntN.{ℤ}
 use lib.ListN.{length}
 use Rattle.doubles.specs.declared.Report.{Report}
 use Rattle.area.specs.Encoding.{Area}
-use Rattle.machine.specs.Promote.{Outcome, met, spent, promoted}
+use Rattle.machine.specs.Promote.{Outcome, met, capped, spent, promoted}
 use Rattle.machine.specs.Causes.{Lengths}
 use Rattle.machine.specs.Counts.{Counts}
 use Rattle.counting.specs.Answer.{countsIn}
@@ -36,6 +36,7 @@ unfoldable pub replyOf : code.Answer → Reply
 replyOf (answers.Refused n) = refused n
 replyOf answers.Accepted = accepted
 replyOf answers.Met = promotion met
+replyOf answers.Capped = promotion capped
 replyOf answers.Spent = promotion spent
 replyOf answers.Promoted = promotion promoted
 

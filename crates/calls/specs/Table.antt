@@ -37,9 +37,10 @@ pub data Effect : Type 0 where
   unchanged : Effect
   becomes : Machine → Effect
 
--- A promotion changes the state if it is *promoted*; met and spent change nothing.
+-- A promotion changes the state if it is *promoted*; met, capped and spent change nothing.
 unfoldable pub promotionEffect : rule.Outcome → Machine → Effect
 promotionEffect rule.met m = unchanged
+promotionEffect rule.capped m = unchanged
 promotionEffect rule.spent m = unchanged
 promotionEffect rule.promoted m = becomes m
 
@@ -104,7 +105,7 @@ row (points n buffer) =
     })
 -- **Deliver** takes the first wanted block's readings and an indicator.
 row (deliver rs i) = withoutBuffer (λ l. deliverOwnCauses l rs) (λ m. becomes (steps.deliver m rs i)) (λ m. accepted)
--- **Promote** answers met, spent or promoted; met and spent change nothing.
+-- **Promote** answers met, capped, spent or promoted; only promoted changes anything.
 row promote = withoutBuffer (λ l. promoteOwnCauses l) (λ m. promotionEffect (rule.promote (m .log) .outcome) (steps.promoteStep m)) (λ m. promotion (rule.promote (m .log) .outcome))
 -- **Result** gives the counts.
 row result = withoutBuffer (λ l. []) (λ m. unchanged) (λ m. counts (countsOf m))

@@ -13,6 +13,7 @@ pub enum Answer {
     Refused(u32),
     Accepted,
     Met,
+    Capped,
     Spent,
     Promoted,
 }
@@ -246,7 +247,7 @@ pub fn deliver(
     }
 }
 
-// Promotes: met, or the selected index refined, unless that is spent.
+// Promotes: met or capped, or the selected index refined, unless that is spent.
 pub fn promote(job: area::JobRecord, cells: &mut [u32], store: &[i32]) -> CallOutput
     ensures { λ r. ⌜ callResultOf r (now (cells .exit)) (now (store .entry)) ≡ callOn (areaOf job (now (cells .entry)) (now (store .entry))) promote ⌝ }
 {
@@ -270,6 +271,10 @@ fn as_answer(promotion: promotion::Promotion) -> CallOutput
     match outcome {
         promotion::Outcome::Met => CallOutput {
             answer: Answer::Met,
+            job,
+        },
+        promotion::Outcome::Capped => CallOutput {
+            answer: Answer::Capped,
             job,
         },
         promotion::Outcome::Spent => CallOutput {

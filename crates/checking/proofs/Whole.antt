@@ -1,9 +1,9 @@
 -- The whole test, part by part, as the code asks it; the held records are those of the first cells.
 -- Assumes nothing.
-use mathlib.Core.Path.{_≡_, ap, _∙_, sym}
-use mathlib.Core.Bool.{Bool, true, false, cond}
+use mathlib.Core.Path.{_≡_, refl, ap, ap₂, _∙_, sym}
+use mathlib.Core.Bool.{Bool, true, false, cond, _&&_}
 use mathlib.Core.List.{List}
-use Prim.Native.Nat.{ℕ, zero, suc, _*_, _/_, _^_, _<_, _≤_}
+use Prim.Native.Nat.{ℕ, zero, suc, _+_, _*_, _/_, _^_, _<_, _≤_}
 use native.Mathlib.Omega.{arith}
 use lib.Dec.{leb, eqb}
 use lib.IntN.{ℤ, natAbs}
@@ -11,15 +11,18 @@ use lib.ListN.{length, take, length-take}
 use lib.Seq.{getD-take}
 use borrow.Author.Tests.{eq-eqb, ne-eqb}
 use Rattle.sums.specs.Sums.{natSumTo}
+use Rattle.grid.specs.Index.{Index, atCeiling}
+use Rattle.grid.proofs.Ceilings.{ceiling-facts}
 use Rattle.area.specs.declared.IndexRecord.{IndexRecord}
 use Rattle.area.specs.declared.JobRecord.{JobRecord}
 use Rattle.area.specs.Records.{recordsOf, blank}
 use Rattle.area.specs.Encoding.{Area, areaOf, heldOf}
 use Rattle.area.proofs.Records.{length-recordsOf, records-take}
+use Rattle.quadrature.specs.Readings.{recordAt}
 use Rattle.soundness.specs.Held.{levelsAt, stateAt}
 use Rattle.soundness.specs.Clauses.{checked}
 use Rattle.soundness.specs.Test.{placesTest, allCompleteTest}
-use Rattle.soundness.specs.Totals.{allWantedTest, blocksTest, pendingIn, deliveredCount, jobTest, heldTest, areaTest}
+use Rattle.soundness.specs.Totals.{allWantedTest, blocksTest, pendingIn, carriedIn, deliveredCount, jobTest, numbersTest, heldTest, areaTest}
 use Rattle.soundness.proofs.Totals.{Job, reads-job}
 use Rattle.soundness.proofs.Exactly.{same-answer}
 use Rattle.soundness.proofs.Clauses.{clause-facts}
@@ -60,14 +63,38 @@ module _ (j : JobRecord) (rs : List IndexRecord) (s : List ℤ) where
         unfolding heldTest
         held-no-blocks e = rw (places, complete, wanted, e)
 
-        module _ (blocks : blocksTest (j .settings) (j .reserved) rs s ≡ true) where
-          pub held-no-pending : (pendingIn rs ≡ j .pending → ⊥) → heldTest j rs s ≡ false
-          unfolding heldTest
-          held-no-pending n = rw (places, complete, wanted, blocks, ne-eqb (pendingIn rs) (j .pending) n)
+        pub held-numbers : blocksTest (j .settings) (j .reserved) rs s ≡ true → heldTest j rs s ≡ numbersTest j rs
+        unfolding heldTest
+        held-numbers e = rw (places, complete, wanted, e)
 
-          pub held-mean : pendingIn rs ≡ j .pending → heldTest j rs s ≡ leb (natAbs (j .mean)) (deliveredCount rs * 2 ^ 40)
-          unfolding heldTest
-          held-mean e = rw (places, complete, wanted, blocks, eq-eqb (pendingIn rs) (j .pending) e)
+-- ---- the recorded numbers
+module _ (j : JobRecord) (rs : List IndexRecord) where
+  pub no-pending : (pendingIn rs ≡ j .pending → ⊥) → numbersTest j rs ≡ false
+  unfolding numbersTest
+  no-pending n = rw (ne-eqb (pendingIn rs) (j .pending) n)
+
+  module _ (pending : pendingIn rs ≡ j .pending) where
+    pub no-carried : (carriedIn (j .settings .axes) rs ≡ j .carried → ⊥) → numbersTest j rs ≡ false
+    unfolding numbersTest
+    no-carried n = rw (eq-eqb (pendingIn rs) (j .pending) pending, ne-eqb (carriedIn (j .settings .axes) rs) (j .carried) n)
+
+    pub then-mean : carriedIn (j .settings .axes) rs ≡ j .carried → numbersTest j rs ≡ leb (natAbs (j .mean)) (deliveredCount rs * 2 ^ 40)
+    unfolding numbersTest
+    then-mean e = rw (eq-eqb (pendingIn rs) (j .pending) pending, eq-eqb (carriedIn (j .settings .axes) rs) (j .carried) e)
+
+-- an index at a ceiling is so among eight axes as among the job's
+pub carried-eight : (d : ℕ) (rs : List IndexRecord) → 1 ≤ d → d ≤ 8 → ((p : ℕ) → p < length rs → Index d (levelsAt rs p)) → carriedIn 8 rs ≡ carriedIn d rs
+unfolding carriedIn natSumTo
+carried-eight d rs some few index = same (length rs) (λ p h. h)
+  where
+    part : ℕ → ℕ → ℕ
+    part e p = cond (eqb (stateAt rs p) 2 && atCeiling e (levelsAt rs p)) (recordAt rs p .indicator) 0
+
+    same : (n : ℕ) → ((p : ℕ) → p < n → p < length rs) → natSumTo n (part 8) ≡ natSumTo n (part d)
+    same zero h = refl
+    same (suc n) h =
+        ap₂ (λ x y. x + y) (same n (λ p l. h p (omega (arith, l))))
+        (ap (λ t. cond (eqb (stateAt rs n) 2 && t) (recordAt rs n .indicator) 0) (ceiling-facts .axes-alike d (levelsAt rs n) some few (index n (h n (omega arith)))))
 
 -- ---- the area
 module _ (j : JobRecord) (c : List ℕ) (s : List ℤ) where

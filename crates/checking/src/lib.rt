@@ -2,7 +2,7 @@
 // places: the second asks for completeness, and reads where the first has tested.
 ghost use mathlib.Core.Path.{_≡_};
 ghost use mathlib.Core.Bool.{true};
-ghost use Prim.Native.Nat.{_+_, _*_, _^_, _<_, _≤_};
+ghost use Prim.Native.Nat.{ℕ, _+_, _*_, _^_, _<_, _≤_};
 ghost use lib.Dec.{leb};
 ghost use lib.IntN.{natAbs};
 ghost use lib.ListN.{length};
@@ -14,7 +14,7 @@ ghost use Rattle.area.specs.Encoding.{areaOf};
 ghost use Rattle.soundness.specs.Held.{levelsAt, backwardLink, countAt};
 ghost use Rattle.soundness.specs.Clauses.{checked};
 ghost use Rattle.soundness.specs.Test.{allFrom, anyFrom, indexTest, rootTest, backwardNeighbourTest, backwardLinkTest, forwardLinkTest, axisTest, placeTest, placesTest, barsTest, axisCompleteTest, placeCompleteTest, allCompleteTest};
-ghost use Rattle.soundness.specs.Totals.{wantedTest, allWantedTest, readingTest, blockTest, blocksTest, pendingIn, deliveredCount, jobTest, heldTest};
+ghost use Rattle.soundness.specs.Totals.{wantedTest, allWantedTest, readingTest, blockTest, blocksTest, pendingIn, carriedIn, deliveredCount, jobTest, numbersTest, heldTest};
 
 // Whether a level list is an index of a job with so many axes.
 fn index_fits(axes: usize, levels: [u32; 8]) -> bool
@@ -359,6 +359,25 @@ fn pending_sum(held: usize, cells: &[u32]) -> u64
     sum
 }
 
+// The sum of the indicators of the old indices at a ceiling, among eight axes as among the job's (`axes-alike`).
+fn carried_sum(held: usize, cells: &[u32]) -> u64
+    requires { ⌜ (length (recordsOf (now cells)) ≡ held) × (held ≤ 512) ⌝ }
+    requires { ⌜ ((p : ℕ) → p < held → Within (levelsAt (recordsOf (now cells)) p)) ⌝ }
+    ensures { λ r. ⌜ r ≡ carriedIn 8 (recordsOf (now (cells .entry))) ⌝ }
+{
+    let mut sum: u64 = 0;
+    let mut place: usize = 0;
+    while place < held {
+        if area::state_at(cells, place) == area::OLD {
+            if grid::at_ceiling(area::levels_at(cells, place)) {
+                sum += area::indicator_at(cells, place) as u64;
+            }
+        }
+        place += 1;
+    }
+    sum
+}
+
 // How many places are delivered.
 fn delivered_count(held: usize, cells: &[u32]) -> usize
     requires { ⌜ (length (recordsOf (now cells)) ≡ held) × (held ≤ 512) ⌝ }
@@ -423,6 +442,22 @@ fn job_fits(job: area::JobRecord, records: usize, readings: usize) -> bool
     job.held <= 512
 }
 
+// Whether the recorded errors are the sums over the held records, and the recorded mean is in range.
+fn numbers_fit(job: area::JobRecord, cells: &[u32]) -> bool
+    requires { ⌜ SettingsFit (job .settings) × (job .held ≤ 512) × (length (recordsOf (now cells)) ≡ job .held) ⌝ }
+    requires { ⌜ placesTest (job .settings .axes) (recordsOf (now cells)) ≡ true ⌝ }
+    ensures { λ r. ⌜ r ≡ numbersTest job (recordsOf (now (cells .entry))) ⌝ }
+{
+    let held = job.held as usize;
+    if pending_sum(held, cells) != job.pending {
+        return false;
+    }
+    if carried_sum(held, cells) != job.carried {
+        return false;
+    }
+    mean_fits(delivered_count(held, cells), job.mean)
+}
+
 // Whether the held records are sound. The cells are theirs alone.
 fn held_fit(job: area::JobRecord, cells: &[u32], store: &[i32]) -> bool
     requires { ⌜ SettingsFit (job .settings) × (job .held ≤ 512) ⌝ }
@@ -444,10 +479,7 @@ fn held_fit(job: area::JobRecord, cells: &[u32], store: &[i32]) -> bool
     if !blocks_fit(settings, held, job.reserved as usize, cells, store) {
         return false;
     }
-    if pending_sum(held, cells) != job.pending {
-        return false;
-    }
-    mean_fits(delivered_count(held, cells), job.mean)
+    numbers_fit(job, cells)
 }
 
 // Whether the area is sound and lies in storage that is long enough.

@@ -17,22 +17,14 @@ use Rattle.doubles.specs.Exact.{LosesNothing}
 use Rattle.doubles.proofs.Facts.{double-facts}
 use Rattle.area.specs.Entry.{Entry, deliveredOf, pendingOf}
 use Rattle.area.specs.Log.{Machine}
-use Rattle.encoding.specs.Entries.{entryAt, SoundMachine}
+use Rattle.area.proofs.Carried.{carried-facts}
+use Rattle.encoding.specs.Entries.{noEntry, entryAt, SoundMachine}
 use Rattle.encoding.proofs.Ranges.{delivered-few}
 use Rattle.machine.specs.Largest.{largestOf, DeliveredAt}
 use Rattle.machine.proofs.Largest.{largest-delivered, none-delivered}
 use Rattle.counting.specs.Doubles.{doublesOf, plusZero, ReportOfSound}
 
 -- ---- the pending error
-
-pub pending-few : (es : List Entry) → ((p : ℕ) → p < length es → entryAt es p .indicator < 2 ^ 32) → pendingOf es ≤ length es * 4294967295
-unfolding pendingOf
-pending-few [] h = omega arith
-pending-few (e ∷ es) h = by (eqb (e .state) 1) (h 0 (omega arith)) (pending-few es (λ p q. h (suc p) (omega arith)))
-  where
-    by : (t : Bool) → e .indicator < 2 ^ 32 → pendingOf es ≤ length es * 4294967295 → cond t (e .indicator) 0 + pendingOf es ≤ suc (length es) * 4294967295
-    by true i r = omega arith
-    by false i r = omega arith
 
 -- none is active
 pending-none : (es : List Entry) → ((p : ℕ) → DeliveredAt es p → ⊥) → pendingOf es ≡ 0
@@ -59,7 +51,7 @@ module _ (m : Machine) (sound : SoundMachine m) where
 
   pending : ((p : ℕ) → p < length es → entryAt es p .indicator < 2 ^ 32) → LosesNothing (doublesOf m .pending) (pos (pendingOf es)) 1
   unfolding doublesOf reportOf
-  pending h = double-facts .exact (pos (pendingOf es)) 0 (omega (arith, pending-few es h, sound .count .1)) (lit≤ tt)
+  pending h = double-facts .exact (pos (pendingOf es)) 0 (omega (arith, carried-facts .together (m .log .settings .axes) es noEntry (sound .count .1) h)) (lit≤ tt)
 
   largest : LosesNothing (doublesOf m .largest) (largestOf es) (2 ^ 20)
   unfolding doublesOf reportOf

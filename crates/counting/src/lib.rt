@@ -19,6 +19,7 @@ pub struct Counts {
     pub wanted: u32,
     pub reserved: u32,
     pub pending: u64,
+    pub carried: u64,
     pub mean: i64,
     pub ceiling: u32,
 }
@@ -73,6 +74,7 @@ pub fn result(job: area::JobRecord, cells: &[u32], store: &[i32]) -> Counts
         wanted,
         reserved: job.reserved,
         pending: job.pending,
+        carried: job.carried,
         mean: job.mean,
         ceiling,
     }

@@ -19,7 +19,7 @@ use Rattle.area.specs.Settings.{readingCount, leastStore}
 use Rattle.area.specs.Entry.{readingIn}
 use Rattle.area.specs.Log.{Machine}
 use Rattle.area.specs.Encoding.{Area, areaOf, heldOf, entriesOf, machineOf, written}
-use Rattle.area.proofs.Records.{length-recordsOf, indicator-in}
+use Rattle.area.proofs.Records.{length-recordsOf, indicators-small}
 use Rattle.quadrature.specs.Readings.{recordAt, storedReading}
 use Rattle.quadrature.specs.Ready.{Ready, AllReady}
 use Rattle.quadrature.proofs.Facts.{entry-facts}
@@ -92,6 +92,7 @@ module _ (j : JobRecord) (c : List ℕ) (s : List ℤ) (rs : List ℤ) (i : ℕ)
         held = j .held;
         reserved = j .reserved;
         pending = j .pending + i;
+        carried = j .carried;
         mean = after .mean;
       };
       run = stored (runOf c) place (withState (recordAt (recordsOf c) place) 1 i);
@@ -108,10 +109,7 @@ module _ (j : JobRecord) (c : List ℕ) (s : List ℤ) (rs : List ℤ) (i : ℕ)
     -- the sums stay in their types
     pub pending-fits : ((n : ℕ) → getD c n 0 < 2 ^ 32) → i < 2 ^ 32 → j .pending + i < 2 ^ 64
     pending-fits words h =
-        let small = range-facts .pending a (valid .sound) (λ p l.
-        let e = length-take-le (j .held) (recordsOf c) (valid .sound .held-lent) in
-        let here : p * 27 + 27 ≤ length c = omega (arith, e, held-there) in
-        omega (arith, words (p * 27 + 9), indicator-in c p here, ap (λ (r : IndexRecord). r .indicator) (getD-take (j .held) (recordsOf c) p blank (omega (arith, e))))) in
+        let small = range-facts .pending a (valid .sound) (indicators-small c (j .held) words) in
         omega arith
 
     pub mean-fits : natAbs (j .mean) + 2 ^ 40 ≤ 2 ^ 62
@@ -186,12 +184,12 @@ module _ (j : JobRecord) (c : List ℕ) (s : List ℤ) (rs : List ℤ) (i : ℕ)
 
       -- so the job record with the difference added makes the area that was to be written
       pub area-is : (m : ℤ) → m ≡ j .mean +ℤ scaledDifference (wantedIndex (entriesOf a)) (readingIn (deliverAt (entriesOf a) place rs i))
-          → areaOf (record { settings = j .settings; held = j .held; reserved = j .reserved; pending = j .pending + i; mean = m }) c₁ s₁ ≡ deliverOn a rs i
+          → areaOf (record { settings = j .settings; held = j .held; reserved = j .reserved; pending = j .pending + i; carried = j .carried; mean = m }) c₁ s₁ ≡ deliverOn a rs i
       unfolding deliverOn deliver machineOf
       area-is m e =
           (λ x.
           record {
-            job = record { settings = j .settings; held = j .held; reserved = j .reserved; pending = j .pending + i; mean = e x };
+            job = record { settings = j .settings; held = j .held; reserved = j .reserved; pending = j .pending + i; carried = j .carried; mean = e x };
             run = run x;
             store = store x;
           })

@@ -25,7 +25,7 @@ ghost use Rattle.writing.specs.ValidArea.{ValidArea};
 // Writes the root's record, wanted, and gives the job record of a job that was just started.
 pub fn start(settings: area::Settings, cells: &mut [u32]) -> area::JobRecord
     requires { ⌜ 27 ≤ length (now cells) ⌝ }
-    ensures job { λ r. ⌜ r ≡ record { settings = settings; held = 1; reserved = 1; pending = 0; mean = pos 0 } ⌝ }
+    ensures job { λ r. ⌜ r ≡ record { settings = settings; held = 1; reserved = 1; pending = 0; carried = 0; mean = pos 0 } ⌝ }
     ensures run { λ r. ⌜ runOf (now (cells .exit)) ≡ stored (runOf (now (cells .entry))) 0 rootRecord ⌝ }
 {
     let root = area::IndexRecord {
@@ -41,6 +41,7 @@ pub fn start(settings: area::Settings, cells: &mut [u32]) -> area::JobRecord
         held: 1,
         reserved: 1,
         pending: 0,
+        carried: 0,
         mean: 0,
     }
 }

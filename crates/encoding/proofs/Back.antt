@@ -17,7 +17,7 @@ use Rattle.area.specs.declared.JobRecord.{JobRecord}
 use Rattle.area.specs.Records.{Run, levelsOf}
 use Rattle.area.specs.declared.Settings.{Settings}
 use Rattle.area.specs.Settings.{readingCount, leastStore}
-use Rattle.area.specs.Entry.{Entry, reservedBy, pendingOf}
+use Rattle.area.specs.Entry.{Entry, reservedBy, pendingOf, carriedOf}
 use Rattle.area.specs.Log.{Machine}
 use Rattle.area.specs.Encoding.{Area, heldOf, entryOf, entriesOf, machineOf, none, recordsFor, storeFor, runWith, storeWith, jobWith}
 use Rattle.quadrature.specs.Readings.{recordAt, placeIn}
@@ -147,6 +147,10 @@ module _ (a : Area) (m : Machine) (e : Encodes a m) where
     unfolding jobWith
     pending-is = ap (λ (j : JobRecord). j .pending) (e .job)
 
+    carried-is : a .job .carried ≡ carriedOf (g .axes) es
+    unfolding jobWith
+    carried-is = ap (λ (j : JobRecord). j .carried) (e .job)
+
     -- a delivered entry has all its block's readings, so the store has them
     stored-there : (p n : ℕ) → p < length rs → 1 ≤ stateAt rs p → n < readingCount (a .job .settings) (levelsAt rs p) → recordAt rs p .first + n < length s
     stored-there p n h d l =
@@ -173,6 +177,7 @@ module _ (a : Area) (m : Machine) (e : Encodes a m) where
           reserved = reserved-is ∙ ap reservedBy (sym read);
           within-budget = omega (arith, reserved-is, of-area .within-budget, ap reservedBy read);
           pending = pending-is ∙ ap pendingOf (sym read);
+          carried = carried-is ∙ ap₂ (λ (h : Settings) xs. carriedOf (h .axes) xs) (sym settings-are) (sym read);
           mean = of-area .mean;
         }
 

@@ -4,7 +4,7 @@ use Rattle.encoding.specs.Encodes.{encodedArea}
 use Rattle.encoding.specs.Facts.{EncodingFacts, RangeFacts}
 use Rattle.encoding.proofs.Cells.{held-well-formed}
 use Rattle.encoding.proofs.Store.{blocks-of}
-use Rattle.encoding.proofs.Ranges.{block-within, reserved-within, pending-within, mean-within}
+use Rattle.encoding.proofs.Ranges.{block-within, reserved-within, pending-within, errors-within, mean-within}
 use Rattle.encoding.proofs.Forth.{sound-entries, sound-encodes}
 use Rattle.encoding.proofs.Back.{machine-is, encodes-sound, area-encodes, area-long}
 
@@ -23,4 +23,4 @@ encoding-facts =
     }
 
 pub range-facts : RangeFacts
-range-facts = record { block = block-within; reserved = reserved-within; pending = pending-within; mean = mean-within }
+range-facts = record { block = block-within; reserved = reserved-within; pending = pending-within; errors = errors-within; mean = mean-within }

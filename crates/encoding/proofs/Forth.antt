@@ -117,6 +117,7 @@ module _ (a : Area) (sound : Sound a) (room : leastStore (a .job .settings) ≤ 
       held = sym entries-count i;
       reserved = sound .numbers .reserved i;
       pending = sound .numbers .pending i;
+      carried = sound .numbers .carried i;
       mean = a .job .mean;
     }
 

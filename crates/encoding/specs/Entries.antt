@@ -1,6 +1,6 @@
 -- The clauses of soundness that speak of the machine's state: settings, entries and mean. What must hold of a state, so that the area
--- that encodes it is sound and reads back as that state. In the scope document's order; links, first readings, reserved and pending error
--- are what the encoding makes of them. An entry's state is 0 (wanted), 1 (active) or 2 (old).
+-- that encodes it is sound and reads back as that state. In the scope document's order; links, first readings, reserved, pending and carried
+-- error are what the encoding makes of them. An entry's state is 0 (wanted), 1 (active) or 2 (old).
 use mathlib.Core.Path.{_≡_}
 use mathlib.Core.List.{List, []}
 use Prim.Native.Nat.{ℕ, _*_, _^_, _<_, _≤_}

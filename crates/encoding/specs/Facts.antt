@@ -33,7 +33,7 @@ pub record EncodingFacts : Type 0 where
   -- and where the storage was long enough, it is so after writing
   pub long : (m : Machine) (u : Run) (s : List ℤ) → 512 ≤ length (u .records) → leastStore (m .log .settings) ≤ length s → LongEnough (encodedArea m u s)
 
--- Ranges in a sound area: blocks, reserved, pending error and mean.
+-- Ranges in a sound area: blocks, reserved, the two errors and the mean.
 pub record RangeFacts : Type 0 where
   -- the block of a held index ends within the least store, so in every store that is long enough
   pub block : (a : Area) → Sound a → (p : ℕ) → p < length (heldOf a)
@@ -42,5 +42,7 @@ pub record RangeFacts : Type 0 where
   pub reserved : (a : Area) → Sound a → a .job .reserved ≤ 8192
   -- where indicators are 32-bit numbers, the pending error is below 2^41
   pub pending : (a : Area) → Sound a → ((p : ℕ) → p < length (heldOf a) → recordAt (heldOf a) p .indicator < 2 ^ 32) → a .job .pending < 2 ^ 41
+  -- and so are the pending and the carried error together
+  pub errors : (a : Area) → Sound a → ((p : ℕ) → p < length (heldOf a) → recordAt (heldOf a) p .indicator < 2 ^ 32) → a .job .pending + a .job .carried < 2 ^ 41
   -- the scaled mean is below 2^50 in size, also after one more difference
   pub mean : (a : Area) → Sound a → natAbs (a .job .mean) + 2 ^ 40 < 2 ^ 50

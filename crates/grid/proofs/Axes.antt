@@ -2,7 +2,7 @@
 -- The idea: what is appended stands behind the axes that change, and at level 1 there is one level and one point, the centre.
 -- Assumes nothing.
 use mathlib.Core.Path.{_≡_, refl, sym, ap, ap₂, _∙_, fun-ext}
-use mathlib.Core.Bool.{cond}
+use mathlib.Core.Bool.{true, cond}
 use mathlib.Core.List.{List, [], _∷_, _++_, map, map-append, head-eq-of-cons-eq, tail-eq-of-cons-eq}
 use Prim.Native.Nat.{ℕ, zero, suc, _+_, _-_, _<_, _≤_}
 use native.Mathlib.Omega.{arith}
@@ -13,7 +13,7 @@ use Rattle.sums.specs.Sums.{sumOf}
 use Rattle.rule.specs.Points.{points}
 use Rattle.rule.specs.Rules.{wholeRule, unitStep, differenceRule}
 use Rattle.rule.proofs.Rules.{centre}
-use Rattle.grid.specs.Index.{level, Within, within, Index, root, forward, backward, cappedAxes, NowhereHigher, inFront, lower}
+use Rattle.grid.specs.Index.{level, Within, within, Index, root, forward, backward, cappedAxes, atCeiling, NowhereHigher, inFront, lower}
 use Rattle.grid.specs.Terms.{tensorProduct, pad, centred}
 use Rattle.grid.proofs.Levels.{within-sure, within-back, higher-cons, higher-empty, higher-not-empty, higher-head-low, higher-head-high, higher-tail}
 use Rattle.grid.proofs.LevelOne.{within-same}
@@ -105,6 +105,12 @@ unfolding cappedAxes
 capped-same zero k m h = refl
 capped-same (suc a) k m h =
     ap₂ (λ n t. n + cond t 0 1) (capped-same a k m (omega arith)) (ap within (forward-same k m a (omega arith)) ∙ within-same (forward k a) m)
+
+pub ceiling-same : (d : ℕ) (k : List ℕ) (m : ℕ) → d ≤ length k → atCeiling d (pad m k) ≡ atCeiling d k
+unfolding atCeiling
+ceiling-same zero k m h = refl
+ceiling-same (suc a) k m h =
+    ap₂ (λ c t. cond t c true) (ceiling-same a k m (omega arith)) (ap within (forward-same k m a (omega arith)) ∙ within-same (forward k a) m)
 
 -- ---- nowhere higher
 

@@ -105,6 +105,7 @@ level-one-facts =
       forward-same = Axes.forward-same;
       backward-same = Axes.backward-same;
       capped-same = Axes.capped-same;
+      ceiling-same = Axes.ceiling-same;
       higher-same = Axes.higher-same;
       higher-back = Axes.higher-back;
       lower-same = Axes.lower-same;

@@ -1,15 +1,16 @@
 -- What is proved of the grid, a field for each fact; proofs/Facts.antt has a value of each record.
 use mathlib.Core.Path.{_≡_}
-use mathlib.Core.Logic.{_≢_}
+use mathlib.Core.Logic.{_≢_, _⊎_}
 use mathlib.Core.Bool.{true, cond}
 use mathlib.Core.List.{List, [], _++_, map, List·Memᴰ}
 use Prim.Native.Nat.{ℕ, suc, _+_, _*_, _-_, _/_, _%_, _^_, _<_, _≤_}
+use lib.Dec.{ltb}
 use lib.IntN.{ℤ, pos, natAbs, _+ℤ_, _*ℤ_}
 use lib.ListN.{length, getD, take, drop, replicate}
 use Rattle.sums.specs.Sums.{sumTo, sumOf}
 use Rattle.rule.specs.Points.{levelOf}
 use Rattle.rule.specs.Rules.{wholeRule, differenceRule}
-use Rattle.grid.specs.Index.{level, excess, Within, levelsWithin, within, Index, root, forward, backward, cappedAxes, NowhereHigher, lower}
+use Rattle.grid.specs.Index.{level, excess, Within, levelsWithin, within, Index, root, forward, backward, cappedAxes, atCeiling, NowhereHigher, lower}
 use Rattle.grid.specs.Block.{block, blockSize, pointAfter, pointOf, rankIn, newOnEach}
 use Rattle.grid.specs.Difference.{Readings, units, differenceProduct, differenceSum, scaledDifference, differenceWalk, scaledMean}
 use Rattle.grid.specs.Coefficient.{isIn, subsets, sign, raisedOn, coefficient, marks}
@@ -44,6 +45,20 @@ pub record IndexFacts : Type 0 where
   pub in-back : (J : List (List ℕ)) (k : List ℕ) → List·Memᴰ k J → isIn J k ≡ true
   -- within the ceilings the units of eight axes come to 20 at most
   pub units-small : (k : List ℕ) → length k ≡ 8 → Within k → units k ≤ 20
+
+-- ---- indices at a ceiling
+
+pub record CeilingFacts : Type 0 where
+  -- the test says yes exactly if a forward neighbour along one of d axes is past a ceiling
+  pub sure : (d : ℕ) (k : List ℕ) → atCeiling d k ≡ true → (a : ℕ) × (a < d) × (Within (forward k a) → ⊥)
+  pub back : (d : ℕ) (k : List ℕ) (a : ℕ) → a < d → (Within (forward k a) → ⊥) → atCeiling d k ≡ true
+  -- if the forward neighbour of an index within the ceilings is past one, it has level 9 or an excess of 13
+  pub nine-or-thirteen : (k : List ℕ) (a : ℕ) → length k ≡ 8 → a < 8 → Within k → (Within (forward k a) → ⊥)
+      → (level (forward k a) a ≡ 9) ⊎ (excess (forward k a) ≡ 13)
+  -- an index is at a ceiling exactly if `cappedAxes` counts an axis
+  pub counted : (d : ℕ) (k : List ℕ) → atCeiling d k ≡ ltb 0 (cappedAxes d k)
+  -- the axes beyond d decide nothing: along them an index of d axes stands at level 1, so only the excess can stop it, and that along every axis
+  pub axes-alike : (d : ℕ) (k : List ℕ) → 1 ≤ d → d ≤ 8 → Index d k → atCeiling 8 k ≡ atCeiling d k
 
 -- ---- blocks, for levels from 1 to 8
 
@@ -154,6 +169,7 @@ pub record LevelOneFacts : Type 0 where
   pub backward-same : (k : List ℕ) (m a : ℕ) → a < length k → backward (pad m k) a ≡ pad m (backward k a)
   -- along how many of the first d axes the forward neighbour passes a ceiling
   pub capped-same : (d : ℕ) (k : List ℕ) (m : ℕ) → d ≤ length k → cappedAxes d (pad m k) ≡ cappedAxes d k
+  pub ceiling-same : (d : ℕ) (k : List ℕ) (m : ℕ) → d ≤ length k → atCeiling d (pad m k) ≡ atCeiling d k
   -- nowhere higher, both ways; and the indices nowhere higher are the same, each with level 1 appended
   pub higher-same : (l k : List ℕ) (m : ℕ) → NowhereHigher l k → NowhereHigher (pad m l) (pad m k)
   pub higher-back : (l k : List ℕ) (m : ℕ) → NowhereHigher (pad m l) (pad m k) → NowhereHigher l k

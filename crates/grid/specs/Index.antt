@@ -2,7 +2,7 @@
 -- An *index* is a list of levels, one for each axis; in storage it always has eight, and the axes beyond the job's stand at
 -- level 1, whose rule is one point of weight 1. Axis 1 is at place 0 of the list.
 use mathlib.Core.Path.{_≡_}
-use mathlib.Core.Bool.{Bool, true, cond, _&&_}
+use mathlib.Core.Bool.{Bool, true, false, cond, _&&_}
 use mathlib.Core.List.{List, [], _∷_, _++_, map}
 use Prim.Native.Nat.{ℕ, zero, suc, _+_, _-_, _<_, _≤_}
 use lib.Dec.{leb}
@@ -55,6 +55,11 @@ backward k a = set k a (level k a - 1)
 unfoldable pub cappedAxes : ℕ → List ℕ → ℕ
 cappedAxes zero k = 0
 cappedAxes (suc a) k = cappedAxes a k + cond (within (forward k a)) 0 1
+
+-- k is *at a ceiling*: along at least one axis below d its forward neighbour passes a ceiling.
+unfoldable pub atCeiling : ℕ → List ℕ → Bool
+atCeiling zero k = false
+atCeiling (suc a) k = cond (within (forward k a)) (atCeiling a k) true
 
 -- l is nowhere higher than k: as many levels, each from 1 to k's.
 pub record NowhereHigher (l k : List ℕ) : Type 0 where

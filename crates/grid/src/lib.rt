@@ -1,7 +1,7 @@
 // Indices by value: ceilings, neighbours, blocks and their points, subsets of the axes as masks.
 ghost use mathlib.Core.Path.{_≡_};
 ghost use Prim.Native.Nat.{_≤_, _<_};
-ghost use Rattle.grid.specs.Index.{level, excess, Within, within, forward, backward, cappedAxes};
+ghost use Rattle.grid.specs.Index.{level, excess, Within, within, forward, backward, cappedAxes, atCeiling};
 ghost use Rattle.grid.specs.Block.{turned, blockSize, pointOf};
 ghost use Rattle.grid.specs.Coefficient.{sign, marks};
 
@@ -56,6 +56,26 @@ pub fn capped_axes(axes: usize, levels: [u32; 8]) -> u32
         axis += 1;
     }
     count
+}
+
+// Whether an index is at a ceiling. An index of fewer axes is asked as one of eight, which comes to the same. All levels are looked at, since a
+// loop of fixed length that never leaves early takes several at a time.
+pub fn at_ceiling(levels: [u32; 8]) -> bool
+    requires { ⌜ Within levels ⌝ }
+    ensures { λ r. ⌜ r ≡ atCeiling 8 levels ⌝ }
+{
+    if 12 <= excess_of(levels) {
+        return true;
+    }
+    let mut highest = false;
+    let mut axis: usize = 0;
+    while axis < 8 {
+        if 8 <= levels[axis] {
+            highest = true;
+        }
+        axis += 1;
+    }
+    highest
 }
 
 // How many points the block of an index has.

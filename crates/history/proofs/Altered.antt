@@ -77,7 +77,7 @@ module _ (a : Area) (x : ℤ) (v : ValidArea a) (fits : MeanFits a x) where
         wanted-indicator-zero = s .wanted-indicator-zero;
         first-readings = s .first-readings;
         readings = s .readings;
-        numbers = record { reserved = s .numbers .reserved; within-budget = s .numbers .within-budget; pending = s .numbers .pending; mean = fits };
+        numbers = record { reserved = s .numbers .reserved; within-budget = s .numbers .within-budget; pending = s .numbers .pending; carried = s .numbers .carried; mean = fits };
       }
 
   valid-with : ValidArea (withMean a x)
@@ -192,7 +192,7 @@ module _ (a : Area) (g : Settings) (rs : List ℤ) (i : ℕ) (fit : SettingsFit 
 abbrev unused : Area
 unused =
     record {
-      job = record { settings = settingsOf 1 0 1; held = 0; reserved = 0; pending = 0; mean = pos 0 };
+      job = record { settings = settingsOf 1 0 1; held = 0; reserved = 0; pending = 0; carried = 0; mean = pos 0 };
       run = record { records = replicate 512 blank; rest = [] };
       store = pos 0 ∷ [];
     }

@@ -11,24 +11,26 @@ use Rattle.sums.specs.Sums.{sumTo, sumOf}
 use Rattle.rule.specs.Points.{newPoints, newCount, newPoint}
 use Rattle.rule.specs.Rules.{unit}
 use Rattle.rule.specs.Weights.{wholeWeight, endsOne, differenceWeight}
-use Rattle.grid.specs.Index.{root, excess, levelsWithin, within, cappedAxes, forward, backward}
+use Rattle.grid.specs.Index.{root, excess, levelsWithin, within, cappedAxes, atCeiling, forward, backward}
 use Rattle.grid.specs.Block.{directed, turned, rows, blockAfter, block, blockSize, pointAfter, pointOf}
 use Rattle.grid.specs.Difference.{units, behind}
 use Rattle.grid.specs.Tensor.{tensorSum, tensorRule}
 use Rattle.grid.specs.Coefficient.{sameLevels, isIn, subsets, sign, raisedOn, coefficient}
 use Rattle.grid.specs.Cross as grid-cross
 use Rattle.grid.specs.Boundary.{pair}
-use Rattle.area.specs.Entry.{deliveredOf, readingsOf, readingIn, reservedBy, pendingOf}
+use Rattle.area.specs.Entry.{deliveredOf, readingsOf, readingIn, reservedBy, pendingOf, carriedOf}
 use Rattle.soundness.specs.Test.{allFrom}
 use Rattle.area.specs.Settings.{axesFit, budgetFit, readingsFor, readingCount, leastStore}
 use Rattle.area.specs.Log.{Log, Machine, withEntries}
 use Rattle.encoding.specs.Entries.{SoundMachine}
 use Rattle.machine.specs.Log.{wanted, firstWanted, anyWanted, wantedIndex}
+use Rattle.machine.specs.Choose as choice
+use Rattle.machine.specs.Choose.{selected}
 use Rattle.machine.specs.Promote as rule
 use Rattle.machine.specs.Points.{pointsFitting, positionsOf, writtenOver}
 use Rattle.machine.specs.Admitted.{Exceeds, IndexPlace}
 use Rattle.machine.proofs.Facts.{step-facts}
-use Rattle.machine.proofs.Limits.{above-not-met, promote-above, not-met-above}
+use Rattle.machine.proofs.Answers.{above-refined, met-if, capped-if, met-only, capped-only, spent-above}
 use Rattle.machine.proofs.Spent.{admitted-facts}
 use Rattle.machine.specs.Steps as steps
 use Rattle.machine.specs.Steps.{deliverAt, delivered}
@@ -59,52 +61,28 @@ use Rattle.history.specs.Logged.{stateOf, logStep, answerBy, answersBy}
 use Rattle.history.specs.OnExports.{callOf, verdictNumber, exportAnswer, exportAnswersBy}
 use Rattle.history.specs.Excluded.{refined, SelectsIndex, ListsNext, Excluded, fileCalls, answersAfter, fileExports, CallCases}
 
--- a promotion that is spent is above the threshold
-pub spent-above : (l : Log) → rule.promote l .outcome ≡ rule.spent → l .settings .threshold < pendingOf (l .entries)
-spent-above l e = not-met-above l (λ m. not-met (sym m ∙ e))
-  where
-    not-met : rule.met ≡ rule.spent → ⊥
-    not-met m = let y : _≡_ {A = ℕ} 0 1 = cc in omega arith
-
 -- in a sound state above the threshold the selected place is an entry's, which has a level for each axis
 pub selects-index : (m : Machine) → SoundMachine m → m .log .settings .threshold < pendingOf (m .log .entries) → SelectsIndex (m .log)
-selects-index m v h = admitted-facts .sound-place m (rule.selected (m .log .entries)) v (step-facts .selects (m .log) (above-not-met (m .log) h) .0) .levels
+selects-index m v h = admitted-facts .sound-place m (selected (m .log .entries)) v (step-facts .selects (m .log) h .0) .levels
 
 -- the selected place
 module _ (l : Log) (ks : List (List ℕ)) (levels : SelectsIndex l) (these : ListsNext l ks) where
-  place : (rule.isMet l ≡ true → ⊥) → IndexPlace l (rule.selected (l .entries))
-  place n = record { inside = step-facts .selects l n .0; levels = levels }
+  place : l .settings .threshold < pendingOf (l .entries) → IndexPlace l (selected (l .entries))
+  place h = record { inside = step-facts .selects l h .0; levels = levels }
+
+  refined-here : l .settings .threshold < pendingOf (l .entries) → rule.promote l .outcome ≡ rule.promoteAt l (selected (l .entries)) .outcome
+  refined-here h = ap (λ (x : rule.Promotion). x .outcome) (above-refined l h)
 
   pub spent-if : l .settings .threshold < pendingOf (l .entries) → Exceeds l ks → rule.promote l .outcome ≡ rule.spent
-  spent-if h x = promote-above l (above-not-met l h) ∙ admitted-facts .spent l (rule.selected (l .entries)) ks (place (above-not-met l h)) these x
+  spent-if h x = refined-here h ∙ admitted-facts .spent l (selected (l .entries)) ks (place h) these x
 
   pub promoted-if : l .settings .threshold < pendingOf (l .entries) → (Exceeds l ks → ⊥) → rule.promote l .outcome ≡ rule.promoted
-  promoted-if h n = promote-above l (above-not-met l h) ∙ admitted-facts .promoted l (rule.selected (l .entries)) ks (place (above-not-met l h)) these n
+  promoted-if h n = refined-here h ∙ admitted-facts .promoted l (selected (l .entries)) ks (place h) these n
 
   pub only-if : rule.promote l .outcome ≡ rule.spent → (l .settings .threshold < pendingOf (l .entries)) × Exceeds l ks
   only-if e =
       let h : l .settings .threshold < pendingOf (l .entries) = spent-above l e in
-      (h, admitted-facts .spent-only l (rule.selected (l .entries)) ks (place (above-not-met l h)) these (sym (promote-above l (above-not-met l h)) ∙ e))
-
-module _ (l : Log) where
-  abbrev more : rule.Promotion
-  more = record { outcome = rule.promoted; log = withEntries l (refined l) }
-
-  abbrev given : Bool → Bool → rule.Promotion
-  given t u = cond t (record { outcome = rule.met; log = l }) (cond u more (record { outcome = rule.spent; log = l }))
-
-  met-if : pendingOf (l .entries) ≤ l .settings .threshold → rule.promote l .outcome ≡ rule.met
-  unfolding rule.promote rule.isMet
-  met-if h = rw (le-leb (pendingOf (l .entries)) (l .settings .threshold) h) refl
-
-  met-only-if : rule.promote l .outcome ≡ rule.met → pendingOf (l .entries) ≤ l .settings .threshold
-  unfolding rule.promote rule.promoteAt rule.isMet
-  met-only-if e = step (leb (pendingOf (l .entries)) (l .settings .threshold)) (rule.fits (l .settings .budget) (refined l)) refl e
-    where
-      step : (t u : Bool) → leb (pendingOf (l .entries)) (l .settings .threshold) ≡ t → given t u .outcome ≡ rule.met → pendingOf (l .entries) ≤ l .settings .threshold
-      step true u f g = leb-true (pendingOf (l .entries)) (l .settings .threshold) f
-      step false true f g = let y : _≡_ {A = ℕ} 0 1 = cc in absurd (omega arith)
-      step false false f g = let y : _≡_ {A = ℕ} 0 1 = cc in absurd (omega arith)
+      (h, admitted-facts .spent-only l (selected (l .entries)) ks (place h) these (sym (refined-here h) ∙ e))
 
 -- ---- in a valid area no cause but a call's own refuses it
 module _ (a : Area) (s : ValidArea a) where
@@ -173,14 +151,19 @@ excluded =
       later-means = unfold crossOf grid-cross.crossTotal deliveredOf readingIn readingsOf coefficient sumOf subsets sign raisedOn isIn sameLevels tensorRule tensorSum units unit sumTo wholeWeight endsOne newCount behind blockSize pair in (refl, refl);
       reserved-counted = unfold reservedBy blockSize newCount pair in refl;
       states-counted = unfold countsOf countOf stateOf in (refl, refl, refl);
+      carried-counted = unfold countsOf stateOf carriedOf atCeiling within levelsWithin excess forward pair in refl;
       ceiling-counted = unfold countsOf stateOf ceilingCount cappedAxes within levelsWithin excess forward pair in refl;
-      met = met-if;
-      met-only = met-only-if;
+      met = λ l h. ap (λ (x : rule.Promotion). x .outcome) (met-if l h);
+      met-only = met-only;
+      capped = λ l h k. ap (λ (x : rule.Promotion). x .outcome) (capped-if l h k);
+      capped-only = capped-only;
+      equal-met = λ l e z. ap (λ (x : rule.Promotion). x .outcome) (met-if l (omega (arith, e, z)));
+      equal-met-only = λ l e q. omega (arith, e, met-only l q);
       promoted = promoted-if;
       spent = spent-if;
       spent-only = only-if;
       selects-index = selects-index;
-      four-held = unfold rule.promote rule.promoteAt rule.refine rule.makeOld rule.madeOld rule.selected rule.firstActive rule.largest rule.isMet rule.fits rule.admittedAxes rule.passing rule.admits rule.backwardOld rule.isOld within levelsWithin excess forward backward allFrom sameLevels pair pendingOf reservedBy blockSize newCount wanted in refl;
+      four-held = unfold carriedOf rule.promote rule.promoteAt rule.refine rule.makeOld rule.madeOld choice.choose choice.selected choice.firstActive choice.largest choice.isOver choice.isMet rule.promoteBy rule.fits rule.admittedAxes rule.passing rule.admits rule.backwardOld rule.isOld within levelsWithin excess forward backward allFrom sameLevels pair pendingOf reservedBy blockSize newCount wanted in refl;
       one-old = unfold rule.admits rule.backwardOld rule.isOld within levelsWithin excess forward backward allFrom sameLevels pair in refl;
       both-old = unfold rule.admits rule.backwardOld rule.isOld within levelsWithin excess forward backward allFrom sameLevels pair in refl;
       level-one = unfold rule.admits rule.backwardOld rule.isOld within levelsWithin excess forward backward allFrom sameLevels pair in refl;
@@ -189,5 +172,5 @@ excluded =
     }
 
 pub call-cases : CallCases
-unfolding answersAfter axesFit budgetFit readingsFor readingCount leastStore startCauses pointOf pointAfter turned newPoint answersBy answerBy answerOf acceptedAnswer refusedAnswer passesCheck refusal causesOf effectOf row promotionEffect changed stateAfter stateOf logStep fileCalls firstCause short inRange anyWanted firstWanted wanted root steps.started steps.deliver steps.promoteStep deliverAt delivered rule.promote rule.promoteAt rule.refine rule.makeOld rule.madeOld rule.selected rule.firstActive rule.largest rule.isMet rule.fits rule.admittedAxes rule.passing rule.admits rule.backwardOld rule.isOld within levelsWithin excess forward backward allFrom sameLevels countsOf countOf cappedAxes ceilingCount reservedBy pendingOf crossOf grid-cross.crossTotal deliveredOf readingIn readingsOf coefficient sumOf subsets sign raisedOn isIn tensorRule tensorSum units unit sumTo wholeWeight endsOne newCount behind blockSize pointsFitting positionsOf writtenOver block blockAfter rows directed newPoints callOf verdictNumber exportAnswer exportAnswersBy fileExports lowWord highWord numberOf pointsAfter outcomeWord outcomeAfter countsAfter totalAfter
-call-cases = record { large-pending = refl; number-returned = λ n. refl; between = refl; many-points = refl; mean-zero = refl; threshold-equal = refl; budget-four = refl; budget-five = refl; file = refl; start-order = refl; wanted-order = refl; delivered-order = refl; file-words = refl; other-words = refl; ceiling-axes = (refl, refl, refl) }
+unfolding answersAfter axesFit budgetFit readingsFor readingCount leastStore startCauses pointOf pointAfter turned newPoint answersBy answerBy answerOf acceptedAnswer refusedAnswer passesCheck refusal causesOf effectOf row promotionEffect changed stateAfter stateOf logStep fileCalls firstCause short inRange anyWanted firstWanted wanted root steps.started steps.deliver steps.promoteStep deliverAt delivered rule.promote rule.promoteAt rule.refine rule.makeOld rule.madeOld choice.choose choice.selected choice.firstActive choice.largest choice.isOver choice.isMet rule.promoteBy rule.fits rule.admittedAxes rule.passing rule.admits rule.backwardOld rule.isOld within levelsWithin excess forward backward allFrom sameLevels countsOf countOf cappedAxes atCeiling ceilingCount reservedBy pendingOf carriedOf crossOf grid-cross.crossTotal deliveredOf readingIn readingsOf coefficient sumOf subsets sign raisedOn isIn tensorRule tensorSum units unit sumTo wholeWeight endsOne newCount behind blockSize pointsFitting positionsOf writtenOver block blockAfter rows directed newPoints callOf verdictNumber exportAnswer exportAnswersBy fileExports lowWord highWord numberOf pointsAfter outcomeWord outcomeAfter countsAfter totalAfter pair
+call-cases = record { capped-word = refl; met-carried = refl; capped-together = refl; met-together = refl; large-carried = refl; large-pending = refl; number-returned = λ n. refl; between = refl; many-points = refl; mean-zero = refl; threshold-equal = refl; budget-four = refl; budget-five = refl; file = refl; start-order = refl; wanted-order = refl; delivered-order = refl; file-words = refl; other-words = refl; ceiling-axes = (refl, refl, refl) }

@@ -82,6 +82,7 @@ steps-of m f c =
           old-here = x .underway .old-here;
           not-old = x .underway .active;
           pending = x .underway .pending;
+          carried = x .underway .carried;
           result = ap (λ y. y +ℤ sumOf (wantedOf (m .log .entries)) (increment P)) (sym (combined m f)) ∙ x .underway .result;
           went-on = x .went-on;
         }

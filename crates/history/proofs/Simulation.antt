@@ -1,14 +1,16 @@
 -- Where the machine has the state of Fig. 1, so has its log.
--- The idea: the mean is the combination sum, and promote, called next, is not refused and answers *met* exactly if the loop's test fails.
+-- The idea: the mean is the combination sum, and promote, called next, is not refused and answers *met* or *capped* exactly if the loop's
+-- test fails.
 -- Assumes nothing.
 use mathlib.Core.Path.{_≡_, refl, ap, sym, _∙_, subst}
 use mathlib.Core.Bool.{Bool, true, false, cond}
-use Prim.Native.Nat.{ℕ, suc, _<_, _≤_}
+use Prim.Native.Nat.{ℕ, suc, _+_, _<_, _≤_}
 use native.Mathlib.Omega.{arith}
 use borrow.Author.Tests.{eqb-true}
 use lib.Dec.{eqb}
 use lib.ListN.{length}
 use Rattle.area.specs.Settings.{leastStore}
+use Rattle.area.specs.Entry.{pendingOf}
 use Rattle.area.specs.Log.{Log, Machine}
 use Rattle.machine.specs.Log.{firstWanted}
 use Rattle.machine.specs.Promote as rule
@@ -16,7 +18,7 @@ use Rattle.machine.specs.Steps as steps
 use Rattle.machine.specs.Causes.{Lengths}
 use Rattle.machine.specs.Means.{crossOf}
 use Rattle.machine.proofs.Wanted.{first-none}
-use Rattle.machine.proofs.Limits.{is-met}
+use Rattle.machine.proofs.Answers.{met-only, capped-only, refined-above, spent-above}
 use Rattle.machine.proofs.Facts.{step-facts}
 use Rattle.machine.proofs.Means.{mean-facts}
 use Rattle.calls.specs.Replies.{refused, promotion}
@@ -24,6 +26,7 @@ use Rattle.calls.proofs.Tests as tests
 use Rattle.published.specs.Figure.{Problem, loopCondition, select, turn, turns}
 use Rattle.published.specs.Turns.{Simulates, ExceedsLimits, PromotionFollows}
 use Rattle.published.proofs.OneTurn.{next-spent, next-spent-only, next-once, next-promoted, promotion-follows}
+use Rattle.published.proofs.Outcomes.{above-goes-on}
 use Rattle.published.proofs.Facts.{published-facts}
 use Rattle.calls.specs.Table.{promote, result, Answer, answer, row, acceptedAnswer, refusedAnswer, refusal, answerOf}
 use Rattle.history.specs.LentCalls.{LentCall, lengthsLent}
@@ -57,20 +60,24 @@ module _ (P : Problem) (m : Machine) (n : ℕ) (invariant : MachineInvariant m) 
   answers z h k e = promote-answer z (m .log) (tests.enough z (m .log .settings) h k) free ∙ ap (λ o. answer (promotion o)) e
 
   -- where the loop's test holds the threshold is passed
-  above : loopCondition P (turns P n) ≡ true → rule.isMet (m .log) ≡ true → ⊥
-  above g e = published-facts .goes-on P m (turns P n) simulates g (is-met (m .log) e)
+  above : loopCondition P (turns P n) ≡ true → m .log .settings .threshold < pendingOf (m .log .entries)
+  above g = let x = published-facts .goes-on P m (turns P n) simulates g in refined-above (m .log) (x .0) (x .1)
 
-  -- a promotion that is spent is not met, so the test held
+  -- where promote is met or capped the test fails, and the errors together compare so with TOL
+  ended-met : rule.promote (m .log) .outcome ≡ rule.met → (loopCondition P (turns P n) ≡ true → ⊥) × (turns P n .estimate + turns P n .carried ≤ P .tolerance)
+  ended-met o =
+      (λ g. published-facts .goes-on P m (turns P n) simulates g .0 o, omega (arith, met-only (m .log) o, simulates .pending, simulates .carried, simulates .posed .tolerance))
+
+  ended-capped : rule.promote (m .log) .outcome ≡ rule.capped → (loopCondition P (turns P n) ≡ true → ⊥) × (P .tolerance < turns P n .estimate + turns P n .carried)
+  ended-capped o =
+      (λ g. published-facts .goes-on P m (turns P n) simulates g .1 o, omega (arith, capped-only (m .log) o .1, simulates .pending, simulates .carried, simulates .posed .tolerance))
+
+  -- a promotion that is spent is above it, so the test held
   spent-outcome : rule.promote (m .log) .outcome ≡ rule.spent → (loopCondition P (turns P n) ≡ true) × ExceedsLimits (m .log .settings .budget) (turns P (suc n))
   unfolding turns
-  spent-outcome o = step (loopCondition P (turns P n)) refl
-    where
-      step : (t : Bool) → loopCondition P (turns P n) ≡ t → (loopCondition P (turns P n) ≡ true) × ExceedsLimits (m .log .settings .budget) (turn P (turns P n))
-      step true q = (q, next-spent-only P m (turns P n) (invariant .sound) simulates (above q) o)
-      step false q =
-          let is : rule.promote (m .log) .outcome ≡ rule.met = published-facts .over P m (turns P n) simulates (λ f. let y : _≡_ {A = ℕ} 0 1 = cc in omega arith) in
-          let y : _≡_ {A = ℕ} 0 1 = cc in
-          absurd (omega arith)
+  spent-outcome o =
+      let h = spent-above (m .log) o in
+      (above-goes-on P m (turns P n) simulates h, next-spent-only P m (turns P n) (invariant .sound) simulates h o)
 
   log-after : (x : LentCall) → x .call ≡ promote → answerBy (lengthsLent (x .part)) (m .log) promote ≡ answer (promotion rule.promoted) → logStep (m .log) x ≡ rule.promote (m .log) .log
   log-after x is e =
@@ -94,10 +101,16 @@ module _ (P : Problem) (m : Machine) (n : ℕ) (invariant : MachineInvariant m) 
         active = simulates .active;
         result = sym (combined m invariant) ∙ simulates .result;
         pending = simulates .pending;
+        carried = simulates .carried;
         simulates = subst (λ (s : Machine). Simulates P s (turns P n)) (from-log m invariant) simulates;
         went-on = went-on;
-        over = λ z h k f. answers z h k (published-facts .over P m (turns P n) simulates f);
-        goes-on = λ z g e. published-facts .goes-on P m (turns P n) simulates g (answered z (m .log) rule.met e .1);
+        over-met = λ z h k f e. answers z h k (published-facts .over-met P m (turns P n) simulates f e);
+        over-capped = λ z h k f e. answers z h k (published-facts .over-capped P m (turns P n) simulates f e);
+        met-only = λ z e. ended-met (answered z (m .log) rule.met e .1);
+        capped-only = λ z e. ended-capped (answered z (m .log) rule.capped e .1);
+        goes-on = λ z g.
+            let x = published-facts .goes-on P m (turns P n) simulates g in
+            (λ e. x .0 (answered z (m .log) rule.met e .1), λ e. x .1 (answered z (m .log) rule.capped e .1));
         spent = λ z h k g x. answers z h k (next-spent P m (turns P n) (invariant .sound) simulates (above g) (unfold turns in x));
         spent-only = λ z e. let o : rule.promote (m .log) .outcome ≡ rule.spent = answered z (m .log) rule.spent e .1 in spent-outcome o;
         once-after = λ g. unfold turns in next-once P m (turns P n) (invariant .sound) simulates (above g);

@@ -2,7 +2,7 @@
 -- The idea: a start leaves 0, a delivery writes its own, and a promotion leaves indicators as they are and adds zeros.
 -- Assumes nothing.
 use mathlib.Core.Path.{_≡_, refl, sym, subst}
-use mathlib.Core.Bool.{Bool, true, false, cond}
+use mathlib.Core.Logic.{_⊎_, inl, inr}
 use mathlib.Core.List.{List, [], _∷_, _++_, map}
 use Prim.Native.Nat.{ℕ, zero, suc, _^_, _<_}
 use native.Mathlib.Omega.{arith}
@@ -11,12 +11,14 @@ use lib.ListN.{set}
 use Rattle.grid.specs.Index.{forward}
 use Rattle.area.specs.declared.Settings.{Settings}
 use Rattle.area.specs.Entry.{Entry}
-use Rattle.area.specs.Log.{Log, withEntries}
+use Rattle.area.specs.Log.{Log}
 use Rattle.encoding.specs.Entries.{noEntry, entryAt}
 use Rattle.machine.specs.Log.{wanted, firstWanted}
+use Rattle.machine.specs.Choose.{selected}
 use Rattle.machine.specs.Promote as rule
 use Rattle.machine.specs.Steps.{startLog, delivered, deliverAt, deliverLog}
 use Rattle.calls.specs.Table.{Call, start, point, points, deliver, promote, result, doubles, crossTotal, check}
+use Rattle.published.proofs.Outcomes.{promoted-log, promoted-or-same}
 use Rattle.history.specs.LentCalls.{LentCall}
 use Rattle.history.specs.Logged.{logStep, logAfter, AcceptedBy}
 use Rattle.history.specs.TypedCalls.{IndicatorFits, AllFit}
@@ -64,14 +66,11 @@ module _ (l : Log) (s : AllSmall (l .entries)) where
       (small-wanted (forward (entryAt (l .entries) p .levels)) (rule.admittedAxes (l .settings .axes) (rule.makeOld (l .entries) p) (entryAt (l .entries) p .levels)))
 
   pub promoted-small : AllSmall (rule.promote l .log .entries)
-  unfolding rule.promote rule.promoteAt
-  promoted-small = split (rule.isMet l) (rule.fits (l .settings .budget) (rule.refine (l .settings .axes) (l .entries) (rule.selected (l .entries))))
+  promoted-small = step (promoted-or-same l)
     where
-      split : (t u : Bool)
-          → AllSmall (cond {A = rule.Promotion} t (record { outcome = rule.met; log = l }) (cond u (record { outcome = rule.promoted; log = withEntries l (rule.refine (l .settings .axes) (l .entries) (rule.selected (l .entries))) }) (record { outcome = rule.spent; log = l })) .log .entries)
-      split true u = s
-      split false true = refined (rule.selected (l .entries))
-      split false false = s
+      step : (rule.promote l .outcome ≡ rule.promoted) ⊎ (rule.promote l .log ≡ l) → AllSmall (rule.promote l .log .entries)
+      step (inl e) = subst (λ (x : Log). AllSmall (x .entries)) (sym (promoted-log l e)) (refined (selected (l .entries)))
+      step (inr q) = subst (λ (x : Log). AllSmall (x .entries)) (sym q) s
 
 -- ---- a call, and a list of calls
 

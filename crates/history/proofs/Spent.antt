@@ -18,6 +18,7 @@ use Rattle.machine.specs.Admitted.{Exceeds}
 use Rattle.machine.specs.Steps as steps
 use Rattle.machine.specs.Causes.{Lengths}
 use Rattle.machine.proofs.Wanted.{reads-wanted}
+use Rattle.machine.proofs.Answers.{spent-above}
 use Rattle.machine.proofs.Spent.{sound-place, admitted-facts}
 use Rattle.calls.specs.Replies.{promotion}
 use Rattle.calls.specs.Table.{promote, answer}
@@ -28,7 +29,7 @@ use Rattle.history.specs.Excluded.{SelectsIndex, ListsNext}
 use Rattle.history.proofs.Lists.{machineAfter}
 use Rattle.history.proofs.Demand.{log-there, state-fine}
 use Rattle.history.proofs.Accepts.{promote-answer}
-use Rattle.history.proofs.Excluded.{spent-above, selects-index, spent-if, promoted-if, only-if}
+use Rattle.history.proofs.Excluded.{selects-index, spent-if, promoted-if, only-if}
 use Rattle.history.proofs.Simulation.{answered}
 
 module _ (m : Machine) (v : SoundMachine m) where

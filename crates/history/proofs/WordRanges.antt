@@ -3,19 +3,20 @@
 -- Assumes nothing.
 use mathlib.Core.Path.{_≡_, refl, sym, subst}
 use mathlib.Core.List.{List}
-use Prim.Native.Nat.{ℕ, _^_, _<_}
+use Prim.Native.Nat.{ℕ, _+_, _^_, _<_}
 use native.Mathlib.Omega.{arith}
 use lib.IntN.{ℤ}
 use Rattle.sums.proofs.Words.{small-fits}
 use Rattle.area.specs.declared.Settings.{Settings}
 use Rattle.area.specs.Settings.{settingsOf}
 use Rattle.area.specs.Log.{Log, Machine}
+use Rattle.area.specs.Entry.{pendingOf, carriedOf}
 use Rattle.area.specs.Encoding.{jobWith}
-use Rattle.encoding.specs.Entries.{SoundMachine}
+use Rattle.area.proofs.Carried.{carried-facts}
+use Rattle.encoding.specs.Entries.{noEntry, SoundMachine}
 use Rattle.encoding.proofs.Ranges.{delivered-few}
 use Rattle.machine.specs.Promote as rule
 use Rattle.machine.specs.Steps.{startLog, deliverLog}
-use Rattle.counting.proofs.NothingLost.{pending-few}
 use Rattle.calls.proofs.Outcomes.{promoted-settings}
 use Rattle.wihupya.specs.Words.{jobOf, wordsOf}
 use Rattle.wihupya.proofs.Facts.{word-facts}
@@ -34,8 +35,11 @@ pub record InRange (l : Log) : Type 0 where
 pub reads-back : (m : Machine) → SoundMachine m → InRange (m .log) → jobOf (wordsOf (jobWith m)) ≡ jobWith m
 reads-back m v r =
     word-facts .job-round-trip (jobWith m) (unfold jobWith in r .threshold)
-    (unfold jobWith in omega (arith, pending-few (m .log .entries) (λ p inside. small-at (m .log .entries) (r .indicators) p), v .count .1))
+    (unfold jobWith in omega (arith, errors)) (unfold jobWith in omega (arith, errors))
     (unfold jobWith in small-fits (m .mean) (omega (arith, v .mean, delivered-few (m .log .entries), v .count .1)))
+  where
+    errors : pendingOf (m .log .entries) + carriedOf (m .log .settings .axes) (m .log .entries) < 2 ^ 41
+    errors = carried-facts .together (m .log .settings .axes) (m .log .entries) noEntry (v .count .1) (λ p inside. small-at (m .log .entries) (r .indicators) p)
 
 -- ---- the steps
 

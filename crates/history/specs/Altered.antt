@@ -29,7 +29,7 @@ use Rattle.calls.specs.Calls.{callOn}
 abbrev pub withMean : Area → ℤ → Area
 withMean a x =
     record {
-      job = record { settings = a .job .settings; held = a .job .held; reserved = a .job .reserved; pending = a .job .pending; mean = x };
+      job = record { settings = a .job .settings; held = a .job .held; reserved = a .job .reserved; pending = a .job .pending; carried = a .job .carried; mean = x };
       run = a .run;
       store = a .store;
     }

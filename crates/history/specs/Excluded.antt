@@ -13,16 +13,19 @@ use Rattle.grid.specs.Coefficient.{coefficient}
 use Rattle.grid.specs.Boundary.{pair}
 use Rattle.area.specs.declared.Settings.{Settings}
 use Rattle.area.specs.Settings.{settingsOf, SettingsFit, readingCount, leastStore}
-use Rattle.area.specs.Entry.{Entry, deliveredOf, reservedBy, pendingOf}
+use Rattle.area.specs.Entry.{Entry, deliveredOf, reservedBy, pendingOf, carriedOf}
 use Rattle.area.specs.Log.{Log, Machine, withEntries}
 use Rattle.area.specs.Encoding.{Area, entriesOf, machineOf}
+use Rattle.area.specs.Facts.{bare}
 use Rattle.encoding.specs.Entries.{entryAt, SoundMachine}
 use Rattle.machine.specs.Log.{anyWanted, wantedIndex}
+use Rattle.machine.specs.Choose.{selected}
 use Rattle.machine.specs.Promote as rule
 use Rattle.machine.specs.Admitted.{ListsAdmitted, Exceeds}
 use Rattle.machine.specs.Steps.{startLog, deliverLog}
 use Rattle.machine.specs.Causes.{Lengths, inRange}
 use Rattle.machine.specs.Counts.{countsOf}
+use Rattle.machine.specs.Facts.{errorsOf}
 use Rattle.machine.specs.Means.{crossOf}
 use Rattle.counting.specs.Doubles.{doublesOf}
 use Rattle.writing.specs.ValidArea.{ValidArea}
@@ -38,7 +41,7 @@ use Rattle.history.specs.OnExports.{ExportCall, LentExport, exportAnswer
 
 -- The entries with the selected refined.
 abbrev pub refined : Log → List Entry
-refined l = rule.refine (l .settings .axes) (l .entries) (rule.selected (l .entries))
+refined l = rule.refine (l .settings .axes) (l .entries) (selected (l .entries))
 
 -- Entries without readings.
 abbrev entry : List ℕ → ℕ → Entry
@@ -60,11 +63,11 @@ fourHeld = record { settings = settingsOf 2 0 64; entries = entry (pair 1 1) 2 �
 
 -- The selected index has a level for each axis, as every index has.
 abbrev pub SelectsIndex : Log → Type 0
-SelectsIndex l = l .settings .axes ≤ length (entryAt (l .entries) (rule.selected (l .entries)) .levels)
+SelectsIndex l = l .settings .axes ≤ length (entryAt (l .entries) (selected (l .entries)) .levels)
 
 -- ks are the indices that promote would admit, each once: told by their levels alone (crate `machine`, specs/Admitted.antt).
 abbrev pub ListsNext : Log → List (List ℕ) → Type 0
-ListsNext l ks = ListsAdmitted l (rule.selected (l .entries)) ks
+ListsNext l ks = ListsAdmitted l (selected (l .entries)) ks
 
 pub record Excluded : Type 0 where
   -- "refuses all starts or deliveries": no cause but the table's
@@ -93,14 +96,21 @@ pub record Excluded : Type 0 where
   -- "honest for the root, then only marks places": later readings count
   pub later-means : (crossOf (read (pair 1 1) 2 (pos 0 ∷ []) ∷ read (pair 2 1) 1 (pos 1 ∷ pos 0 ∷ []) ∷ entry (pair 1 2) 0 ∷ []) ≡ pos (2 ^ 18))
       × (crossOf (read (pair 1 1) 2 (pos 0 ∷ []) ∷ read (pair 2 1) 1 (pos 1 ∷ pos 2 ∷ []) ∷ entry (pair 1 2) 0 ∷ []) ≡ pos (3 * 2 ^ 18))
-  -- "invents reserved or ceiling": both are counted from the held
+  -- "invents reserved or ceiling": both are counted from the held, and so is the carried error
   pub reserved-counted : reservedBy (entry (pair 1 1) 2 ∷ entry (pair 3 4) 0 ∷ []) ≡ 9
   pub ceiling-counted : countsOf (stateOf (record { settings = settingsOf 2 0 64; entries = entry (pair 8 6) 2 ∷ entry (pair 8 5) 2 ∷ entry (pair 8 6) 1 ∷ [] })) .ceiling ≡ 3
+  pub carried-counted : countsOf (stateOf (record { settings = settingsOf 2 0 64; entries = bare (pair 8 6) 2 5 ∷ bare (pair 8 5) 2 3 ∷ bare (pair 7 6) 2 9 ∷ bare (pair 8 4) 1 7 ∷ [] })) .carried ≡ 8
   -- and so are old, active and wanted
   pub states-counted : (countsOf (stateOf mixed) .old ≡ 3) × (countsOf (stateOf mixed) .active ≡ 2) × (countsOf (stateOf mixed) .wanted ≡ 1)
-  -- "says met or spent from the start": met exactly if the pending error is at most the threshold
-  pub met : (l : Log) → pendingOf (l .entries) ≤ l .settings .threshold → rule.promote l .outcome ≡ rule.met
-  pub met-only : (l : Log) → rule.promote l .outcome ≡ rule.met → pendingOf (l .entries) ≤ l .settings .threshold
+  -- "says met or spent from the start": met exactly if the pending and the carried error together are at most the threshold
+  pub met : (l : Log) → errorsOf l ≤ l .settings .threshold → rule.promote l .outcome ≡ rule.met
+  pub met-only : (l : Log) → rule.promote l .outcome ≡ rule.met → errorsOf l ≤ l .settings .threshold
+  -- capped exactly if the pending error is, and together they are not
+  pub capped : (l : Log) → pendingOf (l .entries) ≤ l .settings .threshold → l .settings .threshold < errorsOf l → rule.promote l .outcome ≡ rule.capped
+  pub capped-only : (l : Log) → rule.promote l .outcome ≡ rule.capped → (pendingOf (l .entries) ≤ l .settings .threshold) × (l .settings .threshold < errorsOf l)
+  -- so a threshold equal to the pending error is met exactly if the carried error is 0
+  pub equal-met : (l : Log) → pendingOf (l .entries) ≡ l .settings .threshold → carriedOf (l .settings .axes) (l .entries) ≡ 0 → rule.promote l .outcome ≡ rule.met
+  pub equal-met-only : (l : Log) → pendingOf (l .entries) ≡ l .settings .threshold → rule.promote l .outcome ≡ rule.met → carriedOf (l .settings .axes) (l .entries) ≡ 0
   -- above the threshold it is spent exactly if the admitted would bring the held above 512 or the reserved above the budget
   pub spent : (l : Log) (ks : List (List ℕ)) → SelectsIndex l → ListsNext l ks → l .settings .threshold < pendingOf (l .entries) → Exceeds l ks → rule.promote l .outcome ≡ rule.spent
   pub spent-only : (l : Log) (ks : List (List ℕ)) → SelectsIndex l → ListsNext l ks → rule.promote l .outcome ≡ rule.spent → (l .settings .threshold < pendingOf (l .entries)) × Exceeds l ks
@@ -167,14 +177,14 @@ unfoldable pub fileExports : List ExportCall
 fileExports =
     exports.deliver (pos 4160 ∷ []) 100
     ∷ exports.promote (9 ∷ [])
-    ∷ exports.result (9 ∷ 9 ∷ 9 ∷ 9 ∷ 9 ∷ 9 ∷ 9 ∷ 9 ∷ 9 ∷ [])
+    ∷ exports.result (9 ∷ 9 ∷ 9 ∷ 9 ∷ 9 ∷ 9 ∷ 9 ∷ 9 ∷ 9 ∷ 9 ∷ 9 ∷ [])
     ∷ exports.points 0 (9 ∷ 9 ∷ []) (9 ∷ 9 ∷ 9 ∷ [])
     ∷ exports.deliver (pos 64 ∷ pos 16448 ∷ []) 50
     ∷ exports.deliver (pos 4096 ∷ pos 4224 ∷ []) 0
     ∷ exports.promote (9 ∷ [])
     ∷ exports.deliver (pos 1088 ∷ pos 9280 ∷ []) 10
     ∷ exports.promote (9 ∷ [])
-    ∷ exports.result (9 ∷ 9 ∷ 9 ∷ 9 ∷ 9 ∷ 9 ∷ 9 ∷ 9 ∷ 9 ∷ [])
+    ∷ exports.result (9 ∷ 9 ∷ 9 ∷ 9 ∷ 9 ∷ 9 ∷ 9 ∷ 9 ∷ 9 ∷ 9 ∷ 9 ∷ [])
     ∷ exports.crossTotal (9 ∷ 9 ∷ [])
     ∷ exports.check
     ∷ []
@@ -183,8 +193,8 @@ fileExports =
 pub record CallCases : Type 0 where
   -- before the first delivery the scaled mean is 0
   pub mean-zero : answersAfter (startLog (settingsOf 2 0 64)) (result ∷ crossTotal ∷ [])
-      ≡ answer (counts (record { old = 0; active = 0; wanted = 1; reserved = 1; pending = 0; mean = pos 0; ceiling = 0 })) ∷ answer (total (pos 0)) ∷ []
-  -- threshold equal to the pending error: met
+      ≡ answer (counts (record { old = 0; active = 0; wanted = 1; reserved = 1; pending = 0; carried = 0; mean = pos 0; ceiling = 0 })) ∷ answer (total (pos 0)) ∷ []
+  -- threshold equal to the pending error, nothing carried: met
   pub threshold-equal : answersAfter (startLog (settingsOf 2 7 64)) (deliver (pos 3 ∷ []) 7 ∷ promote ∷ []) ≡ answer accepted ∷ answer (promotion rule.met) ∷ []
   -- budget 4, d 2, pending error above the threshold: the first promotion is spent; budget 5: it isn't
   pub budget-four : answersAfter (startLog (settingsOf 2 0 4)) (deliver (pos 3 ∷ []) 7 ∷ promote ∷ []) ≡ answer accepted ∷ answer (promotion rule.spent) ∷ []
@@ -221,7 +231,7 @@ pub record CallCases : Type 0 where
   -- the file: its report's figures
   pub file : answersAfter (startLog (settingsOf 2 40 64)) fileCalls
       ≡ answer accepted
-      ∷ answer (counts (record { old = 0; active = 1; wanted = 0; reserved = 1; pending = 100; mean = pos 4362076160; ceiling = 0 }))
+      ∷ answer (counts (record { old = 0; active = 1; wanted = 0; reserved = 1; pending = 100; carried = 0; mean = pos 4362076160; ceiling = 0 }))
       ∷ answer (promotion rule.promoted)
       ∷ record { reply = accepted; buffer = 0 ∷ 64 ∷ [] }
       ∷ record { reply = accepted; buffer = 128 ∷ 64 ∷ [] }
@@ -231,23 +241,24 @@ pub record CallCases : Type 0 where
       ∷ record { reply = accepted; buffer = 32 ∷ 64 ∷ [] }
       ∷ answer accepted
       ∷ answer (promotion rule.met)
-      ∷ answer (counts (record { old = 2; active = 2; wanted = 0; reserved = 7; pending = 10; mean = pos 5972688896; ceiling = 0 }))
+      ∷ answer (counts (record { old = 2; active = 2; wanted = 0; reserved = 7; pending = 10; carried = 0; mean = pos 5972688896; ceiling = 0 }))
       ∷ answer (total (pos 5972688896))
       ∷ answer (verdict true)
       ∷ []
   -- the file through the exported calls: what they return, and their words. The outcome's word is 2 promoted and 0 met; result's are pending
-  -- error and mean, low word first, old, active, wanted, reserved and ceiling; points' are written and size; cross total's its low word first
+  -- error and mean, low word first, old, active, wanted, reserved and ceiling, and the carried error, low word first; points' are written and
+  -- size; cross total's its low word first
   pub file-words : exportAnswersBy (startLog (settingsOf 2 40 64)) (map wholeExport fileExports)
       ≡ returned 0 [] []
       ∷ returned 0 (2 ∷ []) []
-      ∷ returned 0 (0 ∷ 0 ∷ 67108864 ∷ 1 ∷ 1 ∷ 0 ∷ 2 ∷ 5 ∷ 0 ∷ []) []
+      ∷ returned 0 (0 ∷ 0 ∷ 67108864 ∷ 1 ∷ 1 ∷ 0 ∷ 2 ∷ 5 ∷ 0 ∷ 0 ∷ 0 ∷ []) []
       ∷ returned 0 (1 ∷ 2 ∷ []) (0 ∷ 64 ∷ 9 ∷ [])
       ∷ returned 0 [] []
       ∷ returned 0 [] []
       ∷ returned 0 (2 ∷ []) []
       ∷ returned 0 [] []
       ∷ returned 0 (0 ∷ []) []
-      ∷ returned 0 (10 ∷ 0 ∷ 1677721600 ∷ 1 ∷ 2 ∷ 2 ∷ 0 ∷ 7 ∷ 0 ∷ []) []
+      ∷ returned 0 (10 ∷ 0 ∷ 1677721600 ∷ 1 ∷ 2 ∷ 2 ∷ 0 ∷ 7 ∷ 0 ∷ 0 ∷ 0 ∷ []) []
       ∷ returned 0 (1677721600 ∷ 1 ∷ []) []
       ∷ returned 1 [] []
       ∷ []
@@ -260,7 +271,16 @@ pub record CallCases : Type 0 where
   pub large-pending : exportAnswersBy (startLog (settingsOf 2 0 64))
       (wholeExport (exports.deliver (pos 0 ∷ []) 1) ∷ wholeExport (exports.promote (9 ∷ [])) ∷ wholeExport (exports.deliver (pos 0 ∷ pos 0 ∷ []) 4294967295)
       ∷ wholeExport (exports.deliver (pos 0 ∷ pos 0 ∷ []) 4294967295) ∷ wholeExport (exports.result []) ∷ [])
-      ≡ returned 0 [] [] ∷ returned 0 (2 ∷ []) [] ∷ returned 0 [] [] ∷ returned 0 [] [] ∷ returned 0 (4294967294 ∷ 1 ∷ 0 ∷ 0 ∷ 1 ∷ 2 ∷ 0 ∷ 5 ∷ 0 ∷ []) [] ∷ []
+      ≡ returned 0 [] [] ∷ returned 0 (2 ∷ []) [] ∷ returned 0 [] [] ∷ returned 0 [] [] ∷ returned 0 (4294967294 ∷ 1 ∷ 0 ∷ 0 ∷ 1 ∷ 2 ∷ 0 ∷ 5 ∷ 0 ∷ 0 ∷ 0 ∷ []) [] ∷ []
+  -- level 8 is old with indicator 10: capped, which is 3, under threshold 9, and met under 10. With (8,1) old with indicator 6 and (1,2) active
+  -- with 5: capped under threshold 10, met under 11. No list of calls gives these logs; the rows show what the definitions say of them
+  pub capped-word : exportAnswersBy (record { settings = settingsOf 1 9 64; entries = bare (pair 8 1) 2 10 ∷ [] }) (wholeExport (exports.promote (9 ∷ [])) ∷ []) ≡ returned 0 (3 ∷ []) [] ∷ []
+  pub met-carried : exportAnswersBy (record { settings = settingsOf 1 10 64; entries = bare (pair 8 1) 2 10 ∷ [] }) (wholeExport (exports.promote (9 ∷ [])) ∷ []) ≡ returned 0 (0 ∷ []) [] ∷ []
+  pub capped-together : exportAnswersBy (record { settings = settingsOf 2 10 64; entries = bare (pair 8 1) 2 6 ∷ bare (pair 1 2) 1 5 ∷ [] }) (wholeExport (exports.promote (9 ∷ [])) ∷ []) ≡ returned 0 (3 ∷ []) [] ∷ []
+  pub met-together : exportAnswersBy (record { settings = settingsOf 2 11 64; entries = bare (pair 8 1) 2 6 ∷ bare (pair 1 2) 1 5 ∷ [] }) (wholeExport (exports.promote (9 ∷ [])) ∷ []) ≡ returned 0 (0 ∷ []) [] ∷ []
+  -- a carried error of more than 32 bits, in both its words, which are the last two
+  pub large-carried : exportAnswersBy (record { settings = settingsOf 2 0 64; entries = bare (pair 8 1) 2 4294967295 ∷ bare (pair 1 8) 2 4294967295 ∷ [] })
+      (wholeExport (exports.result []) ∷ []) ≡ returned 0 (0 ∷ 0 ∷ 0 ∷ 0 ∷ 2 ∷ 0 ∷ 0 ∷ 128 ∷ 2 ∷ 4294967294 ∷ 1 ∷ []) [] ∷ []
   -- an exported call returns the number of the cause itself
   pub number-returned : (n : ℕ) → numberOf (refused n) ≡ n
   -- along how many of three axes the forward neighbour passes a ceiling: (5,5,5) has an excess of 12, (8,1,1) a level of 8, (1,1,1) is the root

@@ -55,7 +55,7 @@ pub record LogFacts : Type 0 where
   pub accepted-start : (l : Log) (x : LentCall) (g : Settings) → x .call ≡ start g → AcceptedBy l x → logStep l x ≡ startLog g
   -- an accepted deliver makes the first wanted entry active, with its readings and indicator
   pub accepted-deliver : (l : Log) (x : LentCall) (rs : List ℤ) (i : ℕ) → x .call ≡ deliver rs i → AcceptedBy l x → logStep l x ≡ deliverLog l rs i
-  -- a promote that is *promoted* makes the selected entry old and appends the admitted, wanted; one that is met or spent leaves it
+  -- a promote that is *promoted* makes the selected entry old and appends the admitted, wanted; one that is met, capped or spent leaves it
   pub accepted-promote : (l : Log) (x : LentCall) → x .call ≡ promote → AcceptedBy l x → logStep l x ≡ rule.promote l .log
   pub idle-promote : (l : Log) (x : LentCall) → x .call ≡ promote → (rule.promote l .outcome ≡ rule.promoted → ⊥) → logStep l x ≡ l
   -- any call besides, and any refused one, leaves it

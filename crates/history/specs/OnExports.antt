@@ -1,4 +1,4 @@
--- Lists of exported calls (crate `wihupya`), as callers in C and Rust make them. The work area is the ten words of the job record, cells and a
+-- Lists of exported calls (crate `wihupya`), as callers in C and Rust make them. The work area is the twelve words of the job record, cells and a
 -- store; a call is lent so many cells and readings of it, and the arrays into which it writes its answer. What it returns and leaves is what
 -- the contracts of `wihupya` say (its src/lib.rt, specs/Exports.antt, specs/Words.antt): `MeetsContract`, `ContractFacts`.
 use mathlib.Core.Path.{_≡_}
@@ -266,8 +266,8 @@ pub record ContractFacts : Type 0 where
   pub call : (w : ExportStorage) (x : LentExport) (y : ExportLeft) → MeetsContract w x y → (answerLeft y ≡ exported w x) × (putBack w (x .part) y ≡ exportStep w x)
   pub calls : (w : ExportStorage) (xs : List LentExport) (ys : List ExportLeft) → AllMeet w xs ys
       → (map answerLeft ys ≡ exportAnswers w xs) × (leftAfter w xs ys ≡ exportsAfter w xs)
-  -- and they can be met, where the words are ten of 32 bits
-  pub some : (w : ExportStorage) (x : LentExport) → length (w .words) ≡ 10 → ((i : ℕ) → word (w .words) i < 2 ^ 32) → (y : ExportLeft) × MeetsContract w x y
+  -- and they can be met, where the words are twelve of 32 bits
+  pub some : (w : ExportStorage) (x : LentExport) → length (w .words) ≡ 12 → ((i : ℕ) → word (w .words) i < 2 ^ 32) → (y : ExportLeft) × MeetsContract w x y
 
 -- ---- what is found
 

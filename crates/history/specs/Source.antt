@@ -18,7 +18,7 @@ use Rattle.grid.specs.Trapezoidal.{trapezoidalRule, trapezoidalDifference}
 use Rattle.area.specs.declared.Settings.{Settings}
 use Rattle.area.specs.Settings.{SettingsFit, leastStore}
 use Rattle.area.specs.Log.{Log}
-use Rattle.area.specs.Entry.{deliveredOf, readingIn, pendingOf}
+use Rattle.area.specs.Entry.{deliveredOf, readingIn, pendingOf, carriedOf}
 use Rattle.encoding.specs.Entries.{EnteredOld, SoundMachine}
 use Rattle.machine.specs.Log.{anyWanted, wantedIndex}
 use Rattle.machine.specs.Promote as rule
@@ -70,7 +70,7 @@ MeansFollow = (w : Storage) (first : LentCall) (later : List LentCall) (g : Sett
 -- ---- the state of Fig. 1, after every list of calls
 
 -- The log has the state of Fig. 1 after n turns: the same old set, the same active set (also in the same order), the same result,
--- the same pending error.
+-- the same pending and the same carried error.
 pub record Follows (P : Problem) (l : Log) (n : ℕ) : Type 0 where
   -- nothing is left wanted; the readings are the integrand's, the indicators the function's
   pub supplied : Supplied P (l .entries)
@@ -79,13 +79,23 @@ pub record Follows (P : Problem) (l : Log) (n : ℕ) : Type 0 where
   pub active : activeOf (l .entries) ≡ turns P n .active
   pub result : crossOf (l .entries) ≡ turns P n .result
   pub pending : pendingOf (l .entries) ≡ turns P n .estimate
+  pub carried : carriedOf (l .settings .axes) (l .entries) ≡ turns P n .carried
   -- so that what `PublishedFacts` (crate `published`) says of refining any active place holds here; the state is sound (`StepsFollow.sound`)
   pub simulates : Simulates P (stateOf l) (turns P n)
   -- the loop's test held before each of the turns, so Fig. 1 makes them
   pub went-on : (i : ℕ) → i < n → loopCondition P (turns P i) ≡ true
-  -- and promote, called next in storage that is long enough, answers *met* exactly if the test fails; then Fig. 1 returns this result
-  pub over : (z : Lengths) → 512 ≤ z .records → leastStore (l .settings) ≤ z .readings → (loopCondition P (turns P n) ≡ true → ⊥) → answerBy z l promote ≡ answer (promotion rule.met)
-  pub goes-on : (z : Lengths) → loopCondition P (turns P n) ≡ true → answerBy z l promote ≡ answer (promotion rule.met) → ⊥
+  -- and promote, called next in storage that is long enough, answers *met* or *capped* exactly if the test fails; then Fig. 1 returns this
+  -- result. Which of the two: *met* if η and carried together are at most TOL, *capped* if they are above it
+  pub over-met : (z : Lengths) → 512 ≤ z .records → leastStore (l .settings) ≤ z .readings → (loopCondition P (turns P n) ≡ true → ⊥)
+      → turns P n .estimate + turns P n .carried ≤ P .tolerance → answerBy z l promote ≡ answer (promotion rule.met)
+  pub over-capped : (z : Lengths) → 512 ≤ z .records → leastStore (l .settings) ≤ z .readings → (loopCondition P (turns P n) ≡ true → ⊥)
+      → P .tolerance < turns P n .estimate + turns P n .carried → answerBy z l promote ≡ answer (promotion rule.capped)
+  pub met-only : (z : Lengths) → answerBy z l promote ≡ answer (promotion rule.met)
+      → (loopCondition P (turns P n) ≡ true → ⊥) × (turns P n .estimate + turns P n .carried ≤ P .tolerance)
+  pub capped-only : (z : Lengths) → answerBy z l promote ≡ answer (promotion rule.capped)
+      → (loopCondition P (turns P n) ≡ true → ⊥) × (P .tolerance < turns P n .estimate + turns P n .carried)
+  pub goes-on : (z : Lengths) → loopCondition P (turns P n) ≡ true
+      → (answerBy z l promote ≡ answer (promotion rule.met) → ⊥) × (answerBy z l promote ≡ answer (promotion rule.capped) → ⊥)
   -- where the test holds it is *spent* exactly if after the next turn 𝒪 and 𝒜 have more than 512 indices, or their blocks more points than
   -- the budget
   pub spent : (z : Lengths) → 512 ≤ z .records → leastStore (l .settings) ≤ z .readings → loopCondition P (turns P n) ≡ true
@@ -97,7 +107,8 @@ pub record Follows (P : Problem) (l : Log) (n : ℕ) : Type 0 where
       → (ExceedsLimits (l .settings .budget) (turns P (suc n)) → ⊥) → answerBy z l promote ≡ answer (promotion rule.promoted)
   -- no index stands twice in those 𝒪 and 𝒜, so that it is indices that are counted
   pub once-after : loopCondition P (turns P n) ≡ true → NoDup (turns P (suc n) .old ++ turns P (suc n) .active)
-  -- a promote that is promoted is, on 𝒪 and 𝒜, the selection, the move and the scan; the pending error falls by the selected indicator
+  -- a promote that is promoted is, on 𝒪 and 𝒜, the selection, the move and the scan; the pending error falls by the selected indicator,
+  -- and the carried error rises by it where the index has a forward neighbour past a ceiling
   pub promotes : (x : LentCall) → x .call ≡ promote → answerBy (lengthsLent (x .part)) l promote ≡ answer (promotion rule.promoted)
       → PromotionFollows P (turns P n) (select P (turns P n)) (l .entries) (logStep l x .entries)
   -- and the mean stays: r and the new indicators follow with the deliveries (`FollowsSoFar`)
@@ -114,6 +125,8 @@ pub record FollowsSoFar (P : Problem) (l : Log) (n : ℕ) : Type 0 where
   pub not-old : notOldOf (l .entries) ≡ turns P n .active
   -- the pending error, with the problem's indicators of the wanted, is η
   pub pending : pendingOf (l .entries) + totalOf (P .indicator) (wantedOf (l .entries)) ≡ turns P n .estimate
+  -- the carried error is the variable of that name beside Fig. 1 (crate `published`, specs/Figure.antt)
+  pub carried : carriedOf (l .settings .axes) (l .entries) ≡ turns P n .carried
   -- the mean, with the increments of the wanted, is r
   pub result : crossOf (l .entries) +ℤ sumOf (wantedOf (l .entries)) (increment P) ≡ turns P n .result
   -- the loop's test held before each of the turns

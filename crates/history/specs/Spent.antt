@@ -11,6 +11,7 @@ use Rattle.area.specs.Entry.{pendingOf}
 use Rattle.area.specs.Log.{Log}
 use Rattle.encoding.specs.Entries.{entryAt, Entered}
 use Rattle.machine.specs.Log.{anyWanted}
+use Rattle.machine.specs.Choose.{selected}
 use Rattle.machine.specs.Promote as rule
 use Rattle.machine.specs.Admitted.{Admitted, ListsAdmitted, Exceeds, Appends}
 use Rattle.machine.specs.Steps.{startLog}
@@ -33,12 +34,12 @@ pub record Admissions (l : Log) : Type 0 where
   -- promote, called next with nothing wanted in storage that is long enough, is *spent* exactly if the pending error is above the threshold
   -- and what the selected place would admit brings the held above 512 or the reserved above the budget
   pub spent : (z : Lengths) (ks : List (List ℕ)) → 512 ≤ z .records → leastStore (l .settings) ≤ z .readings → (anyWanted (l .entries) ≡ true → ⊥)
-      → ListsAdmitted l (rule.selected (l .entries)) ks → l .settings .threshold < pendingOf (l .entries) → Exceeds l ks → answerBy z l promote ≡ answer (promotion rule.spent)
-  pub spent-only : (z : Lengths) (ks : List (List ℕ)) → ListsAdmitted l (rule.selected (l .entries)) ks → answerBy z l promote ≡ answer (promotion rule.spent)
+      → ListsAdmitted l (selected (l .entries)) ks → l .settings .threshold < pendingOf (l .entries) → Exceeds l ks → answerBy z l promote ≡ answer (promotion rule.spent)
+  pub spent-only : (z : Lengths) (ks : List (List ℕ)) → ListsAdmitted l (selected (l .entries)) ks → answerBy z l promote ≡ answer (promotion rule.spent)
       → (l .settings .threshold < pendingOf (l .entries)) × Exceeds l ks
   -- above the threshold and not so, it is *promoted*
   pub promoted : (z : Lengths) (ks : List (List ℕ)) → 512 ≤ z .records → leastStore (l .settings) ≤ z .readings → (anyWanted (l .entries) ≡ true → ⊥)
-      → ListsAdmitted l (rule.selected (l .entries)) ks → l .settings .threshold < pendingOf (l .entries) → (Exceeds l ks → ⊥) → answerBy z l promote ≡ answer (promotion rule.promoted)
+      → ListsAdmitted l (selected (l .entries)) ks → l .settings .threshold < pendingOf (l .entries) → (Exceeds l ks → ⊥) → answerBy z l promote ≡ answer (promotion rule.promoted)
 
 -- After every list of the third demand.
 abbrev pub SpentExactly : Type 0

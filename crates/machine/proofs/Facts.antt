@@ -2,19 +2,19 @@
 -- Assumes nothing.
 use mathlib.Core.Path.{_≡_, refl}
 use mathlib.Core.Bool.{Bool, true, false, cond}
-use Prim.Native.Nat.{ℕ}
-use native.Mathlib.Omega.{arith}
 use Rattle.area.specs.Log.{Log, Machine, withEntries}
 use Rattle.encoding.specs.Entries.{SoundMachine}
-use Rattle.machine.specs.Promote.{selected, refine, isMet, fits, met, spent, promoted, Promotion, promoteAt, promote}
+use Rattle.machine.specs.Choose.{selected}
+use Rattle.machine.specs.Promote.{refine, fits, spent, promoted, Promotion, promoteAt, promote}
 use Rattle.machine.specs.Steps.{promoteStep}
 use Rattle.machine.specs.Facts.{StepFacts}
 use Rattle.machine.proofs.Selected.{Selected, above-selected}
+use Rattle.machine.proofs.Answers.{Answered, is-met, is-capped, is-refined, answered}
 use Rattle.machine.proofs.Started.{start-sound}
 use Rattle.machine.proofs.Delivered.{deliver-sound}
 use Rattle.machine.proofs.Refined.{refine-sound}
 
--- the three answers
+-- whatever the answer
 module _ (m : Machine) (v : SoundMachine m) where
   abbrev l : Log
   l = m .log
@@ -32,12 +32,13 @@ module _ (m : Machine) (v : SoundMachine m) where
       step false e = v
 
   promote-sound : SoundMachine (promoteStep m)
-  unfolding promoteStep promote
-  promote-sound = step (isMet l) refl
+  unfolding promoteStep
+  promote-sound = step (answered l)
     where
-      step : (t : Bool) → isMet l ≡ t → Sound (cond t (record { outcome = met; log = l }) (promoteAt l (selected (l .entries))))
-      step true e = v
-      step false e = promote-at (above-selected l (λ f. let z : _≡_ {A = ℕ} 0 1 = cc in omega arith))
+      step : Answered l → Sound (promote l)
+      step (is-met e h) = rw e v
+      step (is-capped e h k) = rw e v
+      step (is-refined e h) = rw e (promote-at (above-selected l h))
 
 pub step-facts : StepFacts
 step-facts =

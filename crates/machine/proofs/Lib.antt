@@ -4,6 +4,9 @@ pub mod Wanted
 pub mod Passing
 pub mod Old
 pub mod Selected
+pub mod Choices
+pub mod Answers
+pub mod CarriedError
 pub mod Sets
 pub mod Appends
 pub mod Readings

@@ -6,13 +6,12 @@ use mathlib.Core.Bool.{Bool, true, false, cond}
 use Prim.Native.Nat.{ℕ, _<_, _≤_}
 use native.Mathlib.Decide.{decLt}
 use native.Mathlib.Omega.{arith}
-use borrow.Author.Tests.{leb-true, le-leb}
 use lib.ListN.{length}
-use Rattle.area.specs.Entry.{pendingOf, reservedBy}
+use Rattle.area.specs.Entry.{reservedBy}
 use Rattle.area.specs.Log.{Log, withEntries}
 use Rattle.soundness.specs.Sound.{Exactly}
 use Rattle.soundness.proofs.Exactly.{reads-le, reads-and}
-use Rattle.machine.specs.Promote.{Promotion, met, spent, promoted, selected, refine, isMet, fits, promoteAt, promote}
+use Rattle.machine.specs.Promote.{Promotion, spent, promoted, refine, fits, promoteAt}
 
 -- x held and y readings reserved are too many
 abbrev pub TooMany : ℕ → ℕ → ℕ → Type 0
@@ -83,30 +82,3 @@ module _ (l : Log) (p : ℕ) where
             let f : promoted ≡ spent = sym (limits-promoted n) ∙ e in
             let z : _≡_ {A = ℕ} 0 1 = cc in
             absurd (omega arith)
-
--- ---- promote refines the selected place where the pending error is above the threshold
-
-pub above-not-met : (l : Log) → l .settings .threshold < pendingOf (l .entries) → isMet l ≡ true → ⊥
-unfolding isMet
-above-not-met l h e = omega (arith, h, leb-true (pendingOf (l .entries)) (l .settings .threshold) e)
-
-pub is-met : (l : Log) → isMet l ≡ true → promote l .outcome ≡ met
-unfolding promote
-is-met l e = rw e
-
-pub promote-above : (l : Log) → (isMet l ≡ true → ⊥) → promote l .outcome ≡ promoteAt l (selected (l .entries)) .outcome
-unfolding promote
-promote-above l n = step (isMet l) n
-  where
-    step : (t : Bool) → (t ≡ true → ⊥) → cond t (record { outcome = met; log = l }) (promoteAt l (selected (l .entries))) .outcome ≡ promoteAt l (selected (l .entries)) .outcome
-    step true f = absurd (f refl)
-    step false f = refl
-
--- a promotion that is not met is above it
-pub not-met-above : (l : Log) → (promote l .outcome ≡ met → ⊥) → l .settings .threshold < pendingOf (l .entries)
-unfolding promote isMet
-not-met-above l n = step (decLt (l .settings .threshold) (pendingOf (l .entries)))
-  where
-    step : Dec (l .settings .threshold < pendingOf (l .entries)) → l .settings .threshold < pendingOf (l .entries)
-    step (yes h) = h
-    step (no h) = absurd (n (rw (le-leb (pendingOf (l .entries)) (l .settings .threshold) (omega arith)) refl))

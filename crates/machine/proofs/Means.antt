@@ -18,7 +18,7 @@ use Rattle.grid.specs.Difference.{scaledDifference, scaledMean}
 use Rattle.grid.specs.Terms.{DownSet}
 use Rattle.grid.proofs.Facts.{difference-facts, combination}
 use Rattle.area.specs.Records.{Run}
-use Rattle.area.specs.Entry.{Entry, deliveredOf, readingsOf, readingIn}
+use Rattle.area.specs.Entry.{Entry, deliveredOf, readingsOf, readingIn, pendingOf}
 use Rattle.area.specs.Log.{Log, Machine, withEntries}
 use Rattle.area.specs.Encoding.{Area, heldOf, entriesOf, machineOf}
 use Rattle.quadrature.specs.Linked.{deliveredIn}
@@ -33,12 +33,14 @@ use Rattle.encoding.specs.Encodes.{encodedArea}
 use Rattle.encoding.proofs.Places.{state-at, has}
 use Rattle.encoding.proofs.Facts.{encoding-facts}
 use Rattle.machine.specs.Log.{wanted, firstWanted, wantedIndex}
-use Rattle.machine.specs.Promote.{selected, madeOld, makeOld, admittedAxes, refine, isMet, fits, met, spent, promoted, Promotion, promoteAt, promote}
+use Rattle.machine.specs.Choose.{selected}
+use Rattle.machine.specs.Promote.{madeOld, makeOld, admittedAxes, refine, fits, spent, promoted, Promotion, promoteAt, promote}
 use Rattle.machine.specs.Steps.{started, delivered, deliverAt, deliver, promoteStep}
 use Rattle.machine.specs.Means.{meanOf, crossOf, MeanFacts}
 use Rattle.machine.proofs.Wanted.{first-is}
 use Rattle.machine.proofs.Readings.{Empty, readings-other, readings-set, readings-append, sum-more}
 use Rattle.machine.proofs.Refined.{ahead, ahead-at, refine-delivered}
+use Rattle.machine.proofs.Answers.{Answered, is-met, is-capped, is-refined, answered}
 use Rattle.machine.proofs.Facts.{step-facts}
 
 -- ---- the delivered of sound entries
@@ -152,7 +154,7 @@ module _ {m : Machine} (v : SoundMachine m) where
     unfolding meanOf readingIn
     refine-mean = ap₂ scaledMean (refine-delivered v p inside active) (fun-ext (λ l. ap (λ x j. getD x j (pos 0)) (refine-readings l)))
 
--- the three answers
+-- whatever the answer
 module _ (m : Machine) (v : SoundMachine m) where
   abbrev l : Log
   l = m .log
@@ -160,7 +162,7 @@ module _ (m : Machine) (v : SoundMachine m) where
   abbrev Kept : Promotion → Type 0
   Kept x = meanOf (x .log .entries) ≡ meanOf (l .entries)
 
-  promote-at : (isMet l ≡ true → ⊥) → Kept (promoteAt l (selected (l .entries)))
+  promote-at : l .settings .threshold < pendingOf (l .entries) → Kept (promoteAt l (selected (l .entries)))
   unfolding promoteAt
   promote-at n = step (fits (l .settings .budget) (refine (l .settings .axes) (l .entries) (selected (l .entries))))
     where
@@ -169,12 +171,13 @@ module _ (m : Machine) (v : SoundMachine m) where
       step false = refl
 
   promote-mean : meanOf (promoteStep m .log .entries) ≡ meanOf (m .log .entries)
-  unfolding promoteStep promote
-  promote-mean = step (isMet l) refl
+  unfolding promoteStep
+  promote-mean = step (answered l)
     where
-      step : (t : Bool) → isMet l ≡ t → Kept (cond t (record { outcome = met; log = l }) (promoteAt l (selected (l .entries))))
-      step true e = refl
-      step false e = promote-at (λ f. let z : _≡_ {A = ℕ} 0 1 = cc in omega arith)
+      step : Answered l → Kept (promote l)
+      step (is-met e h) = rw e refl
+      step (is-capped e h k) = rw e refl
+      step (is-refined e h) = rw e (promote-at h)
 
 pub mean-facts : MeanFacts
 mean-facts =

@@ -14,7 +14,7 @@ use Rattle.area.specs.Log.{Log}
 use Rattle.soundness.specs.Sound.{Exactly}
 use Rattle.soundness.proofs.Exactly.{reads-eq, reads-le, reads-and}
 use Rattle.encoding.specs.Entries.{entryAt}
-use Rattle.machine.specs.Promote.{largest, firstActive, selected, isMet}
+use Rattle.machine.specs.Choose.{largest, firstActive, selected}
 
 -- a test that says no refutes its statement
 refuted : {t : Bool} {P : Type 0} → Exactly t P → t ≡ false → P → ⊥
@@ -158,10 +158,5 @@ pending-some (e ∷ es) h = step (eqb (e .state) 1) refl h (pending-some es)
     step false c h ih = let s = ih (omega arith) in (suc (s .0), later e es (s .0) (s .1))
 
 -- so where it is above the threshold there is one to select
-pub above-selected : (l : Log) → (isMet l ≡ true → ⊥) → Selected (l .entries) (selected (l .entries))
-unfolding isMet
-above-selected l n = selected-is (l .entries) (pending-some (l .entries) (above (decLt (l .settings .threshold) (pendingOf (l .entries)))))
-  where
-    above : Dec (l .settings .threshold < pendingOf (l .entries)) → 0 < pendingOf (l .entries)
-    above (yes h) = omega arith
-    above (no h) = absurd (n (le-leb (pendingOf (l .entries)) (l .settings .threshold) (omega arith)))
+pub above-selected : (l : Log) → l .settings .threshold < pendingOf (l .entries) → Selected (l .entries) (selected (l .entries))
+above-selected l h = selected-is (l .entries) (pending-some (l .entries) (omega (arith, h)))

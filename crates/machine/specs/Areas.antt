@@ -4,7 +4,7 @@ use Prim.Native.Nat.{ℕ}
 use lib.IntN.{ℤ}
 use Rattle.area.specs.declared.Settings.{Settings}
 use Rattle.area.specs.Encoding.{Area, machineOf, written}
-use Rattle.machine.specs.Promote.{Outcome, met, spent, promoted, promoteAt, promote}
+use Rattle.machine.specs.Promote.{Outcome, met, capped, spent, promoted, promoteAt, promote}
 use Rattle.machine.specs.Steps.{started, deliver, promoteStep}
 
 unfoldable pub startOn : Area → Settings → Area
@@ -17,9 +17,10 @@ pub record AreaPromotion : Type 0 where
   pub outcome : Outcome
   pub area : Area
 
--- Met and spent change nothing.
+-- Met, capped and spent change nothing.
 unfoldable pub changedBy : Outcome → Area → Area → Area
 changedBy met a b = a
+changedBy capped a b = a
 changedBy spent a b = a
 changedBy promoted a b = b
 

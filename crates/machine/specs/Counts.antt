@@ -1,11 +1,11 @@
--- **Result**: the counts of old, active, wanted and reserved; the pending error; the scaled mean; and the ceiling count.
+-- **Result**: the counts of old, active, wanted and reserved; the pending and the carried error; the scaled mean; and the ceiling count.
 use mathlib.Core.Bool.{cond}
 use mathlib.Core.List.{List, [], _∷_}
 use Prim.Native.Nat.{ℕ, _+_}
 use lib.Dec.{eqb}
 use lib.IntN.{ℤ}
 use Rattle.grid.specs.Index.{cappedAxes}
-use Rattle.area.specs.Entry.{Entry, reservedBy, pendingOf}
+use Rattle.area.specs.Entry.{Entry, reservedBy, pendingOf, carriedOf}
 use Rattle.area.specs.Log.{Machine}
 
 unfoldable pub countOf : ℕ → List Entry → ℕ
@@ -23,10 +23,11 @@ pub record Counts : Type 0 where
   pub wanted : ℕ
   pub reserved : ℕ
   pub pending : ℕ
+  pub carried : ℕ
   pub mean : ℤ
   pub ceiling : ℕ
 
--- Reserved and pending error are worked from the entries; in a sound area they are the recorded ones.
+-- Reserved and the two errors are worked from the entries; in a sound area they are the recorded ones.
 unfoldable pub countsOf : Machine → Counts
 countsOf m =
     record {
@@ -35,6 +36,7 @@ countsOf m =
       wanted = countOf 0 (m .log .entries);
       reserved = reservedBy (m .log .entries);
       pending = pendingOf (m .log .entries);
+      carried = carriedOf (m .log .settings .axes) (m .log .entries);
       mean = m .mean;
       ceiling = ceilingCount (m .log .settings .axes) (m .log .entries);
     }

@@ -1,18 +1,21 @@
 -- Each step keeps the clauses on the state, so the area that encodes its result is sound; and each cause is returned in its own case.
 use mathlib.Core.Path.{_≡_}
-use mathlib.Core.Bool.{true, false}
+use mathlib.Core.Bool.{true, false, cond}
 use mathlib.Core.List.{List, _∷_, _++_, List·Memᴰ}
-use Prim.Native.Nat.{ℕ, _<_, _≤_}
+use Prim.Native.Nat.{ℕ, _+_, _<_, _≤_}
 use lib.IntN.{ℤ, pos}
 use lib.ListN.{length, getD}
+use Rattle.grid.specs.Index.{atCeiling}
 use Rattle.grid.specs.Terms.{IsReading}
 use Rattle.area.specs.declared.Settings.{Settings}
 use Rattle.area.specs.Settings.{SettingsFit, readingCount}
+use Rattle.area.specs.Entry.{Entry, pendingOf, carriedOf}
 use Rattle.area.specs.Log.{Log, Machine, machineWithEntries}
 use Rattle.encoding.specs.Entries.{entryAt, SoundMachine}
 use Rattle.machine.specs.Log.{firstWanted, wantedIndex}
-use Rattle.machine.specs.Promote.{selected, refine, fits, isMet}
-use Rattle.machine.specs.Steps.{started, deliver, promoteStep}
+use Rattle.machine.specs.Choose.{Choice, met, capped, place, selected, choose}
+use Rattle.machine.specs.Promote.{refine, fits}
+use Rattle.machine.specs.Steps.{started, deliverAt, deliver, promoteStep}
 use Rattle.machine.specs.Causes.{Cause, cause, firstCause}
 
 pub record StepFacts : Type 0 where
@@ -25,14 +28,47 @@ pub record StepFacts : Type 0 where
       → p < length (m .log .entries) → entryAt (m .log .entries) p .state ≡ 1 → fits (m .log .settings .budget) (refine (m .log .settings .axes) (m .log .entries) p) ≡ true
       → SoundMachine (machineWithEntries m (refine (m .log .settings .axes) (m .log .entries) p))
   -- where the pending error is above the threshold, what is selected is active
-  pub selects : (l : Log) → (isMet l ≡ true → ⊥) → (selected (l .entries) < length (l .entries)) × (entryAt (l .entries) (selected (l .entries)) .state ≡ 1)
+  pub selects : (l : Log) → l .settings .threshold < pendingOf (l .entries) → (selected (l .entries) < length (l .entries)) × (entryAt (l .entries) (selected (l .entries)) .state ≡ 1)
   -- with the largest indicator, at the lowest place among equals
-  pub largest : (l : Log) → (isMet l ≡ true → ⊥) → (q : ℕ) → q < length (l .entries) → entryAt (l .entries) q .state ≡ 1
+  pub largest : (l : Log) → l .settings .threshold < pendingOf (l .entries) → (q : ℕ) → q < length (l .entries) → entryAt (l .entries) q .state ≡ 1
       → entryAt (l .entries) q .indicator ≤ entryAt (l .entries) (selected (l .entries)) .indicator
-  pub lowest : (l : Log) → (isMet l ≡ true → ⊥) → (q : ℕ) → q < length (l .entries) → entryAt (l .entries) q .state ≡ 1
+  pub lowest : (l : Log) → l .settings .threshold < pendingOf (l .entries) → (q : ℕ) → q < length (l .entries) → entryAt (l .entries) q .state ≡ 1
       → entryAt (l .entries) q .indicator ≡ entryAt (l .entries) (selected (l .entries)) .indicator → selected (l .entries) ≤ q
   -- so a promotion with nothing wanted keeps the clauses, whatever its answer
   pub promote : (m : Machine) → SoundMachine m → length (m .log .entries) ≤ firstWanted (m .log .entries) → SoundMachine (promoteStep m)
+
+-- ---- the carried error
+
+-- How the steps move it, for any number of axes.
+pub record CarriedSteps : Type 0 where
+  -- a job that was just started carries nothing
+  pub start : (d : ℕ) (g : Settings) → carriedOf d (started g .log .entries) ≡ 0
+  -- a delivery keeps it: what was wanted is then active
+  pub deliver : (d : ℕ) (es : List Entry) (rs : List ℤ) (i : ℕ) → firstWanted es < length es → carriedOf d (deliverAt es (firstWanted es) rs i) ≡ carriedOf d es
+  -- refining an active place adds its indicator if its index is at a ceiling; what is admitted is wanted, and adds nothing
+  pub refine : (d : ℕ) (es : List Entry) (p : ℕ) → p < length es → entryAt es p .state ≡ 1
+      → carriedOf d (refine d es p) ≡ carriedOf d es + cond (atCeiling d (entryAt es p .levels)) (entryAt es p .indicator) 0
+
+-- ---- choosing
+
+-- The pending and the carried error of a log together.
+abbrev pub errorsOf : Log → ℕ
+errorsOf l = pendingOf (l .entries) + carriedOf (l .settings .axes) (l .entries)
+
+-- Each answer exactly in its case.
+pub record ChooseFacts : Type 0 where
+  -- *met*: pending and carried together are at most the threshold, and so is the pending error
+  pub met-if : (l : Log) → errorsOf l ≤ l .settings .threshold → choose l ≡ met
+  pub met-only : (l : Log) → choose l ≡ met → errorsOf l ≤ l .settings .threshold
+  -- *capped*: the pending error alone is
+  pub capped-if : (l : Log) → pendingOf (l .entries) ≤ l .settings .threshold → l .settings .threshold < errorsOf l → choose l ≡ capped
+  pub capped-only : (l : Log) → choose l ≡ capped → (pendingOf (l .entries) ≤ l .settings .threshold) × (l .settings .threshold < errorsOf l)
+  -- and the selected place where the pending error is above it, whatever is carried
+  pub place-if : (l : Log) → l .settings .threshold < pendingOf (l .entries) → choose l ≡ place (selected (l .entries))
+  pub place-only : (l : Log) (p : ℕ) → choose l ≡ place p → (l .settings .threshold < pendingOf (l .entries)) × (p ≡ selected (l .entries))
+  -- a threshold equal to the pending error is met exactly if the carried error is 0
+  pub equal-met : (l : Log) → pendingOf (l .entries) ≡ l .settings .threshold → carriedOf (l .settings .axes) (l .entries) ≡ 0 → choose l ≡ met
+  pub equal-met-only : (l : Log) → pendingOf (l .entries) ≡ l .settings .threshold → choose l ≡ met → carriedOf (l .settings .axes) (l .entries) ≡ 0
 
 -- ---- causes
 

@@ -1,5 +1,5 @@
--- Promote ("Old, active and wanted"): selecting an active index, and refining it. In Fig. 1 of the source these are the selection of
--- the index with the largest indicator, its move to the old set, and the loop over its forward neighbours.
+-- Promote ("Old, active and wanted"): choosing, which ends or selects an active index, and refining it. In Fig. 1 of the source these are the
+-- loop's test, the selection of the index with the largest indicator, its move to the old set, and the loop over its forward neighbours.
 use mathlib.Core.Bool.{Bool, true, false, cond, _&&_}
 use mathlib.Core.List.{List, [], _∷_, _++_, map}
 use Prim.Native.Nat.{ℕ, zero, suc, _+_}
@@ -7,26 +7,13 @@ use lib.Dec.{leb, eqb}
 use lib.ListN.{length, set}
 use Rattle.grid.specs.Index.{level, within, forward, backward}
 use Rattle.grid.specs.Coefficient.{sameLevels}
-use Rattle.area.specs.Entry.{Entry, reservedBy, pendingOf}
+use Rattle.area.specs.Entry.{Entry, reservedBy}
 use Rattle.area.specs.Log.{Log, withEntries}
 use Rattle.soundness.specs.Test.{allFrom}
 use Rattle.encoding.specs.Entries.{entryAt}
 use Rattle.machine.specs.Log.{wanted}
-
--- ---- selecting: the active index of largest indicator, the lowest place among equals
-
--- The largest indicator of an active entry; 0 if none is active.
-unfoldable pub largest : List Entry → ℕ
-largest [] = 0
-largest (e ∷ es) = cond (eqb (e .state) 1 && leb (largest es) (e .indicator)) (e .indicator) (largest es)
-
--- The place of the first active entry with this indicator; the number of entries if there is none.
-unfoldable pub firstActive : ℕ → List Entry → ℕ
-firstActive i [] = 0
-firstActive i (e ∷ es) = cond (eqb (e .state) 1 && eqb (e .indicator) i) 0 (suc (firstActive i es))
-
-unfoldable pub selected : List Entry → ℕ
-selected es = firstActive (largest es) es
+use Rattle.machine.specs.Choose as choice
+use Rattle.machine.specs.Choose.{Choice, choose}
 
 -- ---- refining: the selected index becomes old; a forward neighbour within the ceilings is admitted if all its own backward
 -- neighbours are old, the selected one now included
@@ -64,16 +51,13 @@ refine d es p = makeOld es p ++ map (λ a. wanted (forward (entryAt es p .levels
 
 -- ---- the answers
 
--- *Met* exactly if the pending error is at most the threshold.
-unfoldable pub isMet : Log → Bool
-isMet l = leb (pendingOf (l .entries)) (l .settings .threshold)
-
 -- At most 512 held, and reserved at most the budget. Promote is *spent* exactly if this fails with the admitted appended.
 unfoldable pub fits : ℕ → List Entry → Bool
 fits b es = leb (length es) 512 && leb (reservedBy es) b
 
 pub data Outcome : Type 0 where
   met : Outcome
+  capped : Outcome
   spent : Outcome
   promoted : Outcome
 
@@ -87,5 +71,11 @@ promoteAt l p =
     cond (fits (l .settings .budget) (refine (l .settings .axes) (l .entries) p)) (record { outcome = promoted; log = withEntries l (refine (l .settings .axes) (l .entries) p) })
     (record { outcome = spent; log = l })
 
+-- What was chosen decides: met and capped change nothing, a place is refined.
+unfoldable pub promoteBy : Log → Choice → Promotion
+promoteBy l choice.met = record { outcome = met; log = l }
+promoteBy l choice.capped = record { outcome = capped; log = l }
+promoteBy l (choice.place p) = promoteAt l p
+
 unfoldable pub promote : Log → Promotion
-promote l = cond (isMet l) (record { outcome = met; log = l }) (promoteAt l (selected (l .entries)))
+promote l = promoteBy l (choose l)

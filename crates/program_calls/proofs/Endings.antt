@@ -1,7 +1,7 @@
 -- Only a run that is met prints a text whose last line is `end met`, and so of the other endings.
--- The idea: the byte before the last is a digit in a refusal, and the byte before that differs in the three endings.
+-- The idea: the byte before the last is a digit in a refusal and a letter in a report, and with the byte before it, it tells the endings apart.
 -- Assumes nothing.
-use mathlib.Core.Path.{_≡_, refl, ap, sym, _∙_, subst}
+use mathlib.Core.Path.{_≡_, refl, ap, ap₂, sym, _∙_, subst}
 use mathlib.Core.Bool.{Bool, true, false, cond}
 use mathlib.Core.List.{List, [], _∷_, _++_}
 use Prim.Native.Nat.{ℕ, _+_, _-_, _≤_}
@@ -14,7 +14,7 @@ use Rattle.area.specs.Log.{Machine}
 use Rattle.machine.specs.Steps.{started}
 use Rattle.jobfile.specs.Form.{Form, formed, broken, formOf}
 use Rattle.reporting.specs.Decimal.{decimal, signedDecimal}
-use Rattle.reporting.specs.Text.{space, feed, line, axesWord, oldWord, activeWord, wantedWord, reservedWord, pendingWord, ceilingWord, scaledWord, unusedWord, endWord, refusedWord, atWord, Ending, met, spent, short, endingWord, ReportValues, reportText, refusalText}
+use Rattle.reporting.specs.Text.{space, feed, line, axesWord, oldWord, activeWord, wantedWord, reservedWord, pendingWord, carriedWord, ceilingWord, scaledWord, unusedWord, endWord, refusedWord, atWord, Ending, met, capped, spent, short, endingWord, ReportValues, reportText, refusalText}
 use Rattle.reporting.proofs.Facts.{text-facts}
 use Rattle.running.specs.Execution.{Result, refusedAt, ended, unfinished, execution, stepLimit, startByte, startCause, resultIn, resultOf, fileSettings}
 use Rattle.running.specs.Report.{reportValuesOf, textIn}
@@ -50,43 +50,65 @@ report-ends f h =
     ++ line wantedWord (decimal (f .wanted))
     ++ line reservedWord (decimal (f .reserved))
     ++ line pendingWord (decimal (f .pending))
+    ++ line carriedWord (decimal (f .carried))
     ++ line ceilingWord (decimal (f .ceiling))
     ++ line scaledWord (signedDecimal (f .scaled))
     ++ line unusedWord (decimal (f .unused)))
     (line endWord (endingWord (f .ending))) h
 
--- the third byte from the end, which tells the endings apart; the second is the same of all
+-- the second and the third byte from the end
+abbrev second : Ending → ℕ
+second met = 116
+second capped = 100
+second spent = 116
+second short = 116
+
 abbrev third : Ending → ℕ
 third met = 101
+third capped = 101
 third spent = 110
 third short = 114
 
-told : (e d : Ending) → third e ≡ third d → e ≡ d
-told e d q = sym (back e) ∙ ap ending-of q ∙ back d
+told : (e d : Ending) → second e ≡ second d → third e ≡ third d → e ≡ d
+told e d p q = sym (back e) ∙ ap₂ ending-of p q ∙ back d
   where
-    ending-of : ℕ → Ending
-    ending-of v = cond (eqb v 101) met (cond (eqb v 110) spent short)
+    ending-of : ℕ → ℕ → Ending
+    ending-of u v = cond (eqb u 100) capped (cond (eqb v 101) met (cond (eqb v 110) spent short))
 
-    back : (x : Ending) → ending-of (third x) ≡ x
+    back : (x : Ending) → ending-of (second x) (third x) ≡ x
     back met = refl
+    back capped = refl
     back spent = refl
     back short = refl
+
+-- the second is past the digits
+letter : (e : Ending) → 100 ≤ second e
+letter met = omega arith
+letter capped = omega arith
+letter spent = omega arith
+letter short = omega arith
 
 third-there : (e : Ending) → EndsIn 3 (third e) (line endWord (endingWord e))
 unfolding line endingWord
 third-there met = record { long = omega arith; byte = refl }
+third-there capped = record { long = omega arith; byte = refl }
 third-there spent = record { long = omega arith; byte = refl }
 third-there short = record { long = omega arith; byte = refl }
 
-second-there : (e : Ending) → EndsIn 2 116 (line endWord (endingWord e))
+second-there : (e : Ending) → EndsIn 2 (second e) (line endWord (endingWord e))
 unfolding line endingWord
 second-there met = record { long = omega arith; byte = refl }
+second-there capped = record { long = omega arith; byte = refl }
 second-there spent = record { long = omega arith; byte = refl }
 second-there short = record { long = omega arith; byte = refl }
 
 third-report : (e : Ending) (m : Machine) (u : ℕ) → EndsIn 3 (third e) (reportText (reportValuesOf e m u))
 unfolding reportValuesOf
 third-report e m u = report-ends (reportValuesOf e m u) (third-there e)
+
+second-report : (e : Ending) (m : Machine) (u : ℕ) → EndsIn 2 (second e) (reportText (reportValuesOf e m u))
+unfolding reportValuesOf
+second-report e m u = report-ends (reportValuesOf e m u) (second-there e)
 
 -- ---- a refusal
 
@@ -115,17 +137,22 @@ module _ (n b : ℕ) where
       before-last (refusedWord ++ space ∷ decimal n ++ space ∷ atWord ++ space ∷ decimal b) feed
       (after (refusedWord ++ space ∷ decimal n ++ space ∷ atWord) (space ∷ decimal b) digit-there)
 
-  no-letter : EndsIn 2 116 (refusalText n b) → ⊥
-  no-letter h = omega (arith, one-byte h refusal-ends, text-facts .digits b (length (decimal b) - 1) (omega (arith, text-facts .some b)) .1)
+  no-letter : (v : ℕ) → 100 ≤ v → EndsIn 2 v (refusalText n b) → ⊥
+  no-letter v l h = omega (arith, l, one-byte h refusal-ends, text-facts .digits b (length (decimal b) - 1) (omega (arith, text-facts .some b)) .1)
 
 -- ---- what a text tells of the result
 
 pub only-ended : (e : Ending) (n : ℕ) (r : Result) (before : List ℕ) → textIn n r ≡ before ++ line endWord (endingWord e) → (m : Machine) × (used : ℕ) × (r ≡ ended e m used)
 unfolding textIn
-only-ended e n (refusedAt number byte) before q = absurd (no-letter number byte (subst (EndsIn 2 116) (sym q) (after before _ (second-there e))))
-only-ended e n (ended d m used) before q =
-    (m, used, ap (λ x. ended x m used) (told d e (one-byte (third-report d m (n - used)) (subst (EndsIn 3 (third e)) (sym q) (after before _ (third-there e))))))
-only-ended e n unfinished before q = absurd (omega (arith, subst (EndsIn 2 116) (sym q) (after before _ (second-there e)) .long))
+only-ended e n (refusedAt number byte) before q = absurd (no-letter number byte (second e) (letter e) (subst (EndsIn 2 (second e)) (sym q) (after before _ (second-there e))))
+only-ended e n (ended d m used) before q = (
+  m,
+  used,
+  ap (λ x. ended x m used)
+      (told d e (one-byte (second-report d m (n - used)) (subst (EndsIn 2 (second e)) (sym q) (after before _ (second-there e))))
+      (one-byte (third-report d m (n - used)) (subst (EndsIn 3 (third e)) (sym q) (after before _ (third-there e))))),
+)
+only-ended e n unfinished before q = absurd (omega (arith, subst (EndsIn 2 (second e)) (sym q) (after before _ (second-there e)) .long))
 
 -- ---- a file that start refuses
 

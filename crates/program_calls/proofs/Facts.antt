@@ -2,7 +2,8 @@
 -- The idea: from the start on the execution and the calls agree step by step; what is found after a list of calls is then said of them.
 -- Assumes nothing.
 use mathlib.Core.Path.{_≡_, refl, ap, sym, _∙_, subst}
-use mathlib.Core.Bool.{cond}
+use mathlib.Core.Logic.{_⊎_, inl, inr}
+use mathlib.Core.Bool.{false, cond}
 use mathlib.Core.List.{List, [], _∷_, _++_}
 use Prim.Native.Nat.{ℕ, _-_}
 use native.Mathlib.Omega.{arith}
@@ -11,6 +12,9 @@ use lib.Dec.{eqb}
 use Rattle.area.specs.declared.Settings.{Settings}
 use Rattle.area.specs.Settings.{SettingsFit}
 use Rattle.area.specs.Log.{Machine}
+use Rattle.machine.specs.Log.{anyWanted}
+use Rattle.machine.specs.Promote as rule
+use Rattle.machine.specs.Counts.{countOf}
 use Rattle.machine.specs.Steps as steps
 use Rattle.machine.specs.Causes.{firstCause, startCauses}
 use Rattle.machine.proofs.Facts.{step-facts}
@@ -20,9 +24,11 @@ use Rattle.calls.specs.Table.{Call, start, answer}
 use Rattle.calls.specs.Calls.{CallResult, callOn}
 use Rattle.calls.proofs.Accepted.{startable}
 use Rattle.calls.proofs.Rows.{start-accepts}
+use Rattle.published.specs.Figure.{Problem}
+use Rattle.published.specs.Turns.{SettingsMatch, ReadingValued, Supplied}
 use Rattle.published.proofs.Moments.{start-course}
 use Rattle.history.specs.LentCalls.{LentCall}
-use Rattle.history.specs.Logged.{stateOf}
+use Rattle.history.specs.Logged.{stateOf, answersBy}
 use Rattle.history.specs.Storage.{Storage, areaLent, Lent, AllLent}
 use Rattle.history.specs.Found.{Demand}
 use Rattle.history.specs.Source.{MeanFollows, StepsFollow, lendAll}
@@ -33,17 +39,17 @@ use Rattle.history.proofs.Demand.{third-demand}
 use Rattle.history.proofs.Published.{mean-follows}
 use Rattle.history.proofs.Moments.{after-course, steps-of}
 use Rattle.jobfile.specs.Form.{formed, formOf, entryCount}
-use Rattle.reporting.specs.Text.{line, endWord, Ending, met, spent, short, endingWord, reportText, refusalText}
+use Rattle.reporting.specs.Text.{line, endWord, Ending, met, capped, spent, short, endingWord, reportText, refusalText}
 use Rattle.running.specs.Execution.{ownLengths, refusedAt, ended, execution, stepLimit, startByte, startCause, resultIn, resultOf, fileSettings}
 use Rattle.running.specs.Report.{reportValuesOf, textIn, textOf}
 use Rattle.running.specs.Facts.{AllowedResult}
 use Rattle.running.proofs.Facts.{execution-facts}
 use Rattle.program_calls.specs.Calls.{ownPart, lent, startCall, laterCalls, programLog}
-use Rattle.program_calls.specs.Facts.{EndsBy, RefusedBy, ResultBy, ProgramIsCalls, EndMet, EndSpent, EndShort, ProgramFacts}
+use Rattle.program_calls.specs.Facts.{EndingAnswers, EndsBy, RefusedBy, ResultBy, LoopEnded, ProgramIsCalls, EndMet, EndCapped, EndSpent, EndShort, ProgramFacts}
 use Rattle.program_calls.proofs.Answers.{start-taken, start-refused}
 use Rattle.program_calls.proofs.Steps.{agrees}
 use Rattle.program_calls.proofs.Endings.{only-ended, refused-start, right-form, start-accepts-it}
-use Rattle.program_calls.proofs.Loops.{state-is, loop-ended, met-problem, loop-spent, spent-problem, still-wanted, loop-short, short-problem}
+use Rattle.program_calls.proofs.Loops.{state-is, loop-ended, ended-problem, met-within, capped-above, loop-spent, spent-problem, still-wanted, loop-short, short-problem}
 
 all-lent : (w : Storage) → Lent w ownPart → (xs : List Call) → AllLent w (lendAll ownPart xs)
 unfolding lendAll
@@ -125,6 +131,24 @@ module _ (c : List ℕ) (right : formOf c ≡ formed) (none : startCause c ≡ 0
       text : textOf c ≡ refusalText number byte
       text = unfold textOf in ap (textIn (entryCount c)) is ∙ unfold textIn in refl
 
+  -- met or capped is what promote answers last, with nothing wanted
+  ended-outcome : (e : Ending) (m : Machine) (used : ℕ) → (e ≡ met) ⊎ (e ≡ capped) → EndsBy c (steps.startLog g) 0 (laterCalls c) e m used
+      → (o : rule.Outcome) × ((o ≡ rule.met) ⊎ (o ≡ rule.capped)) × (anyWanted (m .log .entries) ≡ false) × (rule.promote (m .log) .outcome ≡ o)
+  ended-outcome e m used (inl q) by =
+      let x = subst (λ k. EndingAnswers c k m used (answersBy (steps.startLog g) (lendAll ownPart (laterCalls c)))) q (by .answers) in
+      (rule.met, inl refl, x .1, x .2)
+  ended-outcome e m used (inr q) by =
+      let x = subst (λ k. EndingAnswers c k m used (answersBy (steps.startLog g) (lendAll ownPart (laterCalls c)))) q (by .answers) in
+      (rule.capped, inr refl, x .1, x .2)
+
+  ended-loop : (e : Ending) (m : Machine) (used : ℕ) → (e ≡ met) ⊎ (e ≡ capped) → EndsBy c (steps.startLog g) 0 (laterCalls c) e m used
+      → (P : Problem) → SettingsMatch (fileSettings c) P → Supplied P (programLog c .entries) → LoopEnded P c e m used (countOf 2 (programLog c .entries))
+  ended-loop e m used which by = let x = ended-outcome e m used which by in loop-ended c fit follows e (x .0) m used by (x .1) (x .2) (x .3)
+
+  ended-posed : (e : Ending) (m : Machine) (used : ℕ) → (e ≡ met) ⊎ (e ≡ capped) → EndsBy c (steps.startLog g) 0 (laterCalls c) e m used
+      → (P : Problem) × SettingsMatch (fileSettings c) P × ReadingValued P × Supplied P (programLog c .entries)
+  ended-posed e m used which by = let x = ended-outcome e m used which by in ended-problem c fit follows e (x .0) m used by (x .1) (x .2) (x .3)
+
   pub is-calls : ProgramIsCalls c
   is-calls =
       record {
@@ -136,8 +160,8 @@ module _ (c : List ℕ) (right : formOf c ≡ formed) (none : startCause c ≡ 0
         ends = ends;
         printed = printed;
         refuses = refuses;
-        loop-ended = λ m used is. loop-ended c fit follows m used (ends met m used is);
-        problem = λ m used is. met-problem c fit follows m used (ends met m used is);
+        loop-ended = λ e m used which is. ended-loop e m used which (ends e m used is);
+        problem = λ e m used which is. ended-posed e m used which (ends e m used is);
       }
 
 refused-text : (c : List ℕ) → formOf c ≡ formed → (startCause c ≡ 0 → ⊥) → textOf c ≡ refusalText (startCause c) (startByte (startCause c))
@@ -151,8 +175,40 @@ end-met c before e =
     let (m, used, is) = only-ended met (entryCount c) (resultOf c) before (unfold textOf in e) in
     let right = right-form c met m used is in
     let none = start-accepts-it c met m used is in
+    let by = ends c right none met m used is in
     let calls = is-calls c right none in
-    record { right = right; starts = none; state = m; used = used; result = is; loop = calls .loop-ended m used is; problem = calls .problem m used is }
+    record {
+      right = right;
+      starts = none;
+      state = m;
+      used = used;
+      result = is;
+      loop = λ P posed supplied. (
+        calls .loop-ended met m used (inl refl) is P posed supplied,
+        met-within c (fit c right none) (follows c right none) met rule.met m used by (inl refl) (by .answers .1) (by .answers .2) P posed supplied refl,
+      );
+      problem = calls .problem met m used (inl refl) is;
+    }
+
+end-capped : (c before : List ℕ) → textOf c ≡ before ++ line endWord (endingWord capped) → EndCapped c
+end-capped c before e =
+    let (m, used, is) = only-ended capped (entryCount c) (resultOf c) before (unfold textOf in e) in
+    let right = right-form c capped m used is in
+    let none = start-accepts-it c capped m used is in
+    let by = ends c right none capped m used is in
+    let calls = is-calls c right none in
+    record {
+      right = right;
+      starts = none;
+      state = m;
+      used = used;
+      result = is;
+      loop = λ P posed supplied. (
+        calls .loop-ended capped m used (inr refl) is P posed supplied,
+        capped-above c (fit c right none) (follows c right none) capped rule.capped m used by (inr refl) (by .answers .1) (by .answers .2) P posed supplied refl,
+      );
+      problem = calls .problem capped m used (inr refl) is;
+    }
 
 end-spent : (c before : List ℕ) → textOf c ≡ before ++ line endWord (endingWord spent) → EndSpent c
 end-spent c before e =
@@ -195,6 +251,7 @@ program-facts =
       calls = is-calls;
       start-refused = λ c right f l. (start-refused l (fileSettings c) f, refused-text c right f);
       end-met = end-met;
+      end-capped = end-capped;
       end-spent = end-spent;
       end-short = end-short;
     }

@@ -3,20 +3,25 @@
 -- it says whether the loop's test holds, and whether the next turn passes the limits.
 -- Assumes nothing.
 use mathlib.Core.Path.{_≡_, refl, ap, sym, _∙_, subst}
+use mathlib.Core.Logic.{_⊎_, inl, inr}
 use mathlib.Core.Bool.{Bool, true, false}
 use mathlib.Core.List.{List}
-use Prim.Native.Nat.{ℕ, suc, _-_}
+use Prim.Native.Nat.{ℕ, suc, _+_, _-_}
 use native.Mathlib.Omega.{arith}
 use lib.IntN.{_+ℤ_}
 use Rattle.sums.specs.Sums.{sumOf}
 use Rattle.area.specs.declared.Settings.{Settings}
 use Rattle.area.specs.Settings.{SettingsFit}
+use Rattle.area.specs.Entry.{pendingOf, carriedOf}
 use Rattle.area.specs.Log.{Log, Machine}
 use Rattle.machine.specs.Log.{anyWanted}
 use Rattle.machine.specs.Promote as rule
 use Rattle.machine.specs.Steps.{startLog}
 use Rattle.machine.specs.Counts.{countOf, countsOf}
 use Rattle.machine.specs.Means.{crossOf}
+use Rattle.machine.specs.Admitted.{totalOf}
+use Rattle.machine.specs.Facts.{errorsOf}
+use Rattle.machine.proofs.Answers.{met-only, capped-only}
 use Rattle.calls.specs.Replies.{promotion}
 use Rattle.calls.specs.Table.{promote, answer}
 use Rattle.published.specs.Figure.{Problem, increment, loopCondition, turns}
@@ -24,11 +29,11 @@ use Rattle.published.specs.Turns.{wantedOf, SettingsMatch, ReadingValued, Suppl
 use Rattle.history.specs.Logged.{stateOf, answerBy}
 use Rattle.history.specs.Source.{Follows, FollowsSoFar, StepsFollow}
 use Rattle.jobfile.specs.Form.{entryCount}
-use Rattle.reporting.specs.Text.{Ending, met, spent, short}
+use Rattle.reporting.specs.Text.{Ending, spent, short}
 use Rattle.running.specs.Execution.{fileSettings}
 use Rattle.running.specs.Report.{reportValuesOf}
 use Rattle.program_calls.specs.Calls.{ownLent, laterCalls, programLog}
-use Rattle.program_calls.specs.Facts.{EndsBy, LoopEnded, LoopSpent, LoopShort}
+use Rattle.program_calls.specs.Facts.{EndsBy, LoopEnded, WithinTolerance, LoopSpent, LoopShort}
 use Rattle.program_calls.proofs.Answers.{promote-answer}
 
 module _ (c : List ℕ) (fit : SettingsFit (fileSettings c)) (follows : StepsFollow (programLog c)) where
@@ -56,6 +61,13 @@ module _ (c : List ℕ) (fit : SettingsFit (fileSettings c)) (follows : StepsFol
     scaled-is : reportValuesOf e m (entryCount c - used) .scaled ≡ crossOf (programLog c .entries)
     scaled-is = unfold reportValuesOf countsOf in ap (λ (x : Machine). x .mean) state-is ∙ unfold stateOf in refl
 
+    -- and the errors are the log's
+    pending-is : reportValuesOf e m (entryCount c - used) .pending ≡ pendingOf (programLog c .entries)
+    pending-is = unfold reportValuesOf countsOf in ap (λ (l : Log). pendingOf (l .entries)) log-same
+
+    carried-is : reportValuesOf e m (entryCount c - used) .carried ≡ carriedOf (programLog c .settings .axes) (programLog c .entries)
+    carried-is = unfold reportValuesOf countsOf in ap (λ (l : Log). carriedOf (l .settings .axes) (l .entries)) log-same
+
     -- ---- with nothing wanted, where promote has this outcome
     module _ (o : rule.Outcome) (none : anyWanted (m .log .entries) ≡ false) (is : rule.promote (m .log) .outcome ≡ o) where
       free : anyWanted (programLog c .entries) ≡ false
@@ -75,21 +87,50 @@ module _ (c : List ℕ) (fit : SettingsFit (fileSettings c)) (follows : StepsFol
           let x = follows .some (λ q. let clash : true ≡ false = sym q ∙ free in let z : _≡_ {A = ℕ} 0 1 = cc in omega arith) in
           (x .0, subst (λ s. SettingsMatch s (x .0)) settings-are (x .1), x .2, x .3)
 
-  -- ---- met
-  module _ (m : Machine) (used : ℕ) (ends : Ends met m used) where
-    pub loop-ended : (P : Problem) → SettingsMatch (fileSettings c) P → Supplied P (programLog c .entries) → LoopEnded P c m used made
+  -- ---- met or capped
+  module _ (e : Ending) (o : rule.Outcome) (m : Machine) (used : ℕ) (ends : Ends e m used) (ended-by : (o ≡ rule.met) ⊎ (o ≡ rule.capped))
+      (none : anyWanted (m .log .entries) ≡ false) (is : rule.promote (m .log) .outcome ≡ o) where
+    pub loop-ended : (P : Problem) → SettingsMatch (fileSettings c) P → Supplied P (programLog c .entries) → LoopEnded P c e m used made
     loop-ended P posed supplied =
-        record { follows = here; went-on = here .went-on; over = over-by (loopCondition P (turns P made)) refl; scaled = scaled-is met m used ends ∙ here .result }
+        record {
+          follows = here;
+          went-on = here .went-on;
+          over = over-by (loopCondition P (turns P made)) refl;
+          scaled = scaled-is e m used ends ∙ here .result;
+          pending = pending-is e m used ends ∙ here .pending;
+          carried = carried-is e m used ends ∙ here .carried;
+        }
       where
         here : Follows P (programLog c) made
-        here = there met m used ends rule.met (ends .answers .1) (ends .answers .2) P posed supplied
+        here = there e m used ends o none is P posed supplied
+
+        said : answerBy ownLent (programLog c) promote ≡ answer (promotion o)
+        said = again e m used ends o none is
+
+        goes : loopCondition P (turns P made) ≡ true → (o ≡ rule.met) ⊎ (o ≡ rule.capped) → ⊥
+        goes q (inl f) = here .goes-on ownLent q .0 (said ∙ ap (λ x. answer (promotion x)) f)
+        goes q (inr f) = here .goes-on ownLent q .1 (said ∙ ap (λ x. answer (promotion x)) f)
 
         over-by : (t : Bool) → loopCondition P (turns P made) ≡ t → loopCondition P (turns P made) ≡ false
-        over-by true q = absurd (here .goes-on ownLent q (again met m used ends rule.met (ends .answers .1) (ends .answers .2)))
+        over-by true q = absurd (goes q ended-by)
         over-by false q = q
 
-    pub met-problem : (P : Problem) × SettingsMatch (fileSettings c) P × ReadingValued P × Supplied P (programLog c .entries)
-    met-problem = posed-problem met m used ends rule.met (ends .answers .1) (ends .answers .2)
+    pub ended-problem : (P : Problem) × SettingsMatch (fileSettings c) P × ReadingValued P × Supplied P (programLog c .entries)
+    ended-problem = posed-problem e m used ends o none is
+
+    -- η and carried together, as the outcome says
+    module _ (P : Problem) (posed : SettingsMatch (fileSettings c) P) (supplied : Supplied P (programLog c .entries)) where
+      sums : errorsOf (programLog c) ≡ turns P made .estimate + turns P made .carried
+      sums = let here = there e m used ends o none is P posed supplied in omega (arith, here .pending, here .carried)
+
+      tolerance : P .tolerance ≡ programLog c .settings .threshold
+      tolerance = posed-here e m used ends P posed .tolerance
+
+      pub met-within : o ≡ rule.met → WithinTolerance P made
+      met-within f = omega (arith, sums, tolerance, met-only (programLog c) (outcome e m used ends o none is ∙ f))
+
+      pub capped-above : o ≡ rule.capped → WithinTolerance P made → ⊥
+      capped-above f w = omega (arith, sums, tolerance, w, capped-only (programLog c) (outcome e m used ends o none is ∙ f) .1)
 
   -- ---- spent
   module _ (m : Machine) (used : ℕ) (ends : Ends spent m used) where
@@ -101,6 +142,8 @@ module _ (c : List ℕ) (fit : SettingsFit (fileSettings c)) (follows : StepsFol
           not-over = why .0;
           exceeds = subst (λ (s : Settings). ExceedsLimits (s .budget) (turns P (suc made))) (settings-are spent m used ends) (why .1);
           scaled = scaled-is spent m used ends ∙ here .result;
+          pending = pending-is spent m used ends ∙ here .pending;
+          carried = carried-is spent m used ends ∙ here .carried;
         }
       where
         here : Follows P (programLog c) made
@@ -119,7 +162,12 @@ module _ (c : List ℕ) (fit : SettingsFit (fileSettings c)) (follows : StepsFol
 
     pub loop-short : (P : Problem) → SettingsMatch (fileSettings c) P → SuppliedSoFar P (programLog c .entries) → LoopShort P c m used made
     loop-short P posed supplied =
-        record { follows = here; scaled = ap (λ z. z +ℤ sumOf (wantedOf (programLog c .entries)) (increment P)) (scaled-is short m used ends) ∙ here .result }
+        record {
+          follows = here;
+          scaled = ap (λ z. z +ℤ sumOf (wantedOf (programLog c .entries)) (increment P)) (scaled-is short m used ends) ∙ here .result;
+          pending = ap (λ n. n + totalOf (P .indicator) (wantedOf (programLog c .entries))) (pending-is short m used ends) ∙ here .pending;
+          carried = carried-is short m used ends ∙ here .carried;
+        }
       where
         here : FollowsSoFar P (programLog c) made
         here = follows .every-moment P (posed-here short m used ends P posed) supplied

@@ -25,7 +25,7 @@ use Rattle.history.proofs.Moves.{MachineInvariant, from-log, moved-fine}
 use Rattle.history.proofs.LogSteps.{log-facts}
 use Rattle.jobfile.specs.Form.{entryCount}
 use Rattle.jobfile.specs.File.{entryOf}
-use Rattle.reporting.specs.Text.{Ending, met, spent, short}
+use Rattle.reporting.specs.Text.{Ending, met, capped, spent, short}
 use Rattle.running.specs.Execution.{Result, refusedAt, ended, unfinished, deliveryCause, deliveryByte, byOutcome, execution, fileSettings}
 use Rattle.running.specs.Facts.{NamesReading}
 use Rattle.running.proofs.Ends.{delivery-numbers}
@@ -41,6 +41,7 @@ module _ (c : List ℕ) (l : Log) (i : ℕ) (x : Call) (xs : List Call) (t : Tak
   ending-too : (e : Ending) (m : Machine) (used : ℕ) → EndingAnswers c e m used (answersBy (logStep l (lent x)) (lendAll ownPart xs)) → EndingAnswers c e m used (answersBy l (lendAll ownPart (x ∷ xs)))
   unfolding lendAll answersBy
   ending-too met m used a = (after-taken _ _ _ t (a .0), a .1, a .2)
+  ending-too capped m used a = (after-taken _ _ _ t (a .0), a .1, a .2)
   ending-too spent m used a = (after-taken _ _ _ t (a .0), a .1, a .2)
   ending-too short m used a = ((t, a .0), a .1, a .2)
 
@@ -152,7 +153,7 @@ module _ (c : List ℕ) where
       said : answerBy ownLent l promote ≡ answer (promotion (rule.promote l .outcome))
       said = promote-answer l (f .sound .settings) free
 
-      -- met or spent: the last call
+      -- met, capped or spent: the last call
       idle : (o : rule.Outcome) (e : Ending) → rule.promote l .outcome ≡ o → goesOnAfter o ≡ false → (o ≡ rule.promoted → ⊥)
           → ((ys : List Answer) → LastAnswer (answer (promotion o)) ys → EndingAnswers c e m i ys)
           → ResultBy c l i (followedBy l promote after) (ended e m i)
@@ -196,6 +197,7 @@ module _ (c : List ℕ) where
       without : (o : rule.Outcome) → rule.promote l .outcome ≡ o → ResultBy c l i (followedBy l promote after) (byOutcome o m i (execution c n (steps.promoteStep m) i))
       unfolding byOutcome goesOnAfter
       without rule.met e = idle rule.met met e refl (λ q. let z : _≡_ {A = ℕ} 0 1 = cc in omega arith) (λ ys a. (a, free, e))
+      without rule.capped e = idle rule.capped capped e refl (λ q. let z : _≡_ {A = ℕ} 0 1 = cc in omega arith) (λ ys a. (a, free, e))
       without rule.spent e = idle rule.spent spent e refl (λ q. let z : _≡_ {A = ℕ} 0 1 = cc in omega arith) (λ ys a. (a, free, e))
       without rule.promoted e = promoting e
 

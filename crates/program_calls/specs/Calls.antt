@@ -39,6 +39,7 @@ entryCall c i = deliver (entryOf c i .readings) (entryOf c i .indicator)
 -- The program goes on after *accepted* and *promoted*, and after no other answer.
 unfoldable pub goesOnAfter : rule.Outcome → Bool
 goesOnAfter rule.met = false
+goesOnAfter rule.capped = false
 goesOnAfter rule.spent = false
 goesOnAfter rule.promoted = true
 

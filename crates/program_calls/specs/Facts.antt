@@ -1,6 +1,6 @@
 -- The program is a list of calls: the execution of a job file of the right form that start accepts is a list of the third demand, its log is
--- the one that is printed from, and where it prints `end met` the loop of Fig. 1 has ended with the result that is printed as `scaled`; where
--- it prints `end spent` the loop's next turn would pass the limits, and where `end short` a block is wanted still.
+-- the one that is printed from, and where it prints `end met` or `end capped` the loop of Fig. 1 has ended with the result that is printed as
+-- `scaled`; where it prints `end spent` the loop's next turn would pass the limits, and where `end short` a block is wanted still.
 use mathlib.Core.Path.{_≡_}
 use mathlib.Core.Logic.{_⊎_}
 use mathlib.Core.Bool.{true, false}
@@ -13,6 +13,7 @@ use Rattle.machine.specs.Log.{anyWanted}
 use Rattle.machine.specs.Promote as rule
 use Rattle.machine.specs.Steps.{startLog}
 use Rattle.machine.specs.Counts.{countOf}
+use Rattle.machine.specs.Admitted.{totalOf}
 use Rattle.calls.specs.Replies.{refused, accepted, promotion}
 use Rattle.calls.specs.Table.{Call, Answer, answer}
 use Rattle.published.specs.Figure.{Problem, increment, loopCondition, turns}
@@ -22,7 +23,7 @@ use Rattle.history.specs.Storage.{Storage, Lent}
 use Rattle.history.specs.Found.{Demand}
 use Rattle.history.specs.Source.{MeanFollows, Follows, FollowsSoFar, StepsFollow, lendAll}
 use Rattle.jobfile.specs.Form.{formed, formOf, entryCount, entryByte}
-use Rattle.reporting.specs.Text.{line, endWord, Ending, met, spent, short, endingWord, reportText, refusalText}
+use Rattle.reporting.specs.Text.{line, endWord, Ending, met, capped, spent, short, endingWord, reportText, refusalText}
 use Rattle.running.specs.Execution.{Result, refusedAt, ended, unfinished, deliveryByte, startByte, startCause, resultOf, fileSettings}
 use Rattle.running.specs.Report.{reportValuesOf, textOf}
 use Rattle.running.specs.Facts.{ByDelivery, NamesReading}
@@ -46,10 +47,11 @@ pub record LastAnswer (y : Answer) (ys : List Answer) : Type 0 where
 
 -- ---- the calls xs, made from the log l on with i entries delivered
 
--- How the answers ys end, by the ending, with the state m and so many entries used. *Met* and *spent* are the last answer, with nothing wanted,
--- and what promote answers at that state. *Short* is no answer: a block is wanted, and no entry is left.
+-- How the answers ys end, by the ending, with the state m and so many entries used. *Met*, *capped* and *spent* are the last answer, with nothing
+-- wanted, and what promote answers at that state. *Short* is no answer: a block is wanted, and no entry is left.
 abbrev pub EndingAnswers : List ℕ → Ending → Machine → (used : ℕ) → List Answer → Type 0
 EndingAnswers c met m used ys = LastAnswer (answer (promotion rule.met)) ys × (anyWanted (m .log .entries) ≡ false) × (rule.promote (m .log) .outcome ≡ rule.met)
+EndingAnswers c capped m used ys = LastAnswer (answer (promotion rule.capped)) ys × (anyWanted (m .log .entries) ≡ false) × (rule.promote (m .log) .outcome ≡ rule.capped)
 EndingAnswers c spent m used ys = LastAnswer (answer (promotion rule.spent)) ys × (anyWanted (m .log .entries) ≡ false) × (rule.promote (m .log) .outcome ≡ rule.spent)
 EndingAnswers c short m used ys = AllTaken ys × (anyWanted (m .log .entries) ≡ true) × (entryCount c ≤ used)
 
@@ -89,15 +91,21 @@ ResultBy c l i xs unfinished = Unit {0}
 
 -- ---- beside Fig. 1
 
--- The loop of Fig. 1 has ended with the state m: n is the number of its turns.
-pub record LoopEnded (P : Problem) (c : List ℕ) (m : Machine) (used n : ℕ) : Type 0 where
+-- The loop of Fig. 1 has ended with the state m: n is the number of its turns, e whether it is called met or capped.
+pub record LoopEnded (P : Problem) (c : List ℕ) (e : Ending) (m : Machine) (used n : ℕ) : Type 0 where
   -- Fig. 1 has the log's state
   pub follows : Follows P (programLog c) n
   -- its test held before each turn, and fails after them
   pub went-on : (k : ℕ) → k < n → loopCondition P (turns P k) ≡ true
   pub over : loopCondition P (turns P n) ≡ false
-  -- and what is printed as `scaled` is its r
-  pub scaled : reportValuesOf met m (entryCount c - used) .scaled ≡ turns P n .result
+  -- what is printed as `scaled` is its r, as `pending` its η, and as `carried` its variable of that name
+  pub scaled : reportValuesOf e m (entryCount c - used) .scaled ≡ turns P n .result
+  pub pending : reportValuesOf e m (entryCount c - used) .pending ≡ turns P n .estimate
+  pub carried : reportValuesOf e m (entryCount c - used) .carried ≡ turns P n .carried
+
+-- After n turns η and carried together are at most TOL.
+abbrev pub WithinTolerance : Problem → ℕ → Type 0
+WithinTolerance P n = turns P n .estimate + turns P n .carried ≤ P .tolerance
 
 -- The run is *spent* at the state m: n turns are made, and after the next one 𝒪 and 𝒜 would be past the limits.
 pub record LoopSpent (P : Problem) (c : List ℕ) (m : Machine) (used n : ℕ) : Type 0 where
@@ -109,6 +117,9 @@ pub record LoopSpent (P : Problem) (c : List ℕ) (m : Machine) (used n : ℕ) :
   pub exceeds : ExceedsLimits (fileSettings c .budget) (turns P (suc n))
   -- and what is printed as `scaled` is its r so far
   pub scaled : reportValuesOf spent m (entryCount c - used) .scaled ≡ turns P n .result
+  -- as `pending` its η, and as `carried` its variable of that name
+  pub pending : reportValuesOf spent m (entryCount c - used) .pending ≡ turns P n .estimate
+  pub carried : reportValuesOf spent m (entryCount c - used) .carried ≡ turns P n .carried
 
 -- The run is *short* at the state m: n turns are begun, and of the last, or of the lines before the loop, a block is wanted still.
 pub record LoopShort (P : Problem) (c : List ℕ) (m : Machine) (used n : ℕ) : Type 0 where
@@ -116,6 +127,9 @@ pub record LoopShort (P : Problem) (c : List ℕ) (m : Machine) (used n : ℕ) :
   pub follows : FollowsSoFar P (programLog c) n
   -- and what is printed as `scaled` is its r without the increments of the wanted
   pub scaled : reportValuesOf short m (entryCount c - used) .scaled +ℤ sumOf (wantedOf (programLog c .entries)) (increment P) ≡ turns P n .result
+  -- as `pending` its η without the indicators of the wanted, and as `carried` its variable of that name
+  pub pending : reportValuesOf short m (entryCount c - used) .pending + totalOf (P .indicator) (wantedOf (programLog c .entries)) ≡ turns P n .estimate
+  pub carried : reportValuesOf short m (entryCount c - used) .carried ≡ turns P n .carried
 
 -- ---- the program
 
@@ -135,10 +149,12 @@ pub record ProgramIsCalls (c : List ℕ) : Type 0 where
   pub printed : (e : Ending) (m : Machine) (used : ℕ) → resultOf c ≡ ended e m used → (m ≡ stateOf (programLog c)) × (textOf c ≡ reportText (reportValuesOf e (stateOf (programLog c)) (entryCount c - used)))
   -- and where it is refused, the last call is refused by that number
   pub refuses : (number byte : ℕ) → resultOf c ≡ refusedAt number byte → RefusedBy c (startLog (fileSettings c)) 0 (laterCalls c) number byte × (textOf c ≡ refusalText number byte)
-  -- where it prints `end met` the loop of Fig. 1 has ended, for every problem that gives the file's readings and indicators; there is one
-  pub loop-ended : (m : Machine) (used : ℕ) → resultOf c ≡ ended met m used → (P : Problem) → SettingsMatch (fileSettings c) P → Supplied P (programLog c .entries)
-      → LoopEnded P c m used (countOf 2 (programLog c .entries))
-  pub problem : (m : Machine) (used : ℕ) → resultOf c ≡ ended met m used → (P : Problem) × SettingsMatch (fileSettings c) P × ReadingValued P × Supplied P (programLog c .entries)
+  -- where it prints `end met` or `end capped` the loop of Fig. 1 has ended, for every problem that gives the file's readings and indicators;
+  -- there is one
+  pub loop-ended : (e : Ending) (m : Machine) (used : ℕ) → (e ≡ met) ⊎ (e ≡ capped) → resultOf c ≡ ended e m used → (P : Problem) → SettingsMatch (fileSettings c) P
+      → Supplied P (programLog c .entries) → LoopEnded P c e m used (countOf 2 (programLog c .entries))
+  pub problem : (e : Ending) (m : Machine) (used : ℕ) → (e ≡ met) ⊎ (e ≡ capped) → resultOf c ≡ ended e m used
+      → (P : Problem) × SettingsMatch (fileSettings c) P × ReadingValued P × Supplied P (programLog c .entries)
 
 -- Of every list of bytes whose text has `end met` as its last line:
 pub record EndMet (c : List ℕ) : Type 0 where
@@ -148,8 +164,24 @@ pub record EndMet (c : List ℕ) : Type 0 where
   pub state : Machine
   pub used : ℕ
   pub result : resultOf c ≡ ended met state used
-  -- the loop of Fig. 1 has ended, and `scaled` is its r, for every problem that gives the file's readings and indicators; there is one
-  pub loop : (P : Problem) → SettingsMatch (fileSettings c) P → Supplied P (programLog c .entries) → LoopEnded P c state used (countOf 2 (programLog c .entries))
+  -- the loop of Fig. 1 has ended, `scaled` is its r, and η and carried together are at most TOL, for every problem that gives the file's
+  -- readings and indicators; there is one
+  pub loop : (P : Problem) → SettingsMatch (fileSettings c) P → Supplied P (programLog c .entries)
+      → LoopEnded P c met state used (countOf 2 (programLog c .entries)) × WithinTolerance P (countOf 2 (programLog c .entries))
+  pub problem : (P : Problem) × SettingsMatch (fileSettings c) P × ReadingValued P × Supplied P (programLog c .entries)
+
+-- Of every list of bytes whose text has `end capped` as its last line:
+pub record EndCapped (c : List ℕ) : Type 0 where
+  -- it is a file of the right form that start accepts, and its execution ends *capped*
+  pub right : formOf c ≡ formed
+  pub starts : startCause c ≡ 0
+  pub state : Machine
+  pub used : ℕ
+  pub result : resultOf c ≡ ended capped state used
+  -- the loop of Fig. 1 has ended, `scaled` is its r, and η and carried together are above TOL, for every problem that gives the file's readings
+  -- and indicators; there is one
+  pub loop : (P : Problem) → SettingsMatch (fileSettings c) P → Supplied P (programLog c .entries)
+      → LoopEnded P c capped state used (countOf 2 (programLog c .entries)) × (WithinTolerance P (countOf 2 (programLog c .entries)) → ⊥)
   pub problem : (P : Problem) × SettingsMatch (fileSettings c) P × ReadingValued P × Supplied P (programLog c .entries)
 
 -- Of every list of bytes whose text has `end spent` as its last line:
@@ -185,7 +217,8 @@ pub record ProgramFacts : Type 0 where
   -- a file that start refuses: that is its only call, and it is refused by the number that is printed
   pub start-refused : (c : List ℕ) → formOf c ≡ formed → (startCause c ≡ 0 → ⊥) → (l : Log)
       → (answerBy ownLent l (startCall c) ≡ answer (refused (startCause c))) × (textOf c ≡ refusalText (startCause c) (startByte (startCause c)))
-  -- where it prints `end met`, `end spent` and `end short`
+  -- where it prints `end met`, `end capped`, `end spent` and `end short`
   pub end-met : (c before : List ℕ) → textOf c ≡ before ++ line endWord (endingWord met) → EndMet c
+  pub end-capped : (c before : List ℕ) → textOf c ≡ before ++ line endWord (endingWord capped) → EndCapped c
   pub end-spent : (c before : List ℕ) → textOf c ≡ before ++ line endWord (endingWord spent) → EndSpent c
   pub end-short : (c before : List ℕ) → textOf c ≡ before ++ line endWord (endingWord short) → EndShort c

@@ -9,7 +9,7 @@ use native.Mathlib.Omega.{arith}
 use lib.ListN.{drop}
 use borrow.Author.Tests.{eq-eqb, ne-eqb, le-leb, lt-leb}
 use Rattle.area.specs.Entry.{Entry}
-use Rattle.machine.specs.Promote.{largest, firstActive, selected}
+use Rattle.machine.specs.Choose.{largest, firstActive, selected}
 
 module _ (e : Entry) (es : List Entry) where
   taken : e .state ≡ 1 → largest es ≤ e .indicator → largest (e ∷ es) ≡ e .indicator

@@ -3,14 +3,15 @@
 -- decide as the refined entries do, and the records written are theirs.
 -- Assumes nothing.
 use mathlib.Core.Path.{_≡_, sym, ap, ap₂, _∙_, subst}
-use mathlib.Core.Bool.{Bool, true, false}
+use mathlib.Core.Bool.{Bool, true, false, cond}
 use mathlib.Core.List.{List}
-use Prim.Native.Nat.{ℕ, _+_, _*_, _-_, _<_, _≤_}
+use Prim.Native.Nat.{ℕ, _+_, _*_, _-_, _^_, _<_, _≤_}
 use native.Mathlib.Omega.{arith}
 use borrow.Author.Tests.{le-leb, lt-leb}
 use lib.IntN.{ℤ}
 use lib.ListN.{length, getD, set}
-use Rattle.grid.specs.Index.{level, Within, forward}
+use Rattle.grid.specs.Index.{level, Within, Index, forward, atCeiling}
+use Rattle.grid.proofs.Ceilings.{ceiling-facts}
 use Rattle.area.specs.declared.JobRecord.{JobRecord}
 use Rattle.area.specs.declared.IndexRecord.{IndexRecord}
 use Rattle.area.specs.declared.Settings.{Settings}
@@ -20,7 +21,7 @@ use Rattle.area.specs.Records.{Run, recordsOf, runOf, stored, heldIn}
 use Rattle.area.specs.Entry.{Entry, reservedBy}
 use Rattle.area.specs.Log.{Machine, machineWithEntries}
 use Rattle.area.specs.Encoding.{Area, areaOf, entriesOf, machineOf, written}
-use Rattle.area.proofs.Records.{length-recordsOf}
+use Rattle.area.proofs.Records.{length-recordsOf, indicators-small}
 use Rattle.quadrature.specs.Readings.{recordAt}
 use Rattle.quadrature.proofs.Held.{held-length, held-record}
 use Rattle.soundness.specs.Held.{levelsAt, stateAt}
@@ -28,6 +29,7 @@ use Rattle.machine.specs.Log.{firstWanted}
 use Rattle.machine.specs.Promote.{makeOld, admits, admittedAxes, refine, fits, spent, promoted, promoteAt}
 use Rattle.machine.specs.Areas.{changedBy, refineOn}
 use Rattle.encoding.specs.Entries.{SoundMachine}
+use Rattle.encoding.proofs.Facts.{range-facts}
 use Rattle.machine.proofs.Old.{reads-admits}
 use Rattle.machine.proofs.Facts.{step-facts}
 use Rattle.writing.specs.Changes.{withState, appendedAll, sizesOf}
@@ -94,11 +96,12 @@ pub record Counted (job : JobRecord) (levels marks : List ℕ) (count sizes : �
   pub count-is : count ≡ length (markedAxes (job .settings .axes) marks)
   pub sizes-are : sizes ≡ sizesOf levels (markedAxes (job .settings .axes) marks)
 
--- the cells after the place has its new state, and after the marked are appended
-pub record Changed (job : JobRecord) (c : List ℕ) (p : ℕ) (levels marks : List ℕ) (indicator first : ℕ) (c₁ c₂ : List ℕ) : Type 0 where
+-- the cells after the place has its new state, and after the marked are appended; and the carried error then
+pub record Changed (job : JobRecord) (c : List ℕ) (p : ℕ) (levels marks : List ℕ) (indicator first carried : ℕ) (c₁ c₂ : List ℕ) : Type 0 where
   pub first-is : first ≡ readingsFor (job .settings) (job .reserved)
   pub indicator-is : indicator ≡ recordAt (recordsOf c) p .indicator
   pub withState-is : runOf c₁ ≡ stored (runOf c) p (withState (recordAt (recordsOf c) p) 2 indicator)
+  pub carried-is : carried ≡ job .carried + cond (atCeiling 8 levels) indicator 0
   pub appended-is : runOf c₂ ≡ record { records = appendedAll (job .settings) (recordsOf c₁) (job .held) first levels (markedAxes (job .settings .axes) marks); rest = runOf c₁ .rest }
 
 module _ {job : JobRecord} {c : List ℕ} {store : List ℤ} {p : ℕ} (t : Refinable job c store p) where
@@ -129,6 +132,18 @@ module _ {job : JobRecord} {c : List ℕ} {store : List ℤ} {p : ℕ} (t : Refi
 
   pub scan-asks : (job .settings .axes ≤ 8) × (job .held * 27 ≤ length c) × (p < job .held) × Searchable (heldIn c (job .held))
   scan-asks = (few-axes job c store (t .valid), room job c store (t .valid), t .place, searchable job c store (t .valid))
+
+  -- the place holds an index of the job
+  place-index : Index (job .settings .axes) k
+  unfolding heldIn
+  place-index =
+      subst (Index (job .settings .axes)) (ap (λ (x : IndexRecord). x .levels) (held-record c (job .held) (room job c store (t .valid)) p (t .place)))
+      (t .valid .sound .structure .index p (omega (arith, t .place, held-length c (job .held) (room job c store (t .valid)))))
+
+  -- its indicator joins a carried error that has room for it
+  pub carried-asks : {levels : List ℕ} → levels ≡ k → ((n : ℕ) → getD c n 0 < 2 ^ 32) → Within levels × (job .carried < 2 ^ 41)
+  carried-asks e words =
+      (subst Within (sym e) (place-index .ceilings), omega (arith, range-facts .errors area (t .valid .sound) (indicators-small c (job .held) words)))
 
   -- ---- the answers
 
@@ -227,7 +242,7 @@ module _ {job : JobRecord} {c : List ℕ} {store : List ℤ} {p : ℕ} (t : Refi
           most : readingsFor g (job .reserved + sizes) ≤ readingsFor g (g .budget)
           most = reading-facts .more g (job .reserved + sizes) (g .budget) within
 
-      module _ (few : job .held + count ≤ 512) (within : job .reserved + sizes ≤ job .settings .budget) {indicator first : ℕ} {c₁ c₂ : List ℕ} (w : Changed job c p levels marks indicator first c₁ c₂) where
+      module _ (few : job .held + count ≤ 512) (within : job .reserved + sizes ≤ job .settings .budget) {indicator first carried : ℕ} {c₁ c₂ : List ℕ} (w : Changed job c p levels marks indicator first carried c₁ c₂) where
         abbrev jobAfter : JobRecord
         jobAfter =
             record {
@@ -235,6 +250,7 @@ module _ {job : JobRecord} {c : List ℕ} {store : List ℤ} {p : ℕ} (t : Refi
               held = job .held + count;
               reserved = job .reserved + sizes;
               pending = job .pending - indicator;
+              carried = carried;
               mean = job .mean;
             }
 
@@ -255,6 +271,12 @@ module _ {job : JobRecord} {c : List ℕ} {store : List ℤ} {p : ℕ} (t : Refi
               rest = runOf c .rest;
             })
 
+        carried-raised : carried ≡ job .carried + cond (atCeiling (job .settings .axes) k) (recordAt (recordsOf c) p .indicator) 0
+        carried-raised =
+            w .carried-is
+            ∙ ap₂ (λ b i. job .carried + cond b i 0)
+            (ap (atCeiling 8) (u .levels-are) ∙ ceiling-facts .axes-alike (job .settings .axes) k (t .valid .sound .settings .axes .0) (few-axes job c store (t .valid)) place-index) (w .indicator-is)
+
         after-written : areaOf jobAfter c₂ store ≡ written area after
         after-written =
             (λ i. record {
@@ -263,6 +285,7 @@ module _ {job : JobRecord} {c : List ℕ} {store : List ℤ} {p : ℕ} (t : Refi
                 held = job .held + count-admitted i;
                 reserved = job .reserved + sizes-admitted i;
                 pending = job .pending - w .indicator-is i;
+                carried = carried-raised i;
                 mean = job .mean;
               };
               run = run-is i;

@@ -1,23 +1,27 @@
-// Promote on an area that is known to be sound: selecting a place, and refining it. The public call is that of the crate `calls`.
+// Promote on an area that is known to be sound: how it ends, selecting a place, and refining it. The public call is that of the crate `calls`.
 ghost use mathlib.Core.Path.{_≡_};
-ghost use Prim.Native.Nat.{ℕ, _+_, _*_, _<_, _≤_};
+ghost use mathlib.Core.Bool.{cond};
+ghost use Prim.Native.Nat.{ℕ, _+_, _*_, _^_, _<_, _≤_};
+ghost use lib.Dec.{leb};
 ghost use lib.ListN.{length, getD};
-ghost use Rattle.grid.specs.Index.{level};
+ghost use Rattle.grid.specs.Index.{level, Within, atCeiling};
 ghost use Rattle.area.specs.Settings.{readingsFor};
 ghost use Rattle.area.specs.Records.{recordsOf, runOf, heldIn};
 ghost use Rattle.area.specs.Encoding.{areaOf, entriesOf};
 ghost use Rattle.quadrature.specs.Readings.{recordAt};
 ghost use Rattle.machine.specs.Log.{firstWanted};
 ghost use Rattle.machine.specs.Areas.{refineOn, promoteOn};
-ghost use Rattle.machine.specs.Promote.{selected, makeOld, isOld, admits};
+ghost use Rattle.machine.specs.Choose.{selected};
+ghost use Rattle.machine.specs.Promote.{met, capped, makeOld, isOld, admits};
 ghost use Rattle.writing.specs.Changes.{appendedAll, sizesOf};
 ghost use Rattle.writing.specs.Heads.{headsOf};
 ghost use Rattle.writing.specs.ValidArea.{ValidArea};
-ghost use Rattle.promotion.specs.Outcomes.{promotionOf};
+ghost use Rattle.promotion.specs.Outcomes.{outcomeOf, promotionOf};
 ghost use Rattle.promotion.specs.Marks.{marksOf, markedAxes, Searchable, MarkedWithin};
 
 pub enum Outcome {
     Met,
+    Capped,
     Spent,
     Promoted,
 }
@@ -157,6 +161,18 @@ fn append_marked(
     }
 }
 
+// The carried error once an index is old: raised by its indicator if it is at a ceiling, among eight axes as among the job's (`axes-alike`).
+fn carried_after(carried: u64, levels: [u32; 8], indicator: u32) -> u64
+    requires { ⌜ Within levels × (carried < 2 ^ 41) ⌝ }
+    ensures { λ r. ⌜ r ≡ carried + cond (atCeiling 8 levels) indicator 0 ⌝ }
+{
+    if grid::at_ceiling(levels) {
+        carried + indicator as u64
+    } else {
+        carried
+    }
+}
+
 // Refines an active place, unless that is spent.
 pub fn refine(job: area::JobRecord, place: usize, cells: &mut [u32], store: &[i32]) -> Promotion
     requires { ⌜ ValidArea (areaOf job (now cells) (now store)) × (length (entriesOf (areaOf job (now cells) (now store))) ≤ firstWanted (entriesOf (areaOf job (now cells) (now store)))) ⌝ }
@@ -193,13 +209,26 @@ pub fn refine(job: area::JobRecord, place: usize, cells: &mut [u32], store: &[i3
     after.held = (held + count) as u32;
     after.reserved = (reserved + sizes) as u32;
     after.pending = job.pending - indicator as u64;
+    after.carried = carried_after(job.carried, levels, indicator);
     Promotion {
         outcome: Outcome::Promoted,
         job: after,
     }
 }
 
-// Promotes: met, or the selected place refined, unless that is spent.
+// What promote answers where the pending error is at most the threshold: met if the carried error does not bring it above, otherwise capped.
+fn ending(job: area::JobRecord) -> Outcome
+    requires { ⌜ job .pending + job .carried < 2 ^ 41 ⌝ }
+    ensures { λ r. ⌜ outcomeOf r ≡ cond (leb (job .pending + job .carried) (job .settings .threshold)) met capped ⌝ }
+{
+    if job.pending + job.carried <= job.settings.threshold {
+        Outcome::Met
+    } else {
+        Outcome::Capped
+    }
+}
+
+// Promotes: met or capped, or the selected place refined, unless that is spent.
 pub fn promote(job: area::JobRecord, cells: &mut [u32], store: &[i32]) -> Promotion
     requires { ⌜ ValidArea (areaOf job (now cells) (now store)) × (length (entriesOf (areaOf job (now cells) (now store))) ≤ firstWanted (entriesOf (areaOf job (now cells) (now store)))) ⌝ }
     ensures is { λ r. ⌜ promotionOf r (now (cells .exit)) (now (store .entry)) ≡ promoteOn (areaOf job (now (cells .entry)) (now (store .entry))) ⌝ }
@@ -207,7 +236,7 @@ pub fn promote(job: area::JobRecord, cells: &mut [u32], store: &[i32]) -> Promot
 {
     if job.pending <= job.settings.threshold {
         return Promotion {
-            outcome: Outcome::Met,
+            outcome: ending(job),
             job,
         };
     }

@@ -42,6 +42,11 @@ module _ (P : Problem) where
   joins-estimate [] s = omega arith
   joins-estimate (k ∷ ks) s = omega (arith, joins-estimate ks (joined P k s))
 
+  pub joins-carried : (ks : List (List ℕ)) (s : Figure) → joinedAll P ks s .carried ≡ s .carried
+  unfolding joinedAll joined
+  joins-carried [] s = refl
+  joins-carried (k ∷ ks) s = joins-carried ks (joined P k s)
+
   pub joins-result : (ks : List (List ℕ)) (s : Figure) → joinedAll P ks s .result ≡ s .result +ℤ sumOf ks (increment P)
   unfolding joinedAll joined sumOf
   joins-result [] s = sym (+ℤ-idr (s .result))

@@ -9,7 +9,7 @@ use lib.IntN.{pos, +ℤ-idl}
 use Rattle.grid.specs.Index.{root}
 use Rattle.area.specs.declared.Settings.{Settings}
 use Rattle.area.specs.Settings.{SettingsFit}
-use Rattle.area.specs.Entry.{reservedBy, pendingOf}
+use Rattle.area.specs.Entry.{reservedBy, pendingOf, carriedOf}
 use Rattle.encoding.specs.Entries.{SoundMachine}
 use Rattle.machine.specs.Promote.{promoted, promote}
 use Rattle.machine.specs.Steps.{started}
@@ -27,11 +27,11 @@ use Rattle.published.proofs.OneTurn as OneTurn
 -- ---- the lines before the loop: nothing yet, and then the root is joined
 
 pub nothing : Figure
-nothing = record { old = []; active = []; result = pos 0; estimate = 0 }
+nothing = record { old = []; active = []; result = pos 0; estimate = 0; carried = 0 }
 
 module _ (P : Problem) where
   nothing-agrees : Agrees P [] nothing
-  unfolding nothing activeOf pendingOf reservedBy totalOf
+  unfolding nothing activeOf pendingOf carriedOf reservedBy totalOf
   nothing-agrees =
       record {
         supplied =
@@ -40,6 +40,7 @@ module _ (P : Problem) where
         old-here = λ k h. absurd (List·Memᴰ·not-nil h);
         active = refl;
         pending = refl;
+        carried = refl;
         held = refl;
         reserved = refl;
         once = tt;
@@ -51,7 +52,7 @@ module _ (P : Problem) where
 
   pub root-joined : joinedAll P (root ∷ []) nothing ≡ initial P
   unfolding joinedAll joined nothing initial
-  root-joined = ap₂ {C = Figure} (λ r n. record { old = []; active = root ∷ []; result = r; estimate = n }) (+ℤ-idl (increment P root)) (zero-add (P .indicator root))
+  root-joined = ap₂ {C = Figure} (λ r n. record { old = []; active = root ∷ []; result = r; estimate = n; carried = 0 }) (+ℤ-idl (increment P root)) (zero-add (P .indicator root))
 
   module _ (g : Settings) (measured : ReadingValued P) (fit : SettingsFit g) (posed : SettingsMatch g P) where
     begins-both : SoundMachine (turnsOn P g 0) × Simulates P (turnsOn P g 0) (initial P)
@@ -71,7 +72,8 @@ pub published-facts : PublishedFacts
 published-facts =
     record {
       begins = λ P g measured fit posed. begins-both P g measured fit posed .1;
-      over = Outcomes.over;
+      over-met = Outcomes.over-met;
+      over-capped = Outcomes.over-capped;
       goes-on = Outcomes.goes-on;
       selects = OneTurn.selects-same;
       refines = λ P m s p v at h a. OneTurn.refines P m s v at p h a;

@@ -10,8 +10,9 @@ use lib.Dec.{eqb}
 use lib.ListN.{length, length-append}
 use Rattle.grid.specs.Block.{block, blockSize}
 use Rattle.grid.specs.Terms.{NoDup}
-use Rattle.area.specs.Entry.{Entry, reservedBy, pendingOf}
+use Rattle.area.specs.Entry.{Entry, reservedBy, pendingOf, carriedOf}
 use Rattle.area.specs.Log.{Machine}
+use Rattle.area.proofs.Carried.{carried-facts}
 use Rattle.encoding.specs.Entries.{entryAt, EnteredOld}
 use Rattle.machine.specs.Log.{wanted}
 use Rattle.machine.specs.Admitted.{totalOf}
@@ -32,6 +33,7 @@ pub record Agrees (P : Problem) (es : List Entry) (s : Figure) : Type 0 where
   pub old-here : (k : List ℕ) → List·Memᴰ k (s .old) → EnteredOld es k
   pub active : activeOf es ≡ s .active
   pub pending : pendingOf es ≡ s .estimate
+  pub carried : carriedOf (P .axes) es ≡ s .carried
   pub held : length es ≡ length (s .old) + length (s .active)
   pub reserved : reservedBy es ≡ totalOf blockSize (s .old) + totalOf blockSize (s .active)
   pub once : NoDup (s .old)
@@ -62,6 +64,7 @@ waiting-none P m es s w =
       active = a .active;
       result = w .result;
       pending = a .pending;
+      carried = ap (λ d. carriedOf d (m .log .entries)) (sym (w .posed .axes)) ∙ a .carried;
       held = a .held;
       reserved = a .reserved;
       once = a .once;
@@ -145,6 +148,7 @@ module _ (P : Problem) (es : List Entry) (k : List ℕ) where
         old-here = λ l h. old-left es new l (a .old-here l h);
         active = active-append es new ∙ ap (λ ks. ks ++ k ∷ []) (a .active);
         pending = omega (arith, pending-append es new, a .pending);
+        carried = omega (arith, carried-facts .append (P .axes) es new, carried-facts .not-old (P .axes) (entryFor P k) (λ e. omega (arith, e)), a .carried);
         held = omega (arith, length-append es new, length-append (s .active) (k ∷ []), a .held);
         reserved = omega (arith, reserved-append es new, total-append blockSize (s .active) (k ∷ []), a .reserved);
         once = a .once;

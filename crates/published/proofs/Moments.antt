@@ -20,19 +20,21 @@ use Rattle.area.specs.Log.{Log, Machine, withEntries}
 use Rattle.encoding.specs.Entries.{entryAt, SoundMachine}
 use Rattle.machine.specs.Log.{wanted, firstWanted}
 use Rattle.machine.specs.Counts.{countOf}
-use Rattle.machine.specs.Promote.{promoted, selected, madeOld, makeOld, admittedAxes, refine, promote}
+use Rattle.machine.specs.Choose.{selected}
+use Rattle.machine.specs.Promote.{promoted, madeOld, makeOld, admittedAxes, refine, promote}
 use Rattle.machine.specs.Steps.{started, delivered, deliverAt, deliver, promoteStep}
 use Rattle.machine.proofs.Wanted.{first-is, first-none}
 use Rattle.machine.proofs.Sets.{set-here, set-there}
 use Rattle.machine.proofs.Appends.{append-left}
 use Rattle.machine.proofs.Admitted.{makeOld-length}
+use Rattle.machine.proofs.Answers.{promoted-above}
 use Rattle.machine.proofs.Facts.{step-facts}
 use Rattle.published.specs.Figure.{Problem, Figure, loopCondition, joined, turns}
 use Rattle.published.specs.Turns.{supply, SettingsMatch, Supplied, Simulates}
 use Rattle.published.proofs.Scans.{joinedAll}
 use Rattle.published.proofs.Joins.{entryFor, Waiting, Joining, waiting-none}
 use Rattle.published.proofs.Supplies.{some-wanted, supply-waits}
-use Rattle.published.proofs.Outcomes.{promoted-not-met, promoted-log, promoted-or-same, promoted-goes-on}
+use Rattle.published.proofs.Outcomes.{promoted-log, promoted-or-same, promoted-goes-on}
 use Rattle.published.proofs.OneTurn.{turn-joining}
 use Rattle.published.proofs.Facts.{nothing, started-waits, root-joined}
 
@@ -187,7 +189,7 @@ module _ (m : Machine) (v : SoundMachine m) (free : length (m .log .entries) ≤
 
     -- what is selected is active
     active : (selected now < length now) × (entryAt now (selected now) .state ≡ 1)
-    active = step-facts .selects (m .log) (promoted-not-met (m .log) e)
+    active = step-facts .selects (m .log) (promoted-above (m .log) e)
 
     count-promoted : countOf 2 (promoteStep m .log .entries) ≡ suc n
     count-promoted = ap (λ (l : Log). countOf 2 (l .entries)) log-is ∙ count-refine now (selected now) (active .0) (m .log .settings .axes) (active .1)

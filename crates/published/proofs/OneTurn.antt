@@ -4,23 +4,24 @@
 -- these in order.
 -- Assumes nothing.
 use mathlib.Core.Path.{_≡_, refl, sym, ap, _∙_, subst}
-use mathlib.Core.Bool.{true}
+use mathlib.Core.Bool.{true, cond}
 use mathlib.Core.Logic.{_≢_}
 use mathlib.Core.List.{List, [], _∷_, _++_, map, List·Memᴰ, List·Memᴰ·not-nil, List·Memᴰ·eq-of-singleton, Memᴰ·cast}
 use Prim.Native.Nat.{ℕ, suc, _+_, _<_, _≤_}
 use native.Mathlib.Omega.{arith}
 use borrow.Author.Tests.{ne-eqb}
 use lib.ListN.{length, length-append, length-map}
-use Rattle.grid.specs.Index.{forward}
+use Rattle.grid.specs.Index.{forward, atCeiling}
 use Rattle.grid.specs.Block.{blockSize}
 use Rattle.grid.specs.Terms.{NoDup}
 use Rattle.grid.proofs.Lower.{nodup-append}
-use Rattle.area.specs.Entry.{Entry, reservedBy, pendingOf}
+use Rattle.area.specs.Entry.{Entry, reservedBy, pendingOf, carriedOf}
 use Rattle.area.specs.Log.{Log, Machine}
 use Rattle.encoding.specs.Entries.{entryAt, Has, EnteredOld, SoundMachine}
 use Rattle.machine.specs.Log.{wanted}
 use Rattle.machine.specs.Counts.{countOf}
-use Rattle.machine.specs.Promote.{spent, promoted, selected, madeOld, makeOld, admittedAxes, refine, isMet, promoteAt, promote}
+use Rattle.machine.specs.Choose.{selected}
+use Rattle.machine.specs.Promote.{Promotion, spent, promoted, madeOld, makeOld, admittedAxes, refine, promoteAt, promote}
 use Rattle.machine.specs.Admitted.{totalOf}
 use Rattle.machine.specs.Steps.{promoteStep}
 use Rattle.machine.proofs.Wanted.{first-none}
@@ -29,7 +30,9 @@ use Rattle.machine.proofs.Appends.{old-left, old-before}
 use Rattle.machine.proofs.Admitted.{makeOld-length, not-old}
 use Rattle.machine.proofs.Refined.{refine-different}
 use Rattle.machine.proofs.Totals.{total-append, total-length}
-use Rattle.machine.proofs.Limits.{limits-spent, limits-only, limits-promoted, promote-above}
+use Rattle.machine.proofs.Limits.{limits-spent, limits-only, limits-promoted}
+use Rattle.machine.proofs.Answers.{above-refined, promoted-above}
+use Rattle.machine.proofs.CarriedError.{carried-before, carried-makeOld}
 use Rattle.machine.proofs.Facts.{step-facts}
 use Rattle.published.specs.Figure.{Problem, Figure, select, without, moved, turnAt, turn}
 use Rattle.published.specs.Turns.{supplies, turnOn, activeOf, notOldOf, SettingsMatch, ReadingValued, Simulates, ExceedsLimits, PromotionFollows}
@@ -37,9 +40,9 @@ use Rattle.published.proofs.Selects.{select-same}
 use Rattle.published.proofs.MakesOld.{active-makeOld, total-makeOld, pending-makeOld, makeOld-there, makeOld-here, makeOld-supplied}
 use Rattle.published.proofs.Scans.{joinedAll, scan-admits}
 use Rattle.published.proofs.Joins.{Agrees, Waiting, Joining}
-use Rattle.published.proofs.Awaited.{joins-old, joins-active, EachDelivered, active-before, pending-before, reserved-both, not-old-both, not-old-sure, not-old-once}
+use Rattle.published.proofs.Awaited.{joins-old, joins-active, joins-carried, EachDelivered, active-before, pending-before, reserved-both, not-old-both, not-old-sure, not-old-once}
 use Rattle.published.proofs.Supplies.{all-wanted, supplies-join}
-use Rattle.published.proofs.Outcomes.{promoted-not-met, promoted-log}
+use Rattle.published.proofs.Outcomes.{promoted-log}
 
 -- ---- how many are wanted
 
@@ -87,6 +90,15 @@ module _ (P : Problem) (m : Machine) (s : Figure) (v : SoundMachine m) (at : Sim
         nodup-append (s .old) (k ∷ []) (at .once) (List·Memᴰ·not-nil, tt) (λ j h q.
         not-old v p inside is-active (at .old-here k (Memᴰ·cast (sym (List·Memᴰ·eq-of-singleton q)) h)))
 
+    -- the carried error before, and as the move raises it
+    carried-here : carriedOf (P .axes) es ≡ s .carried
+    carried-here = ap (λ d. carriedOf d es) (at .posed .axes) ∙ at .carried
+
+    carried-moved : carriedOf (P .axes) (makeOld es p) ≡ carriedOf (P .axes) es + cond (atCeiling (P .axes) k) (P .indicator k) 0
+    carried-moved =
+        carried-makeOld (P .axes) es p inside is-active
+        ∙ ap (λ i. carriedOf (P .axes) es + cond (atCeiling (P .axes) k) i 0) (at .supplied .indicators p inside)
+
     agrees : Agrees P (makeOld es p) (moved P k s)
     unfolding moved totalOf
     agrees =
@@ -96,6 +108,7 @@ module _ (P : Problem) (m : Machine) (s : Figure) (v : SoundMachine m) (at : Sim
           old-here = makeOld-here es p inside (s .old) (at .old-here);
           active = active-same;
           pending = omega (arith, pending-makeOld es p inside is-active, at .pending, at .supplied .indicators p inside);
+          carried = carried-moved ∙ ap (λ c. c + cond (atCeiling (P .axes) k) (P .indicator k) 0) carried-here;
           held =
               omega
               (arith, makeOld-length es p inside, at .held, length-append (s .old) (k ∷ []), total-active (λ j. 1), total-length (s .active), total-length (without (s .active) k));
@@ -145,10 +158,15 @@ module _ (P : Problem) (m : Machine) (s : Figure) (v : SoundMachine m) (at : Sim
           not-old = ap notOldOf after-is ∙ not-old-both (makeOld es p) ks each ∙ ap (λ xs. xs ++ ks) (agrees .active) ∙ sym turn-active;
           pending-falls = omega (arith, pending-makeOld es p inside is-active, at .supplied .indicators p inside, pending-after);
           pending = pending-after ∙ agrees .pending;
+          carried-rises = carried-after ∙ carried-moved;
+          carried = carried-after ∙ agrees .carried ∙ sym (ap (λ (r : Figure). r .carried) turn-joins ∙ joins-carried P ks (moved P k s));
         }
       where
         pending-after : pendingOf after ≡ pendingOf (makeOld es p)
         pending-after = ap pendingOf after-is ∙ pending-before (makeOld es p) ks
+
+        carried-after : carriedOf (P .axes) after ≡ carriedOf (P .axes) (makeOld es p)
+        carried-after = ap (carriedOf (P .axes)) after-is ∙ carried-before (P .axes) (makeOld es p) ks
 
     -- no index is there twice
     pub once-after : NoDup (turnAt P (entryAt (m .log .entries) p .levels) s .old ++ turnAt P (entryAt (m .log .entries) p .levels) s .active)
@@ -198,38 +216,38 @@ module _ (P : Problem) (m : Machine) (s : Figure) (v : SoundMachine m) (at : Sim
   unfolding turn
   turn-is = ap (λ i. turnAt P i s) (selects-same P m s at)
 
-  module _ (not-met : isMet (m .log) ≡ true → ⊥) where
+  module _ (above : m .log .settings .threshold < pendingOf (m .log .entries)) where
     abbrev here : chosen < length es
-    here = step-facts .selects (m .log) not-met .0
+    here = step-facts .selects (m .log) above .0
 
     abbrev active-here : entryAt es chosen .state ≡ 1
-    active-here = step-facts .selects (m .log) not-met .1
+    active-here = step-facts .selects (m .log) above .1
+
+    refined-here : promote (m .log) .outcome ≡ promoteAt (m .log) chosen .outcome
+    refined-here = ap (λ (x : Promotion). x .outcome) (above-refined (m .log) above)
 
     pub next-spent : ExceedsLimits (m .log .settings .budget) (turn P s) → promote (m .log) .outcome ≡ spent
-    next-spent x = promote-above (m .log) not-met ∙ spent-at chosen here active-here (subst (ExceedsLimits (m .log .settings .budget)) turn-is x)
+    next-spent x = refined-here ∙ spent-at chosen here active-here (subst (ExceedsLimits (m .log .settings .budget)) turn-is x)
 
     pub next-spent-only : promote (m .log) .outcome ≡ spent → ExceedsLimits (m .log .settings .budget) (turn P s)
     next-spent-only e =
-        subst (ExceedsLimits (m .log .settings .budget)) (sym turn-is) (spent-at-only chosen here active-here (sym (promote-above (m .log) not-met) ∙ e))
+        subst (ExceedsLimits (m .log .settings .budget)) (sym turn-is) (spent-at-only chosen here active-here (sym refined-here ∙ e))
 
     pub next-once : NoDup (turn P s .old ++ turn P s .active)
     next-once = subst (λ (r : Figure). NoDup (r .old ++ r .active)) (sym turn-is) (once-after chosen here active-here)
 
     pub next-promoted : (ExceedsLimits (m .log .settings .budget) (turn P s) → ⊥) → promote (m .log) .outcome ≡ promoted
     next-promoted n =
-        promote-above (m .log) not-met ∙ promoted-at chosen here active-here (λ x. n (subst (ExceedsLimits (m .log .settings .budget)) (sym turn-is) x))
+        refined-here ∙ promoted-at chosen here active-here (λ x. n (subst (ExceedsLimits (m .log .settings .budget)) (sym turn-is) x))
 
   -- ---- a promotion that is promoted, and the deliveries
 
   module _ (e : promote (m .log) .outcome ≡ promoted) where
-    not-met : isMet (m .log) ≡ true → ⊥
-    not-met = promoted-not-met (m .log) e
-
     is-inside : chosen < length es
-    is-inside = step-facts .selects (m .log) not-met .0
+    is-inside = step-facts .selects (m .log) (promoted-above (m .log) e) .0
 
     active-there : entryAt es chosen .state ≡ 1
-    active-there = step-facts .selects (m .log) not-met .1
+    active-there = step-facts .selects (m .log) (promoted-above (m .log) e) .1
 
     abbrev i : List ℕ
     i = entryAt es chosen .levels

@@ -10,7 +10,7 @@ use lib.Dec.{leb, eqb}
 use lib.ListN.{length}
 use Rattle.area.specs.Entry.{Entry}
 use Rattle.encoding.specs.Entries.{noEntry, entryAt}
-use Rattle.machine.specs.Promote.{largest, firstActive, selected}
+use Rattle.machine.specs.Choose.{largest, firstActive, selected}
 use Rattle.published.specs.Figure.{Problem, Figure, largestOf, firstWith, select}
 use Rattle.published.specs.Turns.{activeOf}
 

@@ -1,4 +1,4 @@
--- The machine at any moment, in Fig. 1's variables: the old are 𝒪, the others 𝒜, and what is not yet delivered is missing from η and r.
+-- The machine at any moment, in Fig. 1's variables: the old are 𝒪, the others 𝒜, the carried errors are equal, and what is not yet delivered is missing from η and r.
 -- The idea: the delivered entries stand within the turn, and the wanted ones joined complete it.
 -- Assumes nothing.
 use mathlib.Core.Path.{_≡_, sym, ap, ap₂, _∙_, subst}
@@ -9,18 +9,19 @@ use native.Mathlib.Omega.{arith}
 use lib.IntN.{_+ℤ_}
 use lib.ListN.{length, length-append}
 use Rattle.sums.specs.Sums.{sumOf}
-use Rattle.area.specs.Entry.{Entry, pendingOf}
+use Rattle.area.specs.Entry.{Entry, pendingOf, carriedOf}
 use Rattle.area.specs.Log.{Machine}
 use Rattle.encoding.specs.Entries.{entryAt, EnteredOld, SoundMachine}
 use Rattle.machine.specs.Log.{wanted}
 use Rattle.machine.specs.Counts.{countOf}
 use Rattle.machine.specs.Admitted.{totalOf}
 use Rattle.machine.proofs.Appends.{append-left, old-left, old-before}
+use Rattle.machine.proofs.CarriedError.{carried-before}
 use Rattle.published.specs.Figure.{Problem, Figure, increment, loopCondition, turns}
 use Rattle.published.specs.Turns.{wantedOf, notOldOf, SettingsMatch, SuppliedSoFar}
 use Rattle.published.proofs.Scans.{joinedAll}
 use Rattle.published.proofs.Joins.{Waiting, Joining}
-use Rattle.published.proofs.Awaited.{joins-old, joins-active, joins-estimate, joins-result, EachDelivered, pending-before, wanted-after, not-old-both}
+use Rattle.published.proofs.Awaited.{joins-old, joins-active, joins-estimate, joins-carried, joins-result, EachDelivered, pending-before, wanted-after, not-old-both}
 use Rattle.published.proofs.Supplies.{all-wanted}
 use Rattle.published.proofs.Moments.{AtTurn, OnCourse}
 
@@ -29,6 +30,7 @@ pub record Underway (P : Problem) (m : Machine) (s : Figure) : Type 0 where
   pub old-here : (k : List ℕ) → List·Memᴰ k (s .old) → EnteredOld (m .log .entries) k
   pub active : notOldOf (m .log .entries) ≡ s .active
   pub pending : pendingOf (m .log .entries) + totalOf (P .indicator) (wantedOf (m .log .entries)) ≡ s .estimate
+  pub carried : carriedOf (m .log .settings .axes) (m .log .entries) ≡ s .carried
   pub result : m .mean +ℤ sumOf (wantedOf (m .log .entries)) (increment P) ≡ s .result
 
 module _ (P : Problem) (m : Machine) (v : SoundMachine m) where
@@ -45,6 +47,8 @@ module _ (P : Problem) (m : Machine) (v : SoundMachine m) where
         pending =
             ap₂ _+_ (ap pendingOf (w .entries) ∙ pending-before es ks ∙ w .agrees .pending) (ap (totalOf (P .indicator)) wanted-are)
             ∙ sym (joins-estimate P ks r);
+        carried =
+            ap₂ carriedOf (sym (w .posed .axes)) (w .entries) ∙ carried-before (P .axes) es ks ∙ w .agrees .carried ∙ sym (joins-carried P ks r);
         result = ap₂ _+ℤ_ (w .result) (ap (λ xs. sumOf xs (increment P)) wanted-are) ∙ sym (joins-result P ks r);
       }
     where

@@ -1,9 +1,11 @@
 -- Fig. 1 of the source, "The basic dimension-adaptive algorithm", line by line over an integrand and its error indicators.
--- The scope document departs from it, and four departures are marked below:
+-- The scope document and its requests depart from it, and five departures are marked below:
 --   mean: a rule is divided by the length of its interval, so r is the integral divided by 2^d, and it is taken times 2^20;
 --   ceilings: no index past them comes into 𝒜;
 --   level 1: along an axis at level 1 there is no backward neighbour, and none is asked for;
---   tie: among equal indicators the index that came into 𝒜 first is selected.
+--   tie: among equal indicators the index that came into 𝒜 first is selected;
+--   carried: a variable of its own keeps the indicators of the indices of 𝒪 with a forward neighbour past a ceiling. No line of Fig. 1 reads it:
+--     the loop's test, the selection and r are those of the source, and it only decides how a run that the test ends is called, met or capped.
 -- Besides, the indicator of an index comes with its block and is not worked out from Δ, and a run may end early, *spent*: the budget bounds
 -- the readings, and 512 the held.
 use mathlib.Core.Bool.{Bool, true, cond, _&&_}
@@ -12,7 +14,7 @@ use Prim.Native.Nat.{ℕ, zero, suc, _+_, _-_, _^_}
 use lib.Dec.{ltb, leb, eqb}
 use lib.IntN.{ℤ, pos, _+ℤ_, _*ℤ_}
 use Rattle.rule.specs.Rules.{differenceRule}
-use Rattle.grid.specs.Index.{level, within, root, forward, backward}
+use Rattle.grid.specs.Index.{level, within, root, forward, backward, atCeiling}
 use Rattle.grid.specs.Difference.{units}
 use Rattle.grid.specs.Coefficient.{sameLevels, isIn}
 use Rattle.grid.specs.Terms.{tensorProduct}
@@ -42,10 +44,12 @@ pub record Figure : Type 0 where
   pub result : ℤ
   -- η, the global error estimate
   pub estimate : ℕ
+  -- *carried*
+  pub carried : ℕ
 
--- i := (1,…,1); 𝒪 := ∅; 𝒜 := {i}; r := Δ_i f; η := g_i
+-- i := (1,…,1); 𝒪 := ∅; 𝒜 := {i}; r := Δ_i f; η := g_i; *carried*: nothing yet
 unfoldable pub initial : Problem → Figure
-initial P = record { old = []; active = root ∷ []; result = increment P root; estimate = P .indicator root }
+initial P = record { old = []; active = root ∷ []; result = increment P root; estimate = P .indicator root; carried = 0 }
 
 -- while (η > TOL)
 unfoldable pub loopCondition : Problem → Figure → Bool
@@ -68,9 +72,16 @@ unfoldable pub without : List (List ℕ) → List ℕ → List (List ℕ)
 without [] i = []
 without (k ∷ ks) i = cond (sameLevels k i) (without ks i) (k ∷ without ks i)
 
--- 𝒜 := 𝒜 ∖ {i}; 𝒪 := 𝒪 ∪ {i}; η := η − g_i
+-- 𝒜 := 𝒜 ∖ {i}; 𝒪 := 𝒪 ∪ {i}; η := η − g_i; *carried*: raised by g_i if i has a forward neighbour past a ceiling
 unfoldable pub moved : Problem → List ℕ → Figure → Figure
-moved P i s = record { old = s .old ++ i ∷ []; active = without (s .active) i; result = s .result; estimate = s .estimate - P .indicator i }
+moved P i s =
+    record {
+      old = s .old ++ i ∷ [];
+      active = without (s .active) i;
+      result = s .result;
+      estimate = s .estimate - P .indicator i;
+      carried = s .carried + cond (atCeiling (P .axes) i) (P .indicator i) 0;
+    }
 
 -- if j − e_q ∈ 𝒪 for all q = 1,…,d; *level 1*: none is asked for there; *ceilings*: j is within them
 unfoldable pub admissible : Problem → Figure → List ℕ → Bool
@@ -78,7 +89,14 @@ admissible P s j = within j && allFrom (P .axes) 0 (λ q. cond (leb (level j q) 
 
 -- 𝒜 := 𝒜 ∪ {j}; s := Δ_j f; r := r + s; η := η + g_j
 unfoldable pub joined : Problem → List ℕ → Figure → Figure
-joined P j s = record { old = s .old; active = s .active ++ j ∷ []; result = s .result +ℤ increment P j; estimate = s .estimate + P .indicator j }
+joined P j s =
+    record {
+      old = s .old;
+      active = s .active ++ j ∷ [];
+      result = s .result +ℤ increment P j;
+      estimate = s .estimate + P .indicator j;
+      carried = s .carried;
+    }
 
 -- for k := 1,…,d do j := i + e_k: n axes from k on, axis 1 being 0
 unfoldable pub scanned : Problem → List ℕ → (n k : ℕ) → Figure → Figure

@@ -6,10 +6,11 @@ use mathlib.Core.List.{List, [], _∷_, map, List·Memᴰ}
 use Prim.Native.Nat.{ℕ, zero, suc, _+_, _<_, _≤_}
 use lib.Dec.{eqb}
 use lib.ListN.{length}
+use Rattle.grid.specs.Index.{atCeiling}
 use Rattle.grid.specs.Block.{block, blockSize}
 use Rattle.grid.specs.Terms.{IsReading, NoDup}
 use Rattle.area.specs.declared.Settings.{Settings}
-use Rattle.area.specs.Entry.{Entry, reservedBy, pendingOf}
+use Rattle.area.specs.Entry.{Entry, reservedBy, pendingOf, carriedOf}
 use Rattle.area.specs.Log.{Machine}
 use Rattle.encoding.specs.Entries.{entryAt, EnteredOld}
 use Rattle.machine.specs.Log.{wantedIndex}
@@ -28,7 +29,7 @@ supplies P zero m = m
 supplies P (suc n) m = supplies P n (supply P m)
 
 -- A promotion, and the deliveries of all that it admitted: nothing is wanted before it, so what is wanted after it is what it admitted. One
--- that is *met* or *spent* changes nothing and admits nothing.
+-- that is *met*, *capped* or *spent* changes nothing and admits nothing.
 unfoldable pub turnOn : Problem → Machine → Machine
 turnOn P m = supplies P (countOf 0 (promoteStep m .log .entries)) (promoteStep m)
 
@@ -72,7 +73,7 @@ pub record SuppliedSoFar (P : Problem) (es : List Entry) : Type 0 where
   pub indicators : (p : ℕ) → p < length es → 1 ≤ entryAt es p .state → entryAt es p .indicator ≡ P .indicator (entryAt es p .levels)
 
 -- The machine has the state of Fig. 1: the same old set, the same active set (also in the same order), the same result, the same
--- pending error; and as many indices are held as 𝒪 and 𝒜 have, with as many readings reserved as their blocks have points. No index comes
+-- pending and carried error; and as many indices are held as 𝒪 and 𝒜 have, with as many readings reserved as their blocks have points. No index comes
 -- into 𝒪 twice.
 pub record Simulates (P : Problem) (m : Machine) (s : Figure) : Type 0 where
   pub posed : SettingsMatch (m .log .settings) P
@@ -82,6 +83,7 @@ pub record Simulates (P : Problem) (m : Machine) (s : Figure) : Type 0 where
   pub active : activeOf (m .log .entries) ≡ s .active
   pub result : m .mean ≡ s .result
   pub pending : pendingOf (m .log .entries) ≡ s .estimate
+  pub carried : carriedOf (m .log .settings .axes) (m .log .entries) ≡ s .carried
   pub held : length (m .log .entries) ≡ length (s .old) + length (s .active)
   pub reserved : reservedBy (m .log .entries) ≡ totalOf blockSize (s .old) + totalOf blockSize (s .active)
   pub once : NoDup (s .old)
@@ -103,3 +105,6 @@ pub record PromotionFollows (P : Problem) (s : Figure) (i : List ℕ) (before af
   -- the pending error falls by the indicator of i, to η after the move; the indicators of the wanted join it with their deliveries
   pub pending-falls : pendingOf before ≡ P .indicator i + pendingOf after
   pub pending : pendingOf after ≡ moved P i s .estimate
+  -- the carried error rises by it where i has a forward neighbour past a ceiling, to that of the move, which the scan leaves
+  pub carried-rises : carriedOf (P .axes) after ≡ carriedOf (P .axes) before + cond (atCeiling (P .axes) i) (P .indicator i) 0
+  pub carried : carriedOf (P .axes) after ≡ turnAt P i s .carried

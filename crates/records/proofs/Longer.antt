@@ -19,7 +19,9 @@ use Rattle.area.specs.Encoding.{Area, machineOf}
 use Rattle.soundness.specs.Clauses.{isSound, checked}
 use Rattle.encoding.specs.Entries.{entryAt}
 use Rattle.machine.specs.Log.{firstWanted}
+use Rattle.machine.specs.Choose.{selected}
 use Rattle.machine.specs.Promote as rule
+use Rattle.machine.proofs.Answers.{Answered, is-met, is-capped, is-refined, answered}
 use Rattle.machine.specs.Steps as steps
 use Rattle.machine.specs.Causes.{Lengths, firstCause, short, startCauses}
 use Rattle.calls.specs.Replies.{verdict, lengthsOf}
@@ -64,18 +66,25 @@ within-limit b es e = go (leb (length es) 512) refl
     go true q = leb-true (length es) 512 q
     go false q = let z : _≡_ {A = Bool} false true = rw q at e in absurd (false-not-true z)
 
-promote-few : (l : Log) → length (l .entries) ≤ 512 → length (rule.promote l .log .entries) ≤ 512
-unfolding rule.promote rule.promoteAt
-promote-few l h = go (rule.isMet l) (rule.fits (l .settings .budget) refined) (within-limit (l .settings .budget) refined)
+refine-few : (l : Log) (p : ℕ) → length (l .entries) ≤ 512 → length (rule.promoteAt l p .log .entries) ≤ 512
+unfolding rule.promoteAt
+refine-few l p h = go (rule.fits (l .settings .budget) refined) (within-limit (l .settings .budget) refined)
   where
     refined : List Entry
-    refined = rule.refine (l .settings .axes) (l .entries) (rule.selected (l .entries))
+    refined = rule.refine (l .settings .axes) (l .entries) p
 
-    go : (t u : Bool) → (u ≡ true → length refined ≤ 512)
-        → length (cond {A = rule.Promotion} t (record { outcome = rule.met; log = l }) (cond u (record { outcome = rule.promoted; log = record { settings = l .settings; entries = refined } }) (record { outcome = rule.spent; log = l })) .log .entries) ≤ 512
-    go true u k = h
-    go false true k = k refl
-    go false false k = h
+    go : (u : Bool) → (u ≡ true → length refined ≤ 512)
+        → length (cond {A = rule.Promotion} u (record { outcome = rule.promoted; log = record { settings = l .settings; entries = refined } }) (record { outcome = rule.spent; log = l }) .log .entries) ≤ 512
+    go true k = k refl
+    go false k = h
+
+promote-few : (l : Log) → length (l .entries) ≤ 512 → length (rule.promote l .log .entries) ≤ 512
+promote-few l h = step (answered l)
+  where
+    step : Answered l → length (rule.promote l .log .entries) ≤ 512
+    step (is-met e k) = rw e h
+    step (is-capped e k g) = rw e h
+    step (is-refined e k) = rw e (refine-few l (selected (l .entries)) h)
 
 abbrev Few : Effect → Type 0
 Few unchanged = Unit {0}
@@ -84,6 +93,7 @@ Few (becomes n) = length (n .log .entries) ≤ 512
 outcome-few : (m : Machine) → length (m .log .entries) ≤ 512 → (o : rule.Outcome) → Few (promotionEffect o (steps.promoteStep m))
 unfolding promotionEffect steps.promoteStep
 outcome-few m h rule.met = tt
+outcome-few m h rule.capped = tt
 outcome-few m h rule.spent = tt
 outcome-few m h rule.promoted = promote-few (m .log) h
 

@@ -51,6 +51,7 @@ unfolding replyOf storedBy way
 refused-none (answers.Refused n) m k e = refl
 refused-none answers.Accepted m k e = absurd (omega (arith, ap way e))
 refused-none answers.Met m k e = refl
+refused-none answers.Capped m k e = refl
 refused-none answers.Spent m k e = refl
 refused-none answers.Promoted m k e = absurd (omega (arith, ap way e))
 
@@ -59,6 +60,7 @@ unfolding replyOf storedBy way
 accepted-all (answers.Refused n) k e = absurd (omega (arith, ap way e))
 accepted-all answers.Accepted k e = refl
 accepted-all answers.Met k e = absurd (omega (arith, ap way e))
+accepted-all answers.Capped k e = absurd (omega (arith, ap way e))
 accepted-all answers.Spent k e = absurd (omega (arith, ap way e))
 accepted-all answers.Promoted k e = refl
 

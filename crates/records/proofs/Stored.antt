@@ -1,8 +1,8 @@
 -- What a call stores back is what it changed: the records then held where it changed the area, and none where it did not.
--- The idea: no call writes a record past the last then held (`CallFacts.past`), and a refused, a met and a spent one writes none.
+-- The idea: no call writes a record past the last then held (`CallFacts.past`), and a refused, a met, a capped and a spent one writes none.
 -- Assumes nothing.
 use mathlib.Core.Path.{_≡_, refl, ap, sym, _∙_, subst}
-use mathlib.Core.Logic.{_⊎_, inl, inr}
+use mathlib.Core.Logic.{inl, inr}
 use mathlib.Core.List.{List, _++_, append-nil}
 use Prim.Native.Nat.{ℕ, _≤_, zero-le}
 use native.Mathlib.Nat.{le-refl, le-trans}
@@ -13,12 +13,12 @@ use lib.Seq.{take-length, drop-length}
 use Rattle.area.specs.declared.IndexRecord.{IndexRecord}
 use Rattle.area.specs.Records.{recordsOf}
 use Rattle.area.specs.Encoding.{Area}
-use Rattle.machine.specs.Promote.{met, spent}
+use Rattle.machine.specs.Promote.{Outcome, met, capped, spent, promoted}
 use Rattle.calls.specs.declared.Answer as code
 use Rattle.calls.specs.declared.Answer.the-variants as answers
 use Rattle.calls.specs.declared.CallOutput.{CallOutput}
 use Rattle.calls.specs.Replies.{Reply, refused, accepted, wrote, promotion, counts, doubled, total, verdict, replyOf}
-use Rattle.calls.specs.Table.{Call, deliver, Row, anyArea, onJob, row, acceptedAnswer, refusedAnswer}
+use Rattle.calls.specs.Table.{Call, deliver, promote, Row, anyArea, onJob, row, acceptedAnswer, refusedAnswer}
 use Rattle.calls.specs.Calls.{CallResult, refusalOn, callOn}
 use Rattle.calls.proofs.CauseCases.{acceptedCall, call-ways}
 use Rattle.calls.proofs.Facts.{call-facts}
@@ -32,14 +32,25 @@ unfolding storedBy
 stored-within (answers.Refused m) n = zero-le
 stored-within answers.Accepted n = le-refl n
 stored-within answers.Met n = zero-le
+stored-within answers.Capped n = zero-le
 stored-within answers.Spent n = zero-le
 stored-within answers.Promoted n = le-refl n
+
+-- a promotion that is not promoted leaves the area
+abbrev pub Idle : Area → Call → Type 0
+Idle a c = (o : Outcome) → (o ≡ promoted → ⊥) → callOn a c .answer .reply ≡ promotion o → callOn a c .area ≡ a
+
+pub promote-idle : (a : Area) → Idle a promote
+promote-idle a o n e = call-facts .promote-unchanged a (λ f. n (same o (sym e ∙ f)))
+  where
+    same : (o : Outcome) → promotion o ≡ promotion promoted → o ≡ promoted
+    same o g = cc
 
 -- ---- what a call left, of n records lent
 
 module _ (a : Area) (c : Call) (o : CallOutput) (t : List ℤ) (x : List IndexRecord) (n : ℕ)
     (before : length (a .run .records) ≡ n) (after : length x ≡ n) (is : callResultOn o x t ≡ callOn a c)
-    (idle : (callOn a c .answer .reply ≡ promotion met) ⊎ (callOn a c .answer .reply ≡ promotion spent) → callOn a c .area ≡ a) where
+    (idle : Idle a c) where
   abbrev rs : List IndexRecord
   rs = a .run .records
 
@@ -66,8 +77,9 @@ module _ (a : Area) (c : Call) (o : CallOutput) (t : List ℤ) (x : List IndexRe
   unfolding storedBy replyOf
   by-answer (answers.Refused m) e = none-stored (call-facts .refused-keeps a c m (replied (answers.Refused m) e) .0)
   by-answer answers.Accepted e = held-stored
-  by-answer answers.Met e = none-stored (idle (inl (replied answers.Met e)))
-  by-answer answers.Spent e = none-stored (idle (inr (replied answers.Spent e)))
+  by-answer answers.Met e = none-stored (idle met (λ q. let z : _≡_ {A = ℕ} 0 1 = cc in omega arith) (replied answers.Met e))
+  by-answer answers.Capped e = none-stored (idle capped (λ q. let z : _≡_ {A = ℕ} 0 1 = cc in omega arith) (replied answers.Capped e))
+  by-answer answers.Spent e = none-stored (idle spent (λ q. let z : _≡_ {A = ℕ} 0 1 = cc in omega arith) (replied answers.Spent e))
   by-answer answers.Promoted e = held-stored
 
   stored-all : over (storedBy (o .answer) (min (o .job .held) n)) x rs ≡ x
@@ -75,7 +87,7 @@ module _ (a : Area) (c : Call) (o : CallOutput) (t : List ℤ) (x : List IndexRe
 
 -- so many of the cells' records as it says, stored over those lent, are what the call leaves
 pub stores : (a : Area) (c : Call) (o : CallOutput) (t : List ℤ) (w : List ℕ) (n k : ℕ) → length (a .run .records) ≡ n → length (front n w) ≡ n
-    → ((callOn a c .answer .reply ≡ promotion met) ⊎ (callOn a c .answer .reply ≡ promotion spent) → callOn a c .area ≡ a)
+    → Idle a c
     → k ≡ storedBy (o .answer) (min (o .job .held) n) → callResultOn o (front n w) t ≡ callOn a c
     → (k ≤ n) × (callResultOn o (over k (recordsOf w) (a .run .records)) t ≡ callOn a c)
 unfolding front
@@ -89,7 +101,7 @@ stores a c o t w n k before after idle k-is is =
           ∙ is,
     )
 
--- ---- deliver is neither met nor spent
+-- ---- deliver answers no outcome
 
 outcomes : Reply → ℕ
 outcomes (refused n) = 0
@@ -109,12 +121,10 @@ no-outcome a c e = call-ways a c (λ (y : CallResult). outcomes (y .answer .repl
     go (anyArea r) = refl
     go (onJob r) = refl
 
-never-idle : (a : Area) (c : Call) → outcomes (acceptedCall a c .answer .reply) ≡ 0
-    → (callOn a c .answer .reply ≡ promotion met) ⊎ (callOn a c .answer .reply ≡ promotion spent) → callOn a c .area ≡ a
+never-idle : (a : Area) (c : Call) → outcomes (acceptedCall a c .answer .reply) ≡ 0 → Idle a c
 unfolding outcomes
-never-idle a c e (inl h) = absurd (omega (arith, no-outcome a c e, ap outcomes h))
-never-idle a c e (inr h) = absurd (omega (arith, no-outcome a c e, ap outcomes h))
+never-idle a c e o n h = absurd (omega (arith, no-outcome a c e, ap outcomes h))
 
-pub deliver-idle : (a : Area) (rs : List ℤ) (i : ℕ) → (callOn a (deliver rs i) .answer .reply ≡ promotion met) ⊎ (callOn a (deliver rs i) .answer .reply ≡ promotion spent) → callOn a (deliver rs i) .area ≡ a
+pub deliver-idle : (a : Area) (rs : List ℤ) (i : ℕ) → Idle a (deliver rs i)
 unfolding acceptedAnswer row outcomes
 deliver-idle a rs i = never-idle a (deliver rs i) refl

@@ -73,6 +73,7 @@ fn deserialize(records: &mut [area::IndexRecord], n: usize, cells: &[u32])
     }
 }
 
+// So many records, or 512 if they are more: no job holds more.
 fn capped(count: usize) -> usize
     ensures { λ r. ⌜ r ≡ min count 512 ⌝ }
 {
@@ -95,6 +96,7 @@ fn to_store(output: calls::CallOutput, count: usize) -> usize
         calls::Answer::Refused(_) => 0,
         calls::Answer::Accepted => held,
         calls::Answer::Met => 0,
+        calls::Answer::Capped => 0,
         calls::Answer::Spent => 0,
         calls::Answer::Promoted => held,
     }
@@ -305,7 +307,7 @@ pub fn deliver(
     done.answer
 }
 
-// Promotes: met, or the selected index refined, unless that is spent.
+// Promotes: met or capped, or the selected index refined, unless that is spent.
 pub fn promote(
     job: area::JobRecord,
     records: &mut [area::IndexRecord],

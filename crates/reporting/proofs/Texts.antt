@@ -7,7 +7,7 @@ use native.Mathlib.Omega.{arith}
 use lib.IntN.{ℤ, pos, negsuc}
 use lib.ListN.{length, length-append}
 use Rattle.reporting.specs.Decimal.{decimal, signedDecimal}
-use Rattle.reporting.specs.Text.{line, Ending, met, spent, short, endingWord, ReportValues, reportText, refusalText}
+use Rattle.reporting.specs.Text.{line, Ending, met, capped, spent, short, endingWord, ReportValues, reportText, refusalText}
 use Rattle.reporting.proofs.Digits.{digits-most}
 
 pub most : (n : ℕ) → length (decimal n) ≤ 20
@@ -19,9 +19,10 @@ unfolding signedDecimal
 most-signed (pos n) = omega (arith, most n)
 most-signed (negsuc n) = omega (arith, most (suc n))
 
-pub most-ending : (e : Ending) → length (endingWord e) ≤ 5
+pub most-ending : (e : Ending) → length (endingWord e) ≤ 6
 unfolding endingWord
 most-ending met = omega arith
+most-ending capped = omega arith
 most-ending spent = omega arith
 most-ending short = omega arith
 
@@ -33,7 +34,7 @@ pub report-room : (f : ReportValues) → length (reportText f) ≤ 512
 unfolding reportText
 report-room f =
     simp (length-append, length-line)
-    (omega (arith, most (f .axes), most (f .old), most (f .active), most (f .wanted), most (f .reserved), most (f .pending), most (f .ceiling), most-signed (f .scaled), most (f .unused), most-ending (f .ending)))
+    (omega (arith, most (f .axes), most (f .old), most (f .active), most (f .wanted), most (f .reserved), most (f .pending), most (f .carried), most (f .ceiling), most-signed (f .scaled), most (f .unused), most-ending (f .ending)))
 
 pub refusal-room : (n b : ℕ) → length (refusalText n b) ≤ 512
 unfolding refusalText

@@ -8,7 +8,7 @@ use Rattle.reporting.specs.declared.Ending as code
 use Rattle.reporting.specs.declared.Ending.the-variants as endings
 use Rattle.reporting.specs.declared.ReportValues as coded
 use Rattle.reporting.specs.Decimal.{decimal, signedDecimal}
-use Rattle.reporting.specs.Text.{line, axesWord, oldWord, activeWord, wantedWord, reservedWord, pendingWord, ceilingWord, scaledWord, unusedWord, endWord, Ending, met, spent, short, endingWord, ReportValues}
+use Rattle.reporting.specs.Text.{line, axesWord, oldWord, activeWord, wantedWord, reservedWord, pendingWord, carriedWord, ceilingWord, scaledWord, unusedWord, endWord, Ending, met, capped, spent, short, endingWord, ReportValues}
 
 -- A text was written from `at` on: no other byte has changed, and `end` is the place after it.
 pub record Written (before : List ℕ) (at : ℕ) (text after : List ℕ) (end : ℕ) : Type 0 where
@@ -17,6 +17,7 @@ pub record Written (before : List ℕ) (at : ℕ) (text after : List ℕ) (end :
 
 unfoldable pub endingIn : code.Ending → Ending
 endingIn endings.Met = met
+endingIn endings.Capped = capped
 endingIn endings.Spent = spent
 endingIn endings.Short = short
 
@@ -29,13 +30,14 @@ reportValuesIn r =
       wanted = r .wanted;
       reserved = r .reserved;
       pending = r .pending;
+      carried = r .carried;
       ceiling = r .ceiling;
       scaled = r .scaled;
       unused = r .unused;
       ending = endingIn (r .ending);
     }
 
--- The first five lines of a report, and the last five.
+-- The first five lines of a report, and the last six.
 unfoldable pub countLines : ReportValues → List ℕ
 countLines f =
     line axesWord (decimal (f .axes))
@@ -47,6 +49,7 @@ countLines f =
 unfoldable pub sumLines : ReportValues → List ℕ
 sumLines f =
     line pendingWord (decimal (f .pending))
+    ++ line carriedWord (decimal (f .carried))
     ++ line ceilingWord (decimal (f .ceiling))
     ++ line scaledWord (signedDecimal (f .scaled))
     ++ line unusedWord (decimal (f .unused))

@@ -33,6 +33,9 @@ reservedWord = 114 ∷ 101 ∷ 115 ∷ 101 ∷ 114 ∷ 118 ∷ 101 ∷ 100 ∷ [
 abbrev pub pendingWord : List ℕ
 pendingWord = 112 ∷ 101 ∷ 110 ∷ 100 ∷ 105 ∷ 110 ∷ 103 ∷ []
 
+abbrev pub carriedWord : List ℕ
+carriedWord = 99 ∷ 97 ∷ 114 ∷ 114 ∷ 105 ∷ 101 ∷ 100 ∷ []
+
 abbrev pub ceilingWord : List ℕ
 ceilingWord = 99 ∷ 101 ∷ 105 ∷ 108 ∷ 105 ∷ 110 ∷ 103 ∷ []
 
@@ -54,11 +57,13 @@ atWord = 97 ∷ 116 ∷ []
 -- How a run ends.
 pub data Ending : Type 0 where
   met : Ending
+  capped : Ending
   spent : Ending
   short : Ending
 
 unfoldable pub endingWord : Ending → List ℕ
 endingWord met = 109 ∷ 101 ∷ 116 ∷ []
+endingWord capped = 99 ∷ 97 ∷ 112 ∷ 112 ∷ 101 ∷ 100 ∷ []
 endingWord spent = 115 ∷ 112 ∷ 101 ∷ 110 ∷ 116 ∷ []
 endingWord short = 115 ∷ 104 ∷ 111 ∷ 114 ∷ 116 ∷ []
 
@@ -70,6 +75,7 @@ pub record ReportValues : Type 0 where
   pub wanted : ℕ
   pub reserved : ℕ
   pub pending : ℕ
+  pub carried : ℕ
   pub ceiling : ℕ
   pub scaled : ℤ
   pub unused : ℕ
@@ -83,6 +89,7 @@ reportText f =
     ++ line wantedWord (decimal (f .wanted))
     ++ line reservedWord (decimal (f .reserved))
     ++ line pendingWord (decimal (f .pending))
+    ++ line carriedWord (decimal (f .carried))
     ++ line ceilingWord (decimal (f .ceiling))
     ++ line scaledWord (signedDecimal (f .scaled))
     ++ line unusedWord (decimal (f .unused))

@@ -10,6 +10,7 @@ ghost use Rattle.reporting.specs.Code.{Written, endingIn, reportValuesIn
 // How a run ends.
 pub enum Ending {
     Met,
+    Capped,
     Spent,
     Short,
 }
@@ -22,6 +23,7 @@ pub struct ReportValues {
     pub wanted: u32,
     pub reserved: u32,
     pub pending: u64,
+    pub carried: u64,
     pub ceiling: u32,
     pub scaled: i64,
     pub unused: u32,
@@ -99,7 +101,7 @@ fn put_signed_line(word: &[u8], z: i64, at: usize, buffer: &mut [u8]) -> usize
 
 // The last line, which says a word.
 fn put_last(said: &[u8], at: usize, buffer: &mut [u8]) -> usize
-    requires { ⌜ (length (now said) ≤ 5) × (at + 31 ≤ length (now buffer)) ⌝ }
+    requires { ⌜ (length (now said) ≤ 6) × (at + 31 ≤ length (now buffer)) ⌝ }
     ensures { λ r. ⌜ Written (now (buffer .entry)) at (line endWord (now (said .entry))) (now (buffer .exit)) r ⌝ }
 {
     let space = put_word(b"end", at, buffer);
@@ -116,6 +118,7 @@ fn put_ending(ending: Ending, at: usize, buffer: &mut [u8]) -> usize
 {
     match ending {
         Ending::Met => put_last(b"met", at, buffer),
+        Ending::Capped => put_last(b"capped", at, buffer),
         Ending::Spent => put_last(b"spent", at, buffer),
         Ending::Short => put_last(b"short", at, buffer),
     }
@@ -134,14 +137,15 @@ fn put_counts(values: ReportValues, buffer: &mut [u8]) -> usize
     put_line(b"reserved", values.reserved as u64, wanted, buffer)
 }
 
-// The last five lines.
+// The last six lines.
 fn put_sums(values: ReportValues, at: usize, buffer: &mut [u8]) -> usize
-    requires { ⌜ at + 155 ≤ length (now buffer) ⌝ }
+    requires { ⌜ at + 186 ≤ length (now buffer) ⌝ }
     ensures { λ r. ⌜ Written (now (buffer .entry)) at (sumLines (reportValuesIn values)) (now (buffer .exit)) r ⌝ }
 {
     let ending = values.ending;
     let pending = put_line(b"pending", values.pending, at, buffer);
-    let ceiling = put_line(b"ceiling", values.ceiling as u64, pending, buffer);
+    let carried = put_line(b"carried", values.carried, pending, buffer);
+    let ceiling = put_line(b"ceiling", values.ceiling as u64, carried, buffer);
     let scaled = put_signed_line(b"scaled", values.scaled, ceiling, buffer);
     let unused = put_line(b"unused", values.unused as u64, scaled, buffer);
     put_ending(ending, unused, buffer)

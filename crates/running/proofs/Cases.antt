@@ -9,14 +9,15 @@ use Rattle.sums.specs.Sums.{sumTo, sumOf}
 use Rattle.rule.specs.Points.{newCount}
 use Rattle.rule.specs.Rules.{unit}
 use Rattle.rule.specs.Weights.{differenceWeight, endsMinusOne}
-use Rattle.grid.specs.Index.{root, lower, inFront, excess, levelsWithin, within, cappedAxes, forward, backward}
+use Rattle.grid.specs.Index.{root, lower, inFront, excess, levelsWithin, within, cappedAxes, atCeiling, forward, backward}
 use Rattle.grid.specs.Block.{blockSize}
 use Rattle.grid.specs.Difference.{units, differenceProduct, differenceSum, scaledDifference, behind}
 use Rattle.grid.specs.Coefficient.{sameLevels}
 use Rattle.area.specs.Settings.{settingsOf, axesFit, budgetFit, readingsFor, readingCount, leastStore}
-use Rattle.area.specs.Entry.{readingsOf, readingIn, reservedBy, pendingOf}
+use Rattle.area.specs.Entry.{readingsOf, readingIn, reservedBy, pendingOf, carriedOf}
 use Rattle.soundness.specs.Test.{allFrom}
 use Rattle.machine.specs.Log.{wanted, firstWanted, anyWanted}
+use Rattle.machine.specs.Choose as choice
 use Rattle.machine.specs.Promote as rule
 use Rattle.machine.specs.Steps.{started, deliver, promoteStep, deliverAt, delivered}
 use Rattle.machine.specs.Causes.{firstCause, short, inRange, deliverCauses, startCauses}
@@ -28,7 +29,7 @@ use Rattle.reporting.specs.Decimal.{digits, decimal, signedDecimal}
 use Rattle.reporting.specs.Text.{line, endingWord, reportText, refusalText}
 use Rattle.running.specs.Execution.{firstOutOfRange, deliveryByte, byOutcome, startByte, resultIn, resultOf}
 use Rattle.running.specs.Report.{reportValuesOf, textIn, textOf}
-use Rattle.running.specs.Cases.{bytesOf, says, exampleFile, negativeFile, ceilingFile, FileCases}
+use Rattle.running.specs.Cases.{bytesOf, says, exampleFile, negativeFile, ceilingFile, FileCases, CeilingFileCases}
 use Rattle.running.proofs.Replay.{entriesFrom, replay, prints}
 
 -- The entries of the scope document's file, with the second's last reading and the third's indicator, which two of the cases change.
@@ -52,15 +53,8 @@ negativeEntries =
     ∷ says 67305985 (negsuc 1048575 ∷ pos 300 ∷ [])
     ∷ []
 
--- n readings of 0
-abbrev zeros : (indicator n : ℕ) → FileEntry
-zeros i n = says i (replicate n (pos 0))
-
-abbrev ceilingEntries : List FileEntry
-ceilingEntries = zeros 8 1 ∷ zeros 7 2 ∷ zeros 6 2 ∷ zeros 5 4 ∷ zeros 4 8 ∷ zeros 3 16 ∷ zeros 2 32 ∷ zeros 1 64 ∷ zeros 0 1 ∷ zeros 0 1 ∷ []
-
 pub file-cases : FileCases
-unfolding bytesOf exampleFile negativeFile ceilingFile entriesFrom replay four eight signedFour field headerForm tableForm readingsForm formOf readingsAt entryOf fileOf digits decimal signedDecimal line endingWord reportText refusalText firstOutOfRange deliveryByte byOutcome startByte resultIn resultOf reportValuesOf textIn textOf axesFit budgetFit readingsFor readingCount leastStore startCauses deliverCauses firstCause short inRange anyWanted firstWanted wanted root started deliver promoteStep deliverAt delivered rule.promote rule.promoteAt rule.refine rule.makeOld rule.madeOld rule.selected rule.firstActive rule.largest rule.isMet rule.fits rule.admittedAxes rule.passing rule.admits rule.backwardOld rule.isOld within levelsWithin excess forward backward allFrom sameLevels countsOf countOf cappedAxes ceilingCount reservedBy pendingOf readingIn readingsOf sumOf units unit sumTo differenceWeight endsMinusOne differenceProduct differenceSum scaledDifference newCount behind blockSize lower inFront
+unfolding bytesOf exampleFile negativeFile ceilingFile entriesFrom replay four eight signedFour field headerForm tableForm readingsForm formOf readingsAt entryOf fileOf digits decimal signedDecimal line endingWord reportText refusalText firstOutOfRange deliveryByte byOutcome startByte resultIn resultOf reportValuesOf textIn textOf axesFit budgetFit readingsFor readingCount leastStore startCauses deliverCauses firstCause short inRange anyWanted firstWanted wanted root started deliver promoteStep deliverAt delivered rule.promote rule.promoteAt rule.refine rule.makeOld rule.madeOld rule.promoteBy choice.choose choice.selected choice.firstActive choice.largest choice.isOver choice.isMet rule.fits rule.admittedAxes rule.passing rule.admits rule.backwardOld rule.isOld within levelsWithin excess forward backward allFrom sameLevels countsOf countOf cappedAxes atCeiling ceilingCount reservedBy pendingOf carriedOf readingIn readingsOf sumOf units unit sumTo differenceWeight endsMinusOne differenceProduct differenceSum scaledDifference newCount behind blockSize lower inFront
 file-cases =
     record {
       header = refl;
@@ -70,10 +64,10 @@ file-cases =
       example = prints exampleFile (settingsOf 2 40 64) 4 (exampleEntries (pos 16448) 0) _ refl refl refl refl refl (λ n. refl);
       short = prints (set exampleFile 8 9) (settingsOf 2 9 64) 4 (exampleEntries (pos 16448) 0) _ refl refl refl refl refl (λ n. refl);
       negative = prints negativeFile (settingsOf 4 40 8192) 5 negativeEntries _ refl refl refl refl refl (λ n. refl);
-      ceiling = prints ceilingFile (settingsOf 1 0 129) 10 ceilingEntries _ refl refl refl refl refl (λ n. refl);
       wide-threshold = prints (set exampleFile 12 1) (settingsOf 2 4294967336 64) 4 (exampleEntries (pos 16448) 0) _ refl refl refl refl refl (λ n. refl);
       large-pending =
           prints (sets (sets (set exampleFile 4 5) 36 (255 ∷ 255 ∷ 255 ∷ 255 ∷ [])) 48 (255 ∷ 255 ∷ 255 ∷ 255 ∷ [])) (settingsOf 2 40 5) 4 largeEntries _ refl refl refl refl refl (λ n. refl);
+      lines = refl;
       mean-zero = prints (take 24 (set exampleFile 16 0)) (settingsOf 2 40 64) 0 [] _ refl refl refl refl refl (λ n. refl);
       threshold-equal = prints (set exampleFile 8 100) (settingsOf 2 100 64) 4 (exampleEntries (pos 16448) 0) _ refl refl refl refl refl (λ n. refl);
       threshold-below = prints (set exampleFile 8 99) (settingsOf 2 99 64) 4 (exampleEntries (pos 16448) 0) _ refl refl refl refl refl (λ n. refl);
@@ -94,4 +88,22 @@ file-cases =
       header-cut = refl;
       too-many = refl;
       before-all = refl;
+    }
+
+-- ---- a job that reaches a ceiling
+
+-- n readings of 0
+abbrev zeros : (indicator n : ℕ) → FileEntry
+zeros i n = says i (replicate n (pos 0))
+
+-- with this indicator for level 8
+abbrev ceilingEntries : ℕ → List FileEntry
+ceilingEntries n = zeros 8 1 ∷ zeros 7 2 ∷ zeros 6 2 ∷ zeros 5 4 ∷ zeros 4 8 ∷ zeros 3 16 ∷ zeros 2 32 ∷ zeros n 64 ∷ zeros 0 1 ∷ zeros 0 1 ∷ []
+
+pub ceiling-file-cases : CeilingFileCases
+unfolding bytesOf exampleFile negativeFile ceilingFile entriesFrom replay four eight signedFour field headerForm tableForm readingsForm formOf readingsAt entryOf fileOf digits decimal signedDecimal line endingWord reportText refusalText firstOutOfRange deliveryByte byOutcome startByte resultIn resultOf reportValuesOf textIn textOf axesFit budgetFit readingsFor readingCount leastStore startCauses deliverCauses firstCause short inRange anyWanted firstWanted wanted root started deliver promoteStep deliverAt delivered rule.promote rule.promoteAt rule.refine rule.makeOld rule.madeOld rule.promoteBy choice.choose choice.selected choice.firstActive choice.largest choice.isOver choice.isMet rule.fits rule.admittedAxes rule.passing rule.admits rule.backwardOld rule.isOld within levelsWithin excess forward backward allFrom sameLevels countsOf countOf cappedAxes atCeiling ceilingCount reservedBy pendingOf carriedOf readingIn readingsOf sumOf units unit sumTo differenceWeight endsMinusOne differenceProduct differenceSum scaledDifference newCount behind blockSize lower inFront
+ceiling-file-cases =
+    record {
+      ceiling = prints (set ceilingFile 108 9) (settingsOf 1 0 129) 10 (ceilingEntries 9) _ refl refl refl refl refl (λ n. refl);
+      ceiling-active = prints (set ceilingFile 8 1) (settingsOf 1 1 129) 10 (ceilingEntries 1) _ refl refl refl refl refl (λ n. refl);
     }

@@ -21,7 +21,9 @@ use Rattle.area.specs.Entry.{Entry, readingIn}
 use Rattle.area.specs.Log.{Log, Machine}
 use Rattle.machine.specs.Log.{wantedIndex, firstWanted, anyWanted}
 use Rattle.machine.specs.Causes.{firstCause, startCauses, resultCauses, deliverCauses, inRange}
+use Rattle.machine.specs.Choose.{selected}
 use Rattle.machine.specs.Promote as rule
+use Rattle.machine.proofs.Answers.{promoted-above}
 use Rattle.machine.specs.Steps.{started, deliver, promoteStep}
 use Rattle.machine.specs.Counts.{countOf}
 use Rattle.encoding.specs.Entries.{SoundMachine}
@@ -32,7 +34,7 @@ use Rattle.calls.proofs.Accepted.{startable, Deliverable, deliverable}
 use Rattle.calls.proofs.Causes.{start-axes, start-budget, start-fits, common-none, deliver-count, deliver-range, deliver-fits}
 use Rattle.calls.proofs.Ranges.{readings-range}
 use Rattle.calls.proofs.Tests as tests
-use Rattle.published.proofs.Outcomes.{promoted-not-met, promoted-log}
+use Rattle.published.proofs.Outcomes.{promoted-log}
 use Rattle.jobfile.specs.Form.{formed, broken, formOf, entryCount}
 use Rattle.jobfile.specs.File.{entryOf}
 use Rattle.reporting.specs.Text.{met, spent, short}
@@ -138,14 +140,15 @@ module _ (c : List ℕ) where
 
         more : countOf 2 (promoteStep m .log .entries) ≡ suc (countOf 2 (m .log .entries))
         more =
-            let x = step-facts .selects (m .log) (promoted-not-met (m .log) is) in
+            let x = step-facts .selects (m .log) (promoted-above (m .log) is) in
             unfold promoteStep in
             ap (λ (l : Log). countOf 2 (l .entries)) (promoted-log (m .log) is)
-            ∙ refined-old (m .log .settings .axes) (m .log .entries) (rule.selected (m .log .entries)) (x .0) (x .1)
+            ∙ refined-old (m .log .settings .axes) (m .log .entries) (selected (m .log .entries)) (x .0) (x .1)
 
     without : (o : rule.Outcome) → (o ≡ rule.promoted → AllowedResult (entryCount c) (execution c n (promoteStep m) i)) → AllowedResult (entryCount c) (byOutcome o m i (execution c n (promoteStep m) i))
     unfolding byOutcome
     without rule.met f = (s, used)
+    without rule.capped f = (s, used)
     without rule.spent f = (s, used)
     without rule.promoted f = f refl
 

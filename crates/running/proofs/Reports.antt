@@ -13,7 +13,7 @@ use Rattle.reporting.specs.Code.{endingIn, reportValuesIn}
 use Rattle.running.specs.Report.{reportValuesOf}
 
 pub report-values-are : (m : Machine) (e : code.Ending) (u : ℕ) (c : Counts) (z : ℤ) → z ≡ c .mean → countsIn c ≡ machine.countsOf m
-    → reportValuesIn (record { axes = m .log .settings .axes; old = c .old; active = c .active; wanted = c .wanted; reserved = c .reserved; pending = c .pending; ceiling = c .ceiling; scaled = z; unused = u; ending = e })
+    → reportValuesIn (record { axes = m .log .settings .axes; old = c .old; active = c .active; wanted = c .wanted; reserved = c .reserved; pending = c .pending; carried = c .carried; ceiling = c .ceiling; scaled = z; unused = u; ending = e })
     ≡ reportValuesOf (endingIn e) m u
 unfolding reportValuesIn reportValuesOf countsIn
 report-values-are m e u c z same is =
@@ -25,6 +25,7 @@ report-values-are m e u c z same is =
       wanted = c .wanted;
       reserved = c .reserved;
       pending = c .pending;
+      carried = c .carried;
       ceiling = c .ceiling;
       scaled = x;
       unused = u;
@@ -38,6 +39,7 @@ report-values-are m e u c z same is =
       wanted = x .wanted;
       reserved = x .reserved;
       pending = x .pending;
+      carried = x .carried;
       ceiling = x .ceiling;
       scaled = x .mean;
       unused = u;

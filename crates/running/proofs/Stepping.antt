@@ -119,6 +119,7 @@ module _ (j : JobRecord) (cells : List ℕ) (store : List ℤ) (st : ValidArea (
               → byOutcome (outcomeOf x) (machineOf (areaOf j cells store)) i (execution c n (promoteStep (machineOf (areaOf j cells store))) i)
               ≡ afterStep c n i (machineOf (areaOf j cells store)) (stepPromoted x job) cells₁ store
           by outcomes.Met e = unfold byOutcome outcomeOf stepPromoted afterStep endingIn in refl
+          by outcomes.Capped e = unfold byOutcome outcomeOf stepPromoted afterStep endingIn in refl
           by outcomes.Spent e = unfold byOutcome outcomeOf stepPromoted afterStep endingIn in refl
           by outcomes.Promoted e = unfold byOutcome outcomeOf stepPromoted afterStep changedBy in ap (λ (y : Machine). execution c n y i) (sym (next-state (unfold outcomeOf changedBy in e)))
 
@@ -128,5 +129,6 @@ module _ (j : JobRecord) (cells : List ℕ) (store : List ℤ) (st : ValidArea (
           by : (x : outcome.Outcome) → areaOf job cells₁ store ≡ changedBy (outcomeOf x) (areaOf j cells store) (written (areaOf j cells store) (promoteStep (machineOf (areaOf j cells store))))
               → StepPostcondition entries i j cells store (stepPromoted x job) cells₁ store
           by outcomes.Met e = unfold stepPromoted in same-area (unfold outcomeOf changedBy in e)
+          by outcomes.Capped e = unfold stepPromoted in same-area (unfold outcomeOf changedBy in e)
           by outcomes.Spent e = unfold stepPromoted in same-area (unfold outcomeOf changedBy in e)
           by outcomes.Promoted e = unfold stepPromoted in s

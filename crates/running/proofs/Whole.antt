@@ -34,7 +34,7 @@ use Rattle.running.specs.Code.{Printed, writtenFor, answerIn, runOn}
 -- ---- what start leaves
 
 module _ (g : Settings) (none : firstCause (startCauses ownLengths g) ≡ 0) (j : JobRecord) (before cells : List ℕ) (store : List ℤ)
-    (job : j ≡ record { settings = g; held = 1; reserved = 1; pending = 0; mean = pos 0 }) (run : runOf cells ≡ stored (runOf before) 0 rootRecord)
+    (job : j ≡ record { settings = g; held = 1; reserved = 1; pending = 0; carried = 0; mean = pos 0 }) (run : runOf cells ≡ stored (runOf before) 0 rootRecord)
     (long : length before ≡ 13824) (room : length store ≡ 8192) where
   abbrev old : Area
   old = areaOf j before store

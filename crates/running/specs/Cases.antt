@@ -1,5 +1,5 @@
 -- What given files print ("Job file and report", "Boundary cases"), byte for byte. The texts are those of the program that was written from the
--- scope document alone (tests/reference), so that a definition changed together with the code would show here.
+-- scope document and the requests alone (tests/reference), so that a definition changed together with the code would show here.
 use mathlib.Core.Path.{_≡_}
 use mathlib.Core.List.{List, [], _∷_, _++_, map}
 use Prim.Native.Char.{code}
@@ -10,6 +10,7 @@ use lib.IntN.{ℤ, pos, negsuc}
 use lib.ListN.{length, set, take, replicate}
 use lib.Seq.{sets}
 use Rattle.jobfile.specs.File.{JobFile, FileEntry, fileOf, entryOf}
+use Rattle.reporting.specs.Text.{reportText, capped}
 use Rattle.running.specs.Report.{textOf}
 
 -- The bytes of a text, a letter's being its code; `\n` is the line feed.
@@ -87,28 +88,29 @@ pub record FileCases : Type 0 where
 
   -- the file has 100 bytes and prints
   pub size : length exampleFile ≡ 100
-  pub example : textOf exampleFile ≡ bytesOf "axes 2\nold 2\nactive 2\nwanted 0\nreserved 7\npending 10\nceiling 0\nscaled 5972688896\nunused 0\nend met\n"
+  pub example : textOf exampleFile ≡ bytesOf "axes 2\nold 2\nactive 2\nwanted 0\nreserved 7\npending 10\ncarried 0\nceiling 0\nscaled 5972688896\nunused 0\nend met\n"
   -- short: with threshold 9 the next block is wanted and the entries are exhausted
-  pub short : textOf (set exampleFile 8 9) ≡ bytesOf "axes 2\nold 3\nactive 1\nwanted 1\nreserved 11\npending 0\nceiling 0\nscaled 5972688896\nunused 0\nend short\n"
+  pub short : textOf (set exampleFile 8 9) ≡ bytesOf "axes 2\nold 3\nactive 1\nwanted 1\nreserved 11\npending 0\ncarried 0\nceiling 0\nscaled 5972688896\nunused 0\nend short\n"
   -- a mean below 0, and figures of which no two but 0 are the same
-  pub negative : textOf negativeFile ≡ bytesOf "axes 4\nold 2\nactive 3\nwanted 1\nreserved 11\npending 67306024\nceiling 0\nscaled -275832373248\nunused 0\nend short\n"
-  -- level 8 is old, and its forward neighbour passes a ceiling
-  pub ceiling : textOf ceilingFile ≡ bytesOf "axes 1\nold 8\nactive 0\nwanted 0\nreserved 129\npending 0\nceiling 1\nscaled 0\nunused 2\nend met\n"
+  pub negative : textOf negativeFile ≡ bytesOf "axes 4\nold 2\nactive 3\nwanted 1\nreserved 11\npending 67306024\ncarried 0\nceiling 0\nscaled -275832373248\nunused 0\nend short\n"
   -- a threshold of more than 32 bits, 2^32 + 40
-  pub wide-threshold : textOf (set exampleFile 12 1) ≡ bytesOf "axes 2\nold 0\nactive 1\nwanted 0\nreserved 1\npending 100\nceiling 0\nscaled 4362076160\nunused 3\nend met\n"
+  pub wide-threshold : textOf (set exampleFile 12 1) ≡ bytesOf "axes 2\nold 0\nactive 1\nwanted 0\nreserved 1\npending 100\ncarried 0\nceiling 0\nscaled 4362076160\nunused 3\nend met\n"
   -- two indicators of 4294967295, and a budget of 5 that ends the run: a pending error of more than 32 bits
   pub large-pending : textOf (sets (sets (set exampleFile 4 5) 36 (255 ∷ 255 ∷ 255 ∷ 255 ∷ [])) 48 (255 ∷ 255 ∷ 255 ∷ 255 ∷ []))
-      ≡ bytesOf "axes 2\nold 1\nactive 2\nwanted 0\nreserved 5\npending 8589934590\nceiling 0\nscaled 6509559808\nunused 1\nend spent\n"
+      ≡ bytesOf "axes 2\nold 1\nactive 2\nwanted 0\nreserved 5\npending 8589934590\ncarried 0\nceiling 0\nscaled 6509559808\nunused 1\nend spent\n"
+  -- figures that are all different, both errors of more than 32 bits
+  pub lines : reportText (record { axes = 1; old = 2; active = 3; wanted = 4; reserved = 5; pending = 8589934590; carried = 25769803770; ceiling = 6; scaled = negsuc 6; unused = 8; ending = capped })
+      ≡ bytesOf "axes 1\nold 2\nactive 3\nwanted 4\nreserved 5\npending 8589934590\ncarried 25769803770\nceiling 6\nscaled -7\nunused 8\nend capped\n"
   -- ---- boundary cases
 
   -- before the first delivery the scaled mean is 0: the header alone, with no entries
-  pub mean-zero : textOf (take 24 (set exampleFile 16 0)) ≡ bytesOf "axes 2\nold 0\nactive 0\nwanted 1\nreserved 1\npending 0\nceiling 0\nscaled 0\nunused 0\nend short\n"
-  -- threshold equal to the pending error: met; one below it goes on
-  pub threshold-equal : textOf (set exampleFile 8 100) ≡ bytesOf "axes 2\nold 0\nactive 1\nwanted 0\nreserved 1\npending 100\nceiling 0\nscaled 4362076160\nunused 3\nend met\n"
-  pub threshold-below : textOf (set exampleFile 8 99) ≡ bytesOf "axes 2\nold 1\nactive 2\nwanted 0\nreserved 5\npending 50\nceiling 0\nscaled 6509559808\nunused 1\nend met\n"
+  pub mean-zero : textOf (take 24 (set exampleFile 16 0)) ≡ bytesOf "axes 2\nold 0\nactive 0\nwanted 1\nreserved 1\npending 0\ncarried 0\nceiling 0\nscaled 0\nunused 0\nend short\n"
+  -- threshold equal to the pending error, nothing carried: met; one below it goes on
+  pub threshold-equal : textOf (set exampleFile 8 100) ≡ bytesOf "axes 2\nold 0\nactive 1\nwanted 0\nreserved 1\npending 100\ncarried 0\nceiling 0\nscaled 4362076160\nunused 3\nend met\n"
+  pub threshold-below : textOf (set exampleFile 8 99) ≡ bytesOf "axes 2\nold 1\nactive 2\nwanted 0\nreserved 5\npending 50\ncarried 0\nceiling 0\nscaled 6509559808\nunused 1\nend met\n"
   -- budget 4, d 2, pending error above the threshold: the first promotion is spent; budget 5: it isn't, but the second is
-  pub budget-four : textOf (set exampleFile 4 4) ≡ bytesOf "axes 2\nold 0\nactive 1\nwanted 0\nreserved 1\npending 100\nceiling 0\nscaled 4362076160\nunused 3\nend spent\n"
-  pub budget-five : textOf (set exampleFile 4 5) ≡ bytesOf "axes 2\nold 1\nactive 2\nwanted 0\nreserved 5\npending 50\nceiling 0\nscaled 6509559808\nunused 1\nend spent\n"
+  pub budget-four : textOf (set exampleFile 4 4) ≡ bytesOf "axes 2\nold 0\nactive 1\nwanted 0\nreserved 1\npending 100\ncarried 0\nceiling 0\nscaled 4362076160\nunused 3\nend spent\n"
+  pub budget-five : textOf (set exampleFile 4 5) ≡ bytesOf "axes 2\nold 1\nactive 2\nwanted 0\nreserved 5\npending 50\ncarried 0\nceiling 0\nscaled 6509559808\nunused 1\nend spent\n"
   -- ---- refusals: the cause's number, and the byte that it names
 
   -- empty file
@@ -133,3 +135,10 @@ pub record FileCases : Type 0 where
   -- the first byte too many, also with 9 axes: 10 before all
   pub too-many : textOf (exampleFile ++ 0 ∷ []) ≡ bytesOf "refused 10 at 100\n"
   pub before-all : textOf (set exampleFile 0 9 ++ 0 ∷ []) ≡ bytesOf "refused 10 at 100\n"
+
+-- A job that reaches a ceiling.
+pub record CeilingFileCases : Type 0 where
+  -- with indicator 9 for level 8: it is old, and its forward neighbour passes a ceiling, so that the 9 is carried
+  pub ceiling : textOf (set ceilingFile 108 9) ≡ bytesOf "axes 1\nold 8\nactive 0\nwanted 0\nreserved 129\npending 0\ncarried 9\nceiling 1\nscaled 0\nunused 2\nend capped\n"
+  -- with threshold 1 level 8 stays active: its indicator, 1, is pending and not carried
+  pub ceiling-active : textOf (set ceilingFile 8 1) ≡ bytesOf "axes 1\nold 7\nactive 1\nwanted 0\nreserved 129\npending 1\ncarried 0\nceiling 0\nscaled 0\nunused 2\nend met\n"

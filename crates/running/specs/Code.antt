@@ -43,6 +43,7 @@ stepOfDelivery (deliveries.Done job) = steps.Delivered job
 
 unfoldable pub stepPromoted : outcome.Outcome → JobRecord → step.Step
 stepPromoted outcomes.Met job = steps.Ended endings.Met
+stepPromoted outcomes.Capped job = steps.Ended endings.Capped
 stepPromoted outcomes.Spent job = steps.Ended endings.Spent
 stepPromoted outcomes.Promoted job = steps.Promoted job
 

@@ -1,5 +1,5 @@
 -- The execution of a job file ("Job file and report"): start, and then, while a block is wanted, the next entry is delivered, else it promotes,
--- until *met*, *spent* or *short* (entries exhausted, block wanted). c are the file's bytes.
+-- until *met*, *capped*, *spent* or *short* (entries exhausted, block wanted). c are the file's bytes.
 use mathlib.Core.Bool.{true, cond}
 use mathlib.Core.List.{List, [], _∷_}
 use Prim.Native.Nat.{ℕ, zero, suc, _+_, _*_}
@@ -15,7 +15,7 @@ use Rattle.machine.specs.Causes.{Lengths, firstCause, startCauses, deliverCause
 use Rattle.jobfile.specs.Bytes.{four}
 use Rattle.jobfile.specs.Form.{Form, formed, broken, formOf, entryCount, entryByte}
 use Rattle.jobfile.specs.File.{entryOf, fileOf}
-use Rattle.reporting.specs.Text.{Ending, met, spent, short}
+use Rattle.reporting.specs.Text.{Ending, met, capped, spent, short}
 
 -- A run has storage of its own: 512 records and 8,192 readings, long enough for every budget.
 abbrev pub ownLengths : Lengths
@@ -49,6 +49,7 @@ unlessRefused c m i next = cond (eqb (deliveryCause c m i) 0) next (refusedAt (d
 -- Promote ends the run, unless it is promoted.
 unfoldable pub byOutcome : rule.Outcome → Machine → ℕ → Result → Result
 byOutcome rule.met m i next = ended met m i
+byOutcome rule.capped m i next = ended capped m i
 byOutcome rule.spent m i next = ended spent m i
 byOutcome rule.promoted m i next = next
 

@@ -17,6 +17,7 @@ reportValuesOf e m u =
       wanted = countsOf m .wanted;
       reserved = countsOf m .reserved;
       pending = countsOf m .pending;
+      carried = countsOf m .carried;
       ceiling = countsOf m .ceiling;
       scaled = countsOf m .mean;
       unused = u;

@@ -118,6 +118,7 @@ fn step_of_promotion(outcome: promotion::Outcome, job: area::JobRecord) -> Step
 {
     match outcome {
         promotion::Outcome::Met => Step::Ended(reporting::Ending::Met),
+        promotion::Outcome::Capped => Step::Ended(reporting::Ending::Capped),
         promotion::Outcome::Spent => Step::Ended(reporting::Ending::Spent),
         promotion::Outcome::Promoted => Step::Promoted(job),
     }
@@ -172,6 +173,7 @@ fn put_ended(
         wanted: counts.wanted,
         reserved: counts.reserved,
         pending: counts.pending,
+        carried: counts.carried,
         ceiling: counts.ceiling,
         scaled: counts.mean,
         unused: unused as u32,

@@ -17,7 +17,7 @@ use Rattle.grid.proofs.Levels.{within-sure, within-back}
 use Rattle.grid.proofs.Neighbours.{forward-backward}
 use Rattle.area.specs.declared.IndexRecord.{IndexRecord}
 use Rattle.area.specs.Settings.{readingCount, leastStore}
-use Rattle.area.specs.Entry.{deliveredOf, reservedBy, pendingOf}
+use Rattle.area.specs.Entry.{deliveredOf, reservedBy, pendingOf, carriedOf}
 use Rattle.area.specs.Encoding.{Area, heldOf, entriesOf, none}
 use Rattle.quadrature.specs.Readings.{recordAt}
 use Rattle.soundness.specs.Held.{levelsAt, stateAt, forwardLink, backwardLink, Held, HeldOld}
@@ -166,11 +166,13 @@ module _ (a : Area) where
   unfolding numbersClause
   reads-numbers =
       reads-as
-      (λ (((reserved, within-budget), pending), mean). record { reserved = reserved; within-budget = within-budget; pending = pending; mean = mean })
-      (λ n. (((n .reserved, n .within-budget), n .pending), n .mean))
+      (λ ((((reserved, within-budget), pending), carried), mean).
+      record { reserved = reserved; within-budget = within-budget; pending = pending; carried = carried; mean = mean })
+      (λ n. ((((n .reserved, n .within-budget), n .pending), n .carried), n .mean))
       (reads-eq (a .job .reserved) (reservedBy (entriesOf a))
       and reads-le (a .job .reserved) (a .job .settings .budget)
       and reads-eq (a .job .pending) (pendingOf (entriesOf a))
+      and reads-eq (a .job .carried) (carriedOf (a .job .settings .axes) (entriesOf a))
       and reads-le (natAbs (a .job .mean)) (length (deliveredOf (entriesOf a)) * 2 ^ 40))
 
   pub reads-sound : Exactly (isSound a) (Sound a)

@@ -1,7 +1,7 @@
 -- Blocks summed along the places, in points and in readings: reserved is the sum of all, and each block ends within it.
 -- Assumes nothing.
 use mathlib.Core.Path.{_≡_, refl, sym, ap, ap₂, _∙_}
-use mathlib.Core.Bool.{cond}
+use mathlib.Core.Bool.{cond, _&&_}
 use mathlib.Core.List.{List, [], _∷_, map}
 use Prim.Native.Nat.{ℕ, zero, suc, _+_, _<_, _≤_}
 use native.Mathlib.Decide.{ℕ-discrete}
@@ -11,16 +11,17 @@ use lib.Dec.{leb, eqb}
 use lib.IntN.{ℤ}
 use lib.ListN.{length}
 use Rattle.sums.specs.Sums.{natSumTo}
+use Rattle.grid.specs.Index.{atCeiling}
 use Rattle.grid.specs.Block.{blockSize}
 use Rattle.area.specs.declared.IndexRecord.{IndexRecord}
 use Rattle.area.specs.declared.Settings.{Settings}
 use Rattle.area.specs.Settings.{SettingsFit, readingsFor, leastStore}
 use Rattle.area.proofs.Readings.{reading-facts}
-use Rattle.area.specs.Entry.{deliveredOf, reservedBy, pendingOf}
+use Rattle.area.specs.Entry.{deliveredOf, reservedBy, pendingOf, carriedOf}
 use Rattle.area.specs.Encoding.{entryOf}
 use Rattle.quadrature.specs.Readings.{recordAt}
 use Rattle.soundness.specs.Held.{levelsAt, stateAt, sizeAt, countAt}
-use Rattle.soundness.specs.Totals.{pendingIn, deliveredCount}
+use Rattle.soundness.specs.Totals.{pendingIn, carriedIn, deliveredCount}
 
 sum-front : (n : ℕ) (f : ℕ → ℕ) → natSumTo (suc n) f ≡ f 0 + natSumTo n (λ i. f (suc i))
 unfolding natSumTo
@@ -47,6 +48,13 @@ pending-sum g s [] = unfold natSumTo in refl
 pending-sum g s (r ∷ rs) =
     ap (λ n. cond (eqb (r .state) 1) (r .indicator) 0 + n) (pending-sum g s rs)
     ∙ sym (sum-front (length rs) (λ p. cond (eqb (stateAt (r ∷ rs) p) 1) (recordAt (r ∷ rs) p .indicator) 0))
+
+pub carried-sum : (d : ℕ) (g : Settings) (s : List ℤ) (rs : List IndexRecord) → carriedOf d (map (entryOf g s) rs) ≡ carriedIn d rs
+unfolding carriedOf carriedIn entryOf
+carried-sum d g s [] = unfold natSumTo in refl
+carried-sum d g s (r ∷ rs) =
+    ap (λ n. cond (eqb (r .state) 2 && atCeiling d (r .levels)) (r .indicator) 0 + n) (carried-sum d g s rs)
+    ∙ sym (sum-front (length rs) (λ p. cond (eqb (stateAt (r ∷ rs) p) 2 && atCeiling d (levelsAt (r ∷ rs) p)) (recordAt (r ∷ rs) p .indicator) 0))
 
 -- the readings of all blocks are those of all points
 pub count-sum : (g : Settings) (rs : List IndexRecord) (n : ℕ) → natSumTo n (countAt g rs) ≡ readingsFor g (natSumTo n (sizeAt rs))

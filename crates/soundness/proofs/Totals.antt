@@ -26,11 +26,11 @@ use Rattle.quadrature.specs.Readings.{recordAt}
 use Rattle.soundness.specs.Held.{levelsAt, stateAt, sizeAt, countAt}
 use Rattle.soundness.specs.Sound.{Structure, NumbersSound, Sound, LongEnough, Exactly}
 use Rattle.soundness.specs.Test.{placesTest, allCompleteTest, linkCheckTest}
-use Rattle.soundness.specs.Totals.{wantedTest, allWantedTest, readingTest, blockTest, blocksTest, pendingIn, deliveredCount, jobTest, heldTest, areaTest}
+use Rattle.soundness.specs.Totals.{wantedTest, allWantedTest, readingTest, blockTest, blocksTest, pendingIn, carriedIn, deliveredCount, jobTest, numbersTest, heldTest, areaTest}
 use Rattle.soundness.proofs.Exactly.{reads-as, reads-eq, reads-lt, reads-le, reads-and, reads-then, reads-or, reads-if, reads-all-from, reads-all}
 use Rattle.soundness.proofs.Settings.{reads-settings}
 use Rattle.soundness.proofs.Tests.{reads-structure}
-use Rattle.soundness.proofs.Sizes.{reserved-sum, pending-sum, delivered-sum, count-sum, count-below, count-same}
+use Rattle.soundness.proofs.Sizes.{reserved-sum, pending-sum, carried-sum, delivered-sum, count-sum, count-below, count-same}
 
 module _ (rs : List IndexRecord) where
   abbrev WantedHere : ℕ → Type 0
@@ -153,22 +153,24 @@ module _ (a : Area) (formed : (p : ℕ) → p < length (heldOf a) → length (le
     wanted : Wanted rs
     blocks : Blocks rs g (a .store) (a .job .reserved)
     pending : pendingIn rs ≡ a .job .pending
+    carried : carriedIn (g .axes) rs ≡ a .job .carried
     mean : natAbs (a .job .mean) ≤ deliveredCount rs * 2 ^ 40
 
   held-count : JobFits → length rs ≡ a .job .held
   held-count f = length-take-le (a .job .held) (a .run .records) (omega (arith, f .long, f .held .1))
 
   reads-held : JobFits → Exactly (heldTest (a .job) rs (a .store)) HeldFits
-  unfolding heldTest
+  unfolding heldTest numbersTest
   reads-held f =
       reads-as
-      (λ (structure, (wanted, (blocks, (pending, mean)))).
-      record { structure = structure; wanted = wanted; blocks = blocks; pending = pending; mean = mean })
-      (λ h. (h .structure, (h .wanted, (h .blocks, (h .pending, h .mean)))))
+      (λ (structure, (wanted, (blocks, (pending, (carried, mean))))).
+      record { structure = structure; wanted = wanted; blocks = blocks; pending = pending; carried = carried; mean = mean })
+      (λ h. (h .structure, (h .wanted, (h .blocks, (h .pending, (h .carried, h .mean))))))
       (reads-and _ _ (reads-passes (g .axes) (f .settings .axes .1) rs formed (omega (arith, held-count f, f .held .0), omega (arith, held-count f, f .held .1)))
       (reads-and _ _ (reads-wanteds rs)
       (reads-and _ _ (reads-blocks rs g (a .store) (a .job .reserved))
-      (reads-and _ _ (reads-eq (pendingIn rs) (a .job .pending)) (reads-le (natAbs (a .job .mean)) (deliveredCount rs * 2 ^ 40))))))
+      (reads-and _ _ (reads-eq (pendingIn rs) (a .job .pending))
+      (reads-and _ _ (reads-eq (carriedIn (g .axes) rs) (a .job .carried)) (reads-le (natAbs (a .job .mean)) (deliveredCount rs * 2 ^ 40)))))))
 
   -- the last block ends within the shortest store, so all readings do
   last-within : (n : ℕ) → n ≡ length rs → 1 ≤ n → ((p : ℕ) → p < length rs → Block rs g (a .store) p) → natSumTo n (countAt g rs) ≤ leastStore g
@@ -192,6 +194,7 @@ module _ (a : Area) (formed : (p : ℕ) → p < length (heldOf a) → length (le
           reserved = sym points ∙ sym (reserved-sum g (a .store) rs);
           within-budget = all-within;
           pending = sym (h .pending) ∙ sym (pending-sum g (a .store) rs);
+          carried = sym (h .carried) ∙ sym (carried-sum (g .axes) g (a .store) rs);
           mean = subst (λ n. natAbs (a .job .mean) ≤ n * 2 ^ 40) (sym (delivered-sum g (a .store) rs)) (h .mean);
         }
 
@@ -244,6 +247,7 @@ module _ (a : Area) (formed : (p : ℕ) → p < length (heldOf a) → length (le
           wanted = record { last = s .wanted-last; idle = s .wanted-indicator-zero };
           blocks = record { each = block; together = count-sum g rs (length rs) ∙ ap (readingsFor g) sum };
           pending = sym (pending-sum g (a .store) rs) ∙ sym (s .numbers .pending);
+          carried = sym (carried-sum (g .axes) g (a .store) rs) ∙ sym (s .numbers .carried);
           mean = subst (λ n. natAbs (a .job .mean) ≤ n * 2 ^ 40) (delivered-sum g (a .store) rs) (s .numbers .mean);
         }
 

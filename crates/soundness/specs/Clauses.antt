@@ -14,7 +14,7 @@ use Rattle.grid.specs.Coefficient.{sameLevels}
 use Rattle.area.specs.declared.IndexRecord.{IndexRecord}
 use Rattle.area.specs.declared.Settings.{Settings}
 use Rattle.area.specs.Settings.{SettingsFit, settingsFit, readingCount, leastStore}
-use Rattle.area.specs.Entry.{deliveredOf, reservedBy, pendingOf}
+use Rattle.area.specs.Entry.{deliveredOf, reservedBy, pendingOf, carriedOf}
 use Rattle.area.specs.Encoding.{Area, heldOf, entriesOf, none}
 use Rattle.quadrature.specs.Readings.{recordAt}
 use Rattle.soundness.specs.Held.{levelsAt, stateAt, forwardLink, backwardLink}
@@ -145,12 +145,13 @@ readingsClause a =
     ltb (recordAt (heldOf a) p .first + n) (length (a .store)) && isReading (getD (a .store) (recordAt (heldOf a) p .first + n) (pos 0)))) true)
 
 -- the job record's own numbers: reserved is the sum of the held blocks' sizes and within the budget; the pending error is the active sum;
--- the scaled mean is in size at most the delivered count times 2^40
+-- the carried error is the sum over the old at a ceiling; the scaled mean is in size at most the delivered count times 2^40
 unfoldable pub numbersClause : Area → Bool
 numbersClause a =
     eqb (a .job .reserved) (reservedBy (entriesOf a))
     && leb (a .job .reserved) (a .job .settings .budget)
     && eqb (a .job .pending) (pendingOf (entriesOf a))
+    && eqb (a .job .carried) (carriedOf (a .job .settings .axes) (entriesOf a))
     && leb (natAbs (a .job .mean)) (length (deliveredOf (entriesOf a)) * 2 ^ 40)
 
 -- Whether an area is sound: the clauses, in order.

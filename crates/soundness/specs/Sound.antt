@@ -1,6 +1,6 @@
 -- When an area is *sound* ("Old, active and wanted", its last paragraph): one to three fields for each clause, in the scope document's
--- order, except that delivered readings come before reserved, so that the clauses on the job record's own numbers stand together. The order
--- decides nothing. Places and axes count from 0.
+-- order, except that delivered readings come before reserved, so that the clauses on the job record's own numbers stand together, and that
+-- the carried error of request No. 3 comes after the pending error. The order decides nothing. Places and axes count from 0.
 use mathlib.Core.Path.{_≡_}
 use mathlib.Core.Bool.{Bool, true}
 use mathlib.Core.List.{List}
@@ -12,7 +12,7 @@ use Rattle.grid.specs.Index.{level, Index, root, forward, backward}
 use Rattle.grid.specs.Terms.{IsReading}
 use Rattle.area.specs.declared.IndexRecord.{IndexRecord}
 use Rattle.area.specs.Settings.{SettingsFit, readingCount, leastStore}
-use Rattle.area.specs.Entry.{deliveredOf, reservedBy, pendingOf}
+use Rattle.area.specs.Entry.{deliveredOf, reservedBy, pendingOf, carriedOf}
 use Rattle.area.specs.Encoding.{Area, heldOf, entriesOf, none}
 use Rattle.quadrature.specs.Readings.{recordAt}
 use Rattle.soundness.specs.Held.{levelsAt, stateAt, forwardLink, backwardLink, Holds, Held, HeldOld}
@@ -50,6 +50,8 @@ pub record NumbersSound (a : Area) : Type 0 where
   pub within-budget : a .job .reserved ≤ a .job .settings .budget
   -- the pending error is the active sum
   pub pending : a .job .pending ≡ pendingOf (entriesOf a)
+  -- the carried error is the sum over the old at a ceiling
+  pub carried : a .job .carried ≡ carriedOf (a .job .settings .axes) (entriesOf a)
   -- the scaled mean is in size at most the delivered count times 2^40
   pub mean : natAbs (a .job .mean) ≤ length (deliveredOf (entriesOf a)) * 2 ^ 40
 

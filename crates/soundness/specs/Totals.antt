@@ -6,13 +6,14 @@ use lib.Dec.{ltb, leb, eqb}
 use lib.IntN.{ℤ, pos, natAbs}
 use lib.ListN.{length, getD}
 use Rattle.sums.specs.Sums.{natSumTo}
+use Rattle.grid.specs.Index.{atCeiling}
 use Rattle.area.specs.declared.IndexRecord.{IndexRecord}
 use Rattle.area.specs.declared.JobRecord.{JobRecord}
 use Rattle.area.specs.declared.Settings.{Settings}
 use Rattle.area.specs.Settings.{settingsFit, readingsFor, leastStore}
 use Rattle.area.specs.Encoding.{Area, heldOf}
 use Rattle.quadrature.specs.Readings.{recordAt}
-use Rattle.soundness.specs.Held.{stateAt, countAt}
+use Rattle.soundness.specs.Held.{levelsAt, stateAt, countAt}
 use Rattle.soundness.specs.Test.{allFrom, placesTest, allCompleteTest}
 
 -- A wanted place has indicator 0, and the next place is wanted too.
@@ -38,10 +39,15 @@ blockTest g rs s p =
 unfoldable pub blocksTest : Settings → ℕ → List IndexRecord → List ℤ → Bool
 blocksTest g r rs s = allFrom (length rs) 0 (blockTest g rs s) && eqb (natSumTo (length rs) (countAt g rs)) (readingsFor g r)
 
--- The sum of the active indicators and the number of delivered places, along the places.
+-- The sum of the active indicators, along the places.
 unfoldable pub pendingIn : List IndexRecord → ℕ
 pendingIn rs = natSumTo (length rs) (λ p. cond (eqb (stateAt rs p) 1) (recordAt rs p .indicator) 0)
 
+-- The sum of the indicators of the old at a ceiling, along the places.
+unfoldable pub carriedIn : ℕ → List IndexRecord → ℕ
+carriedIn d rs = natSumTo (length rs) (λ p. cond (eqb (stateAt rs p) 2 && atCeiling d (levelsAt rs p)) (recordAt rs p .indicator) 0)
+
+-- The number of delivered places.
 unfoldable pub deliveredCount : List IndexRecord → ℕ
 deliveredCount rs = natSumTo (length rs) (λ p. cond (eqb (stateAt rs p) 0) 0 1)
 
@@ -50,12 +56,17 @@ unfoldable pub jobTest : JobRecord → ℕ → ℕ → Bool
 jobTest j records readings =
     leb 512 records && (leb (leastStore (j .settings)) readings && (settingsFit (j .settings) && (leb 1 (j .held) && leb (j .held) 512)))
 
+-- The errors and the mean that the job record has of the held records.
+unfoldable pub numbersTest : JobRecord → List IndexRecord → Bool
+numbersTest j rs =
+    eqb (pendingIn rs) (j .pending) && (eqb (carriedIn (j .settings .axes) rs) (j .carried) && leb (natAbs (j .mean)) (deliveredCount rs * 2 ^ 40))
+
 -- The held records, and the figures that the job record has of them.
 unfoldable pub heldTest : JobRecord → List IndexRecord → List ℤ → Bool
 heldTest j rs s =
     (placesTest (j .settings .axes) rs && allCompleteTest (j .settings .axes) rs)
     && (allWantedTest rs
-    && (blocksTest (j .settings) (j .reserved) rs s && (eqb (pendingIn rs) (j .pending) && leb (natAbs (j .mean)) (deliveredCount rs * 2 ^ 40))))
+    && (blocksTest (j .settings) (j .reserved) rs s && numbersTest j rs))
 
 unfoldable pub areaTest : Area → Bool
 areaTest a = jobTest (a .job) (length (a .run .records)) (length (a .store)) && heldTest (a .job) (heldOf a) (a .store)

@@ -31,23 +31,24 @@ high-of : (a b : ℕ) → a < 2 ^ 32 → highWord (a + b * 2 ^ 32) ≡ b
 unfolding highWord
 high-of a b h = omega arith
 
-job-round-trip : (j : JobRecord) → j .settings .threshold < 2 ^ 64 → j .pending < 2 ^ 64 → SFits w64 (j .mean) → jobOf (wordsOf j) ≡ j
+job-round-trip : (j : JobRecord) → j .settings .threshold < 2 ^ 64 → j .pending < 2 ^ 64 → j .carried < 2 ^ 64 → SFits w64 (j .mean) → jobOf (wordsOf j) ≡ j
 unfolding jobOf wordsOf
-job-round-trip j h k f =
+job-round-trip j h k l f =
     λ i.
     record {
       settings = record { axes = j .settings .axes; threshold = both (j .settings .threshold) i; budget = j .settings .budget };
       held = j .held;
       reserved = j .reserved;
       pending = both (j .pending) i;
+      carried = both (j .carried) i;
       mean = (ap (toZ w64) (both (ofZ w64 (j .mean))) ∙ back (j .mean) f) i;
     }
 
--- in a sound area pending error and mean have room in 64 bits
+-- in a sound area the two errors and the mean have room in 64 bits
 sound-round-trip : (a : Area) → Sound a → a .job .settings .threshold < 2 ^ 64 → ((p : ℕ) → p < length (heldOf a) → recordAt (heldOf a) p .indicator < 2 ^ 32)
     → jobOf (wordsOf (a .job)) ≡ a .job
 sound-round-trip a s h k =
-    job-round-trip (a .job) h (omega (arith, range-facts .pending a s k)) (record { sfits = omega (arith, mag-le (a .job .mean), range-facts .mean a s) })
+    job-round-trip (a .job) h (omega (arith, range-facts .errors a s k)) (omega (arith, range-facts .errors a s k)) (record { sfits = omega (arith, mag-le (a .job .mean), range-facts .mean a s) })
 
 -- a list is what is read from it
 read-all : (w : List ℕ) → tabulate (length w) (λ i. getD w i 0) ≡ w
@@ -55,7 +56,7 @@ unfolding tabulate
 read-all [] = refl
 read-all (x ∷ w) = ap (λ l. x ∷ l) (read-all w)
 
-module _ (w : List ℕ) (ten : length w ≡ 10) (small : (i : ℕ) → word w i < 2 ^ 32) where
+module _ (w : List ℕ) (twelve : length w ≡ 12) (small : (i : ℕ) → word w i < 2 ^ 32) where
   mean-bits : ofZ w64 (toZ w64 (wide w 4)) ≡ wide w 4
   mean-bits = ofZ-toZ w64 (wide w 4) (record { fits = omega (arith, small 4, small 5) })
 
@@ -73,8 +74,10 @@ module _ (w : List ℕ) (ten : length w ≡ 10) (small : (i : ℕ) → word w i 
       ∷ word w 7
       ∷ word w 8
       ∷ word w 9
+      ∷ low-of (word w 10) (word w 11) (small 10) i
+      ∷ high-of (word w 10) (word w 11) (small 10) i
       ∷ [])
-      ∙ (ap (λ n. tabulate n (λ i. getD w i 0)) (sym ten) ∙ read-all w)
+      ∙ (ap (λ n. tabulate n (λ i. getD w i 0)) (sym twelve) ∙ read-all w)
 
 pub word-facts : WordFacts
-word-facts = record { words-round-trip = words-round-trip; job-round-trip = job-round-trip; sound-round-trip = sound-round-trip }
+word-facts = record { places = unfold wordsOf lowWord highWord in refl; words-round-trip = words-round-trip; job-round-trip = job-round-trip; sound-round-trip = sound-round-trip }

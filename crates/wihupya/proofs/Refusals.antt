@@ -28,6 +28,7 @@ module _ (w : List ℕ) (cells : List ℕ) (store : List ℤ) (c : Call) (r : Ca
   by-answer (answers.Refused n) e = kept (call-facts .refused-keeps a c n (sym (ap (λ (y : CallResult). y .answer .reply) is) ∙ ap replyOf e) .0)
   by-answer answers.Accepted e = absurd (refusing (number-is ∙ ap (λ (x : code.Answer). numberOf (replyOf x)) e))
   by-answer answers.Met e = absurd (refusing (number-is ∙ ap (λ (x : code.Answer). numberOf (replyOf x)) e))
+  by-answer answers.Capped e = absurd (refusing (number-is ∙ ap (λ (x : code.Answer). numberOf (replyOf x)) e))
   by-answer answers.Spent e = absurd (refusing (number-is ∙ ap (λ (x : code.Answer). numberOf (replyOf x)) e))
   by-answer answers.Promoted e = absurd (refusing (number-is ∙ ap (λ (x : code.Answer). numberOf (replyOf x)) e))
 
@@ -39,6 +40,7 @@ unfolding replyOf numberOf outcomeAfter
 refused-outcome (answers.Refused n) number w e f = refl
 refused-outcome answers.Accepted number w e f = refl
 refused-outcome answers.Met number w e f = absurd (f e)
+refused-outcome answers.Capped number w e f = absurd (f e)
 refused-outcome answers.Spent number w e f = absurd (f e)
 refused-outcome answers.Promoted number w e f = absurd (f e)
 

@@ -8,7 +8,7 @@ use lib.Ieee.{Float, binary64, toBits}
 use mir.Syntax.{w64}
 use mir.Val.{ofZ}
 use Rattle.area.specs.Records.{Run}
-use Rattle.machine.specs.Promote.{Outcome, met, spent, promoted}
+use Rattle.machine.specs.Promote.{Outcome, met, capped, spent, promoted}
 use Rattle.calls.specs.Replies.{Reply, refused, accepted, wrote, promotion, counts, doubled, total, verdict}
 use Rattle.calls.specs.Calls.{CallResult}
 use Rattle.wihupya.specs.Words.{lowWord, highWord, wordsOf}
@@ -47,9 +47,10 @@ pointsAfter (doubled r) w = w
 pointsAfter (total x) w = w
 pointsAfter (verdict b) w = w
 
--- 0 met, 1 spent, 2 promoted.
+-- 0 met, 1 spent, 2 promoted, 3 capped.
 unfoldable pub outcomeWord : Outcome → ℕ
 outcomeWord met = 0
+outcomeWord capped = 3
 outcomeWord spent = 1
 outcomeWord promoted = 2
 
@@ -65,7 +66,7 @@ outcomeAfter (total x) w = w
 outcomeAfter (verdict b) w = w
 
 -- The counts' words after result: pending error and scaled mean with their low word first, then old, active, wanted, reserved and the
--- ceiling count.
+-- ceiling count, then the carried error with its low word first.
 unfoldable pub countsAfter : Reply → List ℕ → List ℕ
 countsAfter (refused n) w = w
 countsAfter accepted w = w
@@ -81,6 +82,8 @@ countsAfter (counts c) w =
     ∷ c .wanted
     ∷ c .reserved
     ∷ c .ceiling
+    ∷ lowWord (c .carried)
+    ∷ highWord (c .carried)
     ∷ []
 countsAfter (doubled r) w = w
 countsAfter (total x) w = w

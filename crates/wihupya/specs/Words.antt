@@ -1,6 +1,7 @@
--- The job record as ten 32-bit words: threshold, pending error and scaled mean with their low word first, then axes, budget, held
--- and reserved. On a little-endian machine that is a C struct of three 64-bit and four 32-bit numbers. Every ten words are a job
--- record: nothing is narrowed. The bytes in which the reference writes an area have another order.
+-- The job record as twelve 32-bit words: threshold, pending error and scaled mean with their low word first, then axes, budget, held
+-- and reserved, then the carried error with its low word first. On a little-endian machine that is a C struct of three 64-bit, four 32-bit
+-- and again a 64-bit number. Every twelve words are a job record: nothing is narrowed. The bytes in which the reference writes an area have
+-- another order.
 use mathlib.Core.List.{List, [], _∷_}
 use Prim.Native.Nat.{ℕ, _+_, _*_, _/_, _%_, _^_}
 use lib.ListN.{getD}
@@ -23,6 +24,7 @@ jobOf w =
       held = word w 8;
       reserved = word w 9;
       pending = wide w 2;
+      carried = wide w 10;
       mean = toZ w64 (wide w 4);
     }
 
@@ -45,4 +47,6 @@ wordsOf j =
     ∷ j .settings .budget
     ∷ j .held
     ∷ j .reserved
+    ∷ lowWord (j .carried)
+    ∷ highWord (j .carried)
     ∷ []

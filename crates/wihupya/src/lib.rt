@@ -1,4 +1,4 @@
-// The calls, exported for C and Rust: the proved functions, with nothing asked of what the storage holds. A job record is ten words
+// The calls, exported for C and Rust: the proved functions, with nothing asked of what the storage holds. A job record is twelve words
 // (specs/Words.antt). The length of cells counts words, 27 to a record; that of the store counts readings. A call but check returns 0
 // if it was not refused, else the number of the cause. include/wihupya.h says it for C, and bindings/ for Rust.
 ghost use mathlib.Core.Path.{_≡_};
@@ -37,8 +37,8 @@ fn signed(bits: u64) -> i64
     }
 }
 
-// The job record that ten words are.
-fn job_of(words: &[u32; 10]) -> area::JobRecord
+// The job record that twelve words are.
+fn job_of(words: &[u32; 12]) -> area::JobRecord
     ensures { λ r. ⌜ r ≡ jobOf (now (words .entry)) ⌝ }
 {
     area::JobRecord {
@@ -50,12 +50,13 @@ fn job_of(words: &[u32; 10]) -> area::JobRecord
         held: words[8],
         reserved: words[9],
         pending: wide(words[2], words[3]),
+        carried: wide(words[10], words[11]),
         mean: signed(wide(words[4], words[5])),
     }
 }
 
-// The job record that ten words are, and that they are the words of that record, so that a refused call can leave them.
-fn job_in(words: [u32; 10]) -> area::JobRecord
+// The job record that twelve words are, and that they are the words of that record, so that a refused call can leave them.
+fn job_in(words: [u32; 12]) -> area::JobRecord
     ensures { λ r. ⌜ (r ≡ jobOf words) × (wordsOf (jobOf words) ≡ words) ⌝ }
 {
     job_of(&words)
@@ -86,12 +87,12 @@ fn bits_of(number: i64) -> u64
     }
 }
 
-// The ten words of a job record.
-fn words_of(job: area::JobRecord) -> [u32; 10]
+// The twelve words of a job record.
+fn words_of(job: area::JobRecord) -> [u32; 12]
     ensures { λ r. ⌜ r ≡ wordsOf job ⌝ }
 {
     let mean = bits_of(job.mean);
-    let mut words = [0u32; 10];
+    let mut words = [0u32; 12];
     words[0] = low_word(job.settings.threshold);
     words[1] = high_word(job.settings.threshold);
     words[2] = low_word(job.pending);
@@ -102,6 +103,8 @@ fn words_of(job: area::JobRecord) -> [u32; 10]
     words[7] = job.settings.budget;
     words[8] = job.held;
     words[9] = job.reserved;
+    words[10] = low_word(job.carried);
+    words[11] = high_word(job.carried);
     words
 }
 
@@ -113,6 +116,7 @@ fn number_of(answer: calls::Answer) -> u32
         calls::Answer::Refused(number) => number,
         calls::Answer::Accepted => 0,
         calls::Answer::Met => 0,
+        calls::Answer::Capped => 0,
         calls::Answer::Spent => 0,
         calls::Answer::Promoted => 0,
     }
@@ -126,6 +130,7 @@ fn outcome_word(answer: calls::Answer, before: [u32; 1]) -> [u32; 1]
         calls::Answer::Refused(_) => before,
         calls::Answer::Accepted => before,
         calls::Answer::Met => [0u32; 1],
+        calls::Answer::Capped => [3u32; 1],
         calls::Answer::Spent => [1u32; 1],
         calls::Answer::Promoted => [2u32; 1],
     }
@@ -141,12 +146,12 @@ fn point_words(counts: delivery::PointCounts) -> [u32; 2]
     words
 }
 
-// Counts as nine words.
-fn count_words(counts: counting::Counts) -> [u32; 9]
+// Counts as eleven words.
+fn count_words(counts: counting::Counts) -> [u32; 11]
     ensures { λ r. ⌜ r ≡ countsAfter (countsReply (countsIn counts)) [] ⌝ }
 {
     let mean = bits_of(counts.mean);
-    let mut words = [0u32; 9];
+    let mut words = [0u32; 11];
     words[0] = low_word(counts.pending);
     words[1] = high_word(counts.pending);
     words[2] = low_word(mean);
@@ -156,6 +161,8 @@ fn count_words(counts: counting::Counts) -> [u32; 9]
     words[6] = counts.wanted;
     words[7] = counts.reserved;
     words[8] = counts.ceiling;
+    words[9] = low_word(counts.carried);
+    words[10] = high_word(counts.carried);
     words
 }
 
@@ -184,7 +191,7 @@ fn total_words(total: i64) -> [u32; 2]
 
 // Whether the area is sound and lies in storage that is long enough.
 #[no_mangle]
-pub extern "C" fn wihupya_check(job: &[u32; 10], cells: &[u32], store: &[i32]) -> bool
+pub extern "C" fn wihupya_check(job: &[u32; 12], cells: &[u32], store: &[i32]) -> bool
     ensures { λ r. ⌜ r ≡ checked (areaOf (jobOf (now (job .entry))) (now (cells .entry)) (now (store .entry))) ⌝ }
 {
     checking::check(job_of(job), cells, store)
@@ -193,7 +200,7 @@ pub extern "C" fn wihupya_check(job: &[u32; 10], cells: &[u32], store: &[i32]) -
 // Starts a job.
 #[no_mangle]
 pub extern "C" fn wihupya_start(
-    job: &mut [u32; 10],
+    job: &mut [u32; 12],
     axes: u32,
     threshold: u64,
     budget: u32,
@@ -223,7 +230,7 @@ pub extern "C" fn wihupya_start(
 // Writes the positions of a point of the first wanted block.
 #[no_mangle]
 pub extern "C" fn wihupya_point(
-    job: &[u32; 10],
+    job: &[u32; 12],
     n: usize,
     cells: &[u32],
     store: &[i32],
@@ -237,7 +244,7 @@ pub extern "C" fn wihupya_point(
 // Writes points of the first wanted block from the n-th on, and how many they are and how many the block has.
 #[no_mangle]
 pub extern "C" fn wihupya_points(
-    job: &[u32; 10],
+    job: &[u32; 12],
     n: usize,
     counts: &mut [u32; 2],
     cells: &[u32],
@@ -259,7 +266,7 @@ pub extern "C" fn wihupya_points(
 // Delivers the first wanted block.
 #[no_mangle]
 pub extern "C" fn wihupya_deliver(
-    job: &mut [u32; 10],
+    job: &mut [u32; 12],
     readings: &[i32],
     indicator: u32,
     cells: &mut [u32],
@@ -280,10 +287,10 @@ pub extern "C" fn wihupya_deliver(
     number
 }
 
-// Promotes, and writes the outcome: 0 met, 1 spent, 2 promoted.
+// Promotes, and writes the outcome: 0 met, 1 spent, 2 promoted, 3 capped.
 #[no_mangle]
 pub extern "C" fn wihupya_promote(
-    job: &mut [u32; 10],
+    job: &mut [u32; 12],
     outcome: &mut [u32; 1],
     cells: &mut [u32],
     store: &[i32],
@@ -309,8 +316,8 @@ pub extern "C" fn wihupya_promote(
 // The counts of the area.
 #[no_mangle]
 pub extern "C" fn wihupya_result(
-    job: &[u32; 10],
-    counts: &mut [u32; 9],
+    job: &[u32; 12],
+    counts: &mut [u32; 11],
     cells: &[u32],
     store: &[i32],
 ) -> u32
@@ -330,7 +337,7 @@ pub extern "C" fn wihupya_result(
 // a NaN that was lent has bits of its own, which a refusal leaves.
 #[no_mangle]
 pub extern "C" fn wihupya_doubles(
-    job: &[u32; 10],
+    job: &[u32; 12],
     report: &mut [u64; 3],
     cells: &[u32],
     store: &[i32],
@@ -350,7 +357,7 @@ pub extern "C" fn wihupya_doubles(
 // The scaled mean worked out from the readings.
 #[no_mangle]
 pub extern "C" fn wihupya_cross_total(
-    job: &[u32; 10],
+    job: &[u32; 12],
     total: &mut [u32; 2],
     cells: &[u32],
     store: &[i32],

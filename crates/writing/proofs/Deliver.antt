@@ -10,7 +10,7 @@ use lib.Seq.{sets}
 use Rattle.area.specs.declared.IndexRecord.{IndexRecord}
 use Rattle.area.specs.declared.Settings.{Settings}
 use Rattle.area.specs.Settings.{readingCount}
-use Rattle.area.specs.Entry.{Entry, reservedBy, pendingOf}
+use Rattle.area.specs.Entry.{Entry, reservedBy, pendingOf, carriedOf}
 use Rattle.area.specs.Encoding.{Area, heldOf, entriesOf, machineOf, recordsFor, storeFor, storeWith}
 use Rattle.quadrature.specs.Readings.{recordAt}
 use Rattle.encoding.specs.Entries.{entryAt}
@@ -18,6 +18,7 @@ use Rattle.encoding.proofs.Places.{levels-at, entries-length}
 use Rattle.encoding.proofs.Facts.{range-facts}
 use Rattle.machine.specs.Log.{firstWanted, wantedIndex}
 use Rattle.machine.specs.Steps.{delivered, deliverAt}
+use Rattle.machine.proofs.CarriedError.{carried-steps}
 use Rattle.writing.specs.Changes.{withState}
 use Rattle.writing.specs.ValidArea.{ValidArea}
 use Rattle.writing.proofs.Entries.{reserved-set}
@@ -59,6 +60,9 @@ module _ (a : Area) (r : ValidArea a) where
     pub delivered-pending : pendingOf next ≡ a .job .pending + i
     unfolding machineOf
     delivered-pending = deliver-pending (machineOf a) (clauses a r) some rs i ∙ ap (λ n. n + i) (sym (r .sound .numbers .pending))
+
+    pub delivered-carried : carriedOf (g .axes) next ≡ a .job .carried
+    delivered-carried = carried-steps .deliver (g .axes) es rs i some ∙ sym (r .sound .numbers .carried)
 
     -- the block begins where the stored readings end
     pub first-is : recordAt all w .first ≡ length (storeFor es)

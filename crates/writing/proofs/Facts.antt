@@ -3,8 +3,8 @@ use Rattle.area.specs.Encoding.{machineOf, runWith, jobWith, written}
 use Rattle.machine.specs.Steps.{started, deliver}
 use Rattle.writing.specs.Facts.{WriteFacts}
 use Rattle.writing.proofs.Start.{root-job, root-run, root-store}
-use Rattle.writing.proofs.Deliver.{delivered-held, delivered-records, delivered-reserved, delivered-pending, delivered-store}
-use Rattle.writing.proofs.Refine.{refined-held, refined-records, refined-reserved, refined-pending, refined-store}
+use Rattle.writing.proofs.Deliver.{delivered-held, delivered-records, delivered-reserved, delivered-pending, delivered-carried, delivered-store}
+use Rattle.writing.proofs.Refine.{refined-held, refined-records, refined-reserved, refined-pending, refined-carried, refined-store}
 
 pub write-facts : WriteFacts
 unfolding written machineOf started deliver jobWith runWith
@@ -21,6 +21,7 @@ write-facts =
           held = delivered-held a r rs i some right j;
           reserved = delivered-reserved a r rs i some right j;
           pending = delivered-pending a r rs i some right j;
+          carried = delivered-carried a r rs i some right j;
           mean = deliver (machineOf a) rs i .mean;
         };
         run = record { records = delivered-records a r rs i some right j; rest = a .run .rest };
@@ -32,6 +33,7 @@ write-facts =
           held = refined-held a r p h active j;
           reserved = refined-reserved a r p h active j;
           pending = refined-pending a r p h active j;
+          carried = refined-carried a r p h active j;
           mean = a .job .mean;
         };
         run = record { records = refined-records a r p h active fit j; rest = a .run .rest };

@@ -1,9 +1,9 @@
 -- Refining an active place changes its state, appends the admitted and adds their counts.
 -- The idea: the entries are the former ones with one made old, and wanted ones after them. The former keep their readings and the wanted
--- have none, so the store stays; the pending error loses the indicator of that one.
+-- have none, so the store stays; the pending error loses the indicator of that one, and at a ceiling the carried error gains it.
 -- Assumes nothing.
 use mathlib.Core.Path.{_≡_, refl, sym, ap, ap₂, _∙_}
-use mathlib.Core.Bool.{true}
+use mathlib.Core.Bool.{true, cond}
 use mathlib.Core.List.{List, _++_}
 use Prim.Native.Nat.{ℕ, _+_, _-_, _<_, _≤_}
 use native.Mathlib.Omega.{arith}
@@ -11,10 +11,10 @@ use borrow.Author.Tests.{leb-true}
 use lib.Dec.{leb}
 use lib.ListN.{length, set, drop, length-set, length-append, length-drop, length-map}
 use lib.Seq.{drop-drop}
-use Rattle.grid.specs.Index.{forward}
+use Rattle.grid.specs.Index.{forward, atCeiling}
 use Rattle.grid.proofs.Levels.{and-left}
 use Rattle.area.specs.declared.IndexRecord.{IndexRecord}
-use Rattle.area.specs.Entry.{Entry, reservedBy, pendingOf}
+use Rattle.area.specs.Entry.{Entry, reservedBy, pendingOf, carriedOf}
 use Rattle.area.specs.declared.Settings.{Settings}
 use Rattle.area.specs.Settings.{readingsFor}
 use Rattle.area.specs.Encoding.{Area, entriesOf, machineOf, recordsFor, storeWith}
@@ -23,6 +23,7 @@ use Rattle.soundness.specs.Held.{levelsAt, stateAt}
 use Rattle.encoding.specs.Entries.{entryAt}
 use Rattle.machine.specs.Log.{wanted}
 use Rattle.machine.specs.Promote.{madeOld, makeOld, admittedAxes, refine, fits}
+use Rattle.machine.proofs.CarriedError.{carried-steps}
 use Rattle.writing.specs.Changes.{withState, appendedAll, sizesOf}
 use Rattle.writing.specs.ValidArea.{ValidArea}
 use Rattle.writing.proofs.Entries.{ahead, reserved-set, pending-set, store-set, reserved-ahead, pending-ahead, store-ahead, pendingAt}
@@ -97,6 +98,13 @@ module _ (a : Area) (r : ValidArea a) where
 
     pub refined-pending : pendingOf refined ≡ a .job .pending - recordAt all p .indicator
     refined-pending = omega (arith, left-pending)
+
+    -- and joins the carried error if its index is at a ceiling
+    pub refined-carried : carriedOf d refined ≡ a .job .carried + cond (atCeiling d (levelsAt all p)) (recordAt all p .indicator) 0
+    refined-carried =
+        carried-steps .refine d es p inside (state-is a r p inside ∙ active)
+        ∙ ap₂ (λ n x. n + x) (sym (r .sound .numbers .carried))
+        (ap₂ (λ y i. cond (atCeiling d y) i 0) (levels-is a r p inside) (indicator-is a r p inside))
 
     pub indicator-within : recordAt all p .indicator ≤ a .job .pending
     indicator-within = omega (arith, left-pending)

@@ -13,7 +13,7 @@ use Rattle.grid.specs.Block.{blockSize}
 use Rattle.grid.specs.Coefficient.{sameLevels}
 use Rattle.area.specs.declared.IndexRecord.{IndexRecord}
 use Rattle.area.specs.declared.Settings.{Settings}
-use Rattle.area.specs.Entry.{indicesOf, reservedBy, pendingOf}
+use Rattle.area.specs.Entry.{indicesOf, reservedBy, pendingOf, carriedOf}
 use Rattle.area.specs.Encoding.{placeFrom, placeOf, linksOf, encoded, encodedFrom, recordsFor, storeFor, storeWith, jobWith}
 use Rattle.machine.specs.Log.{wanted}
 use Rattle.machine.specs.Steps.{started}
@@ -23,8 +23,8 @@ root-records : (g : Settings) → recordsFor g (wanted root ∷ []) ≡ rootReco
 unfolding recordsFor indicesOf encodedFrom encoded linksOf tabulate placeOf placeFrom sameLevels forward backward root wanted rootRecord admittedRecord
 root-records g = refl
 
-pub root-job : (g : Settings) → jobWith (started g) ≡ record { settings = g; held = 1; reserved = 1; pending = 0; mean = pos 0 }
-unfolding started jobWith reservedBy pendingOf blockSize newCount root wanted
+pub root-job : (g : Settings) → jobWith (started g) ≡ record { settings = g; held = 1; reserved = 1; pending = 0; carried = 0; mean = pos 0 }
+unfolding started jobWith reservedBy pendingOf carriedOf blockSize newCount root wanted
 root-job g = refl
 
 pub root-run : (g : Settings) (rs : List IndexRecord) → 1 ≤ length rs → recordsFor g (wanted root ∷ []) ++ drop 1 rs ≡ set rs 0 rootRecord

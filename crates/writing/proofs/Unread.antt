@@ -19,7 +19,8 @@ use Rattle.area.specs.Encoding.{areaOf, entryOf, entriesOf}
 use Rattle.soundness.specs.Test.{allFrom}
 use Rattle.encoding.specs.Entries.{noEntry, entryAt}
 use Rattle.machine.specs.Log.{firstWanted}
-use Rattle.machine.specs.Promote.{largest, firstActive, selected, madeOld, makeOld, isOld, backwardOld, admits, passing, admittedAxes}
+use Rattle.machine.specs.Choose.{largest, firstActive, selected}
+use Rattle.machine.specs.Promote.{madeOld, makeOld, isOld, backwardOld, admits, passing, admittedAxes}
 use Rattle.machine.specs.Counts.{countOf, ceilingCount}
 use Rattle.writing.specs.Heads.{headOf, headsOf}
 

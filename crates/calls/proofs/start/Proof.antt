@@ -35,7 +35,7 @@ module _ (j : JobRecord) (cells : List ℕ) (store : List ℤ) (g : Settings) (n
 
 -- the job record and the cells that are left hold the area that was to be written
 area-is : (j k : JobRecord) (cells after : List ℕ) (store : List ℤ) (g : Settings) → 512 ≤ length cells / 27
-    → k ≡ record { settings = g; held = 1; reserved = 1; pending = 0; mean = pos 0 } → runOf after ≡ stored (runOf cells) 0 rootRecord
+    → k ≡ record { settings = g; held = 1; reserved = 1; pending = 0; carried = 0; mean = pos 0 } → runOf after ≡ stored (runOf cells) 0 rootRecord
     → areaOf k after store ≡ startOn (areaOf j cells store) g
 unfolding startOn
 area-is j k cells after store g h e f =

@@ -43,8 +43,8 @@ returns c =
     let active = c .before .before .before .state-count2 .ensures ∙ counted j cells store (s .pre) 1 in
     let wanted = c .before .before .state-count3 .ensures ∙ counted j cells store (s .pre) 0 in
     let ceiling = c .before .ceiling-count .ensures ∙ capped j cells store (s .pre) (j .settings .axes) in
-    let mean = back (j .mean) (sfits-of (c .struct-told .given .1 .1 .1 .1 .0 .1)) in
-    λ i. record { old = old i; active = active i; wanted = wanted i; reserved = s .pre .sound .numbers .reserved i; pending = s .pre .sound .numbers .pending i; mean = mean i; ceiling = ceiling i }
+    let mean = back (j .mean) (sfits-of (c .struct-told .given .1 .1 .1 .1 .1 .0 .1)) in
+    λ i. record { old = old i; active = active i; wanted = wanted i; reserved = s .pre .sound .numbers .reserved i; pending = s .pre .sound .numbers .pending i; carried = s .pre .sound .numbers .carried i; mean = mean i; ceiling = ceiling i }
 
 pub result-spec : {M : Type 1} → statement M
 result-spec =

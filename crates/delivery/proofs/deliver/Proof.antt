@@ -64,7 +64,7 @@ module _ (j : JobRecord) (c : List ℕ) (s rs : List ℤ) (i place : ℕ) (valid
         ∙ difference-is j c s rs i valid wanted-first whole range c₁ s₁ run-first store-first
 
     abbrev JobAfter : ℤ → JobRecord
-    JobAfter m = record { settings = j .settings; held = j .held; reserved = j .reserved; pending = j .pending + i; mean = m }
+    JobAfter m = record { settings = j .settings; held = j .held; reserved = j .reserved; pending = j .pending + i; carried = j .carried; mean = m }
 
     area-and-valid : (m : ℤ) → m ≡ j .mean +ℤ scaledDifference (wantedIndex (entriesOf (areaOf j c s))) (readingIn (deliverAt (entriesOf (areaOf j c s)) (firstWanted (entriesOf (areaOf j c s))) rs i))
         → (areaOf (JobAfter m) c₁ s₁ ≡ deliverOn (areaOf j c s) rs i) × ValidArea (areaOf (JobAfter m) c₁ s₁)
@@ -115,7 +115,7 @@ add-after-2 c =
     let s = c .before .before .before .before .before .before .before .before .before .before .before .before .before .before .before .before .before .before .before in
     let x = c .before .before .before .scaled-difference .result in
     let m = s .args .job .mean in
-    sum-fits m x (m +ℤ x) (sfits-of (c .struct-told .given .1 .1 .1 .1 .0 .1)) (sfits-of (c .before .before .before .scaled-difference .ok)) refl
+    sum-fits m x (m +ℤ x) (sfits-of (c .struct-told .given .1 .1 .1 .1 .1 .0 .1)) (sfits-of (c .before .before .before .scaled-difference .ok)) refl
     (mean-small (s .args .job) (now (s .args .cells)) (now (s .args .store)) (now (s .args .readings)) (s .args .indicator) (s .args .place) (s .pre .0 .0) (s .pre .0 .1) (s .pre .0 .2) (s .pre .1 .0) (s .pre .1 .1) (c .before .before .before .before .before .before .before .before .before .before .set-state .last .1 .1 .1 .0) (c .before .before .before .before .before .before .before .before .before .before .before .before .before .put-readings .last .1 .1 .0) (c .before .before .before .before .before .before .before .before .before .before .before .before .before .before .before .first-at .result) (c .before .before .before .before .before .before .before .before .before .before .before .before .before .before .before .first-at .ensures) (c .before .before .before .before .before .before .before .before .before .before .set-state .ensures) (c .before .before .before .before .before .before .before .before .before .before .before .before .before .put-readings .ensures) x (c .before .before .before .scaled-difference .ensures .1))
 
 same-length : tie.Need-same-length
@@ -130,7 +130,7 @@ returns c =
     let x = c .before .before .before .scaled-difference .result in
     let m = s .args .job .mean in
     let sum =
-    sum-is m x (m +ℤ x) (sfits-of (c .struct-told .given .1 .1 .1 .1 .0 .1)) (sfits-of (c .before .before .before .scaled-difference .ok)) refl
+    sum-is m x (m +ℤ x) (sfits-of (c .struct-told .given .1 .1 .1 .1 .1 .0 .1)) (sfits-of (c .before .before .before .scaled-difference .ok)) refl
     (mean-small (s .args .job) (now (s .args .cells)) (now (s .args .store)) (now (s .args .readings)) (s .args .indicator) (s .args .place) (s .pre .0 .0) (s .pre .0 .1) (s .pre .0 .2) (s .pre .1 .0) (s .pre .1 .1) (c .before .before .before .before .before .before .before .before .before .before .set-state .last .1 .1 .1 .0) (c .before .before .before .before .before .before .before .before .before .before .before .before .before .put-readings .last .1 .1 .0) (c .before .before .before .before .before .before .before .before .before .before .before .before .before .before .before .first-at .result) (c .before .before .before .before .before .before .before .before .before .before .before .before .before .before .before .first-at .ensures) (c .before .before .before .before .before .before .before .before .before .before .set-state .ensures) (c .before .before .before .before .before .before .before .before .before .before .before .before .before .put-readings .ensures) x (c .before .before .before .scaled-difference .ensures .1)) in
     let difference = difference-at (s .args .job) (now (s .args .cells)) (now (s .args .store)) (now (s .args .readings)) (s .args .indicator) (s .args .place) (s .pre .0 .0) (s .pre .0 .1) (s .pre .0 .2) (s .pre .1 .0) (s .pre .1 .1) (c .before .before .before .before .before .before .before .before .before .before .set-state .last .1 .1 .1 .0) (c .before .before .before .before .before .before .before .before .before .before .before .before .before .put-readings .last .1 .1 .0) (c .before .before .before .before .before .before .before .before .before .before .before .before .before .before .before .first-at .result) (c .before .before .before .before .before .before .before .before .before .before .before .before .before .before .before .first-at .ensures) (c .before .before .before .before .before .before .before .before .before .before .set-state .ensures) (c .before .before .before .before .before .before .before .before .before .before .before .before .before .put-readings .ensures) (c .before .before .before .before .before .before .levels-at .result) x (c .before .before .before .before .before .before .levels-at .ensures) (c .before .before .before .scaled-difference .ensures .0) in
     area-and-valid (s .args .job) (now (s .args .cells)) (now (s .args .store)) (now (s .args .readings)) (s .args .indicator) (s .args .place) (s .pre .0 .0) (s .pre .0 .1) (s .pre .0 .2) (s .pre .1 .0) (s .pre .1 .1) (c .before .before .before .before .before .before .before .before .before .before .set-state .last .1 .1 .1 .0) (c .before .before .before .before .before .before .before .before .before .before .before .before .before .put-readings .last .1 .1 .0) (c .before .before .before .before .before .before .before .before .before .before .before .before .before .before .before .first-at .result) (c .before .before .before .before .before .before .before .before .before .before .before .before .before .before .before .first-at .ensures) (c .before .before .before .before .before .before .before .before .before .before .set-state .ensures) (c .before .before .before .before .before .before .before .before .before .before .before .before .before .put-readings .ensures) (toZ w64 (ofZ w64 (toZ w64 (ofZ w64 m) +ℤ toZ w64 (ofZ w64 x)))) (sum ∙ ap (λ d. m +ℤ d) difference)

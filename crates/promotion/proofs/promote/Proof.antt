@@ -1,16 +1,22 @@
--- `promotion::promote` meets its contract: the recorded pending error decides whether it is met, and else the selected place is an active one to refine. Assumes nothing.
+-- `promotion::promote` meets its contract: the recorded errors decide whether it is met or capped, and else the selected place is an active one to refine. Assumes nothing.
 use borrow.Author.Needs.{needs}
 use mathlib.Core.Path.{_∙_}
+use native.Mathlib.Omega.{arith}
 use denote.Ref.{now}
 use Rattle.promotion.proofs.Refining.{room}
-use Rattle.promotion.proofs.Promoting.{met-is, selected-is, selected-active}
+use Rattle.promotion.proofs.Promoting.{errors-fit, ended-is, selected-is, selected-active}
 use Rattle.promotion.proofs.promote.Statement.{statement}
 use Rattle.promotion.proofs.promote.Tie as tie
 
+ending-requires : tie.Need-ending-requires
+ending-requires c κs =
+    let s = c .before .before .before in
+    errors-fit (s .args .job) (now (s .args .cells)) (now (s .args .store)) (s .pre .0) (λ n. omega (arith, c .before .before .slice-known .given n))
+
 returns : tie.Need-returns
 returns c =
-    let s = c .before .before .before in
-    (met-is (s .args .job) (now (s .args .cells)) (now (s .args .store)) (s .pre .0) (c .if1 .taken), s .pre .0)
+    let s = c .before .before .before .before in
+    (ended-is (s .args .job) (now (s .args .cells)) (now (s .args .store)) (s .pre .0) (c .before .if1 .taken) (c .ending .result) (c .ending .ensures), s .pre .0)
 
 cast-held : tie.Need-cast-held
 cast-held c = search needs
@@ -38,4 +44,4 @@ returns-2 c =
 
 pub promote-spec : {M : Type 1} → statement M
 promote-spec =
-    tie.close (tie.spec returns cast-held select-requires refine-requires same-length returns-2)
+    tie.close (tie.spec ending-requires returns cast-held select-requires refine-requires same-length returns-2)

@@ -3,7 +3,7 @@ use borrow.Author.Needs.{needs}
 use native.Mathlib.Omega.{arith}
 use denote.Ref.{now}
 use lib.ListN.{length}
-use Rattle.promotion.proofs.Refining.{refinable, place-inside, scan-asks, indicator-pending, Scanned, marks-ask, Counted, too-many, too-large, append-asks, Changed, promoted-is, promoted-valid}
+use Rattle.promotion.proofs.Refining.{refinable, place-inside, scan-asks, indicator-pending, carried-asks, Scanned, marks-ask, Counted, too-many, too-large, append-asks, Changed, promoted-is, promoted-valid}
 use Rattle.promotion.proofs.refine.Statement.{statement}
 use Rattle.promotion.proofs.refine.Tie as tie
 
@@ -126,26 +126,32 @@ sub-after c =
     let i = c .before .before .before .before .before .before .before .before .before .before .indicator-at in
     indicator-pending (refinable (s .args .job) (now (s .args .cells)) (now (s .args .store)) (s .args .place) (s .pre .0) (s .pre .1)) (i .result) (i .ensures)
 
+carried-after-requires : tie.Need-carried-after-requires
+carried-after-requires c κs =
+    let s = c .before .before .before .before .before .before .before .before .before .before .before .before .before .before .before .before .before .before .before .before .before .before .before .before .before .before in
+    let l = c .before .before .before .before .before .before .before .before .before .before .before .before .before .before .before .before .before .before .levels-at in
+    carried-asks (refinable (s .args .job) (now (s .args .cells)) (now (s .args .store)) (s .args .place) (s .pre .0) (s .pre .1)) (l .ensures) (λ n. omega (arith, c .before .before .before .before .before .before .before .before .before .before .before .before .before .before .before .before .before .before .before .before .before .before .before .before .before .slice-known .given n))
+
 same-length-3 : tie.Need-same-length-3
 same-length-3 c = search needs
 
 returns-3 : tie.Need-returns-3
 returns-3 c =
-    let s = c .before .before .before .before .before .before .before .before .before .before .before .before .before .before .before .before .before .before .before .before .before .before .before .before .before .before in
+    let s = c .before .before .before .before .before .before .before .before .before .before .before .before .before .before .before .before .before .before .before .before .before .before .before .before .before .before .before in
     let t = refinable (s .args .job) (now (s .args .cells)) (now (s .args .store)) (s .args .place) (s .pre .0) (s .pre .1) in
-    let l = c .before .before .before .before .before .before .before .before .before .before .before .before .before .before .before .before .before .before .levels-at in
-    let m = c .before .before .before .before .before .before .before .before .before .before .before .before .before .before .before .before .admitted in
+    let l = c .before .before .before .before .before .before .before .before .before .before .before .before .before .before .before .before .before .before .before .levels-at in
+    let m = c .before .before .before .before .before .before .before .before .before .before .before .before .before .before .before .before .before .admitted in
     let u : Scanned (s .args .job) (now (s .args .cells)) (s .args .place) (l .result) (m .result) = record { levels-are = l .ensures; marks-are = m .ensures } in
-    let n = c .before .before .before .before .before .before .before .before .before .before .before .before .before .before .before .marked-count in
-    let z = c .before .before .before .before .before .before .before .before .before .before .before .before .before .before .marked-sizes in
+    let n = c .before .before .before .before .before .before .before .before .before .before .before .before .before .before .before .before .marked-count in
+    let z = c .before .before .before .before .before .before .before .before .before .before .before .before .before .before .before .marked-sizes in
     let v : Counted (s .args .job) (l .result) (m .result) (n .result) (z .result) = record { count-is = n .ensures .0; sizes-are = z .ensures .0 } in
-    let few = c .before .before .before .before .before .before .before .before .before .before .before .before .before .if1 .left in
-    let within = c .before .before .before .before .before .before .before .before .before .before .before .before .if2 .left in
-    let i = c .before .before .before .before .before .before .before .before .before .before .indicator-at in
-    let e = c .before .before .before .before .before .before .before .before .set-state in
-    let f = c .before .before .before .append-marked in
-    let w : Changed (s .args .job) (now (s .args .cells)) (s .args .place) (l .result) (m .result) (i .result) (c .before .before .before .before .before .readings-for .result) (e .last .1 .1 .1 .0) (f .last .1 .1 .1 .1 .1 .1 .0) =
-    record { first-is = c .before .before .before .before .before .readings-for .ensures; indicator-is = i .ensures; withState-is = e .ensures; appended-is = f .ensures } in
+    let few = c .before .before .before .before .before .before .before .before .before .before .before .before .before .before .if1 .left in
+    let within = c .before .before .before .before .before .before .before .before .before .before .before .before .before .if2 .left in
+    let i = c .before .before .before .before .before .before .before .before .before .before .before .indicator-at in
+    let e = c .before .before .before .before .before .before .before .before .before .set-state in
+    let f = c .before .before .before .before .append-marked in
+    let w : Changed (s .args .job) (now (s .args .cells)) (s .args .place) (l .result) (m .result) (i .result) (c .before .before .before .before .before .before .readings-for .result) (c .carried-after .result) (e .last .1 .1 .1 .0) (f .last .1 .1 .1 .1 .1 .1 .0) =
+    record { first-is = c .before .before .before .before .before .before .readings-for .ensures; indicator-is = i .ensures; carried-is = c .carried-after .ensures; withState-is = e .ensures; appended-is = f .ensures } in
     (promoted-is t u v few within w, promoted-valid t u v few within w)
 
 pub refine-spec : {M : Type 1} → statement M
@@ -176,5 +182,6 @@ refine-spec =
     cast-after-2
     cast-after-3
     sub-after
+    carried-after-requires
     same-length-3
     returns-3)

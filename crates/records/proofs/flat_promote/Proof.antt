@@ -9,9 +9,8 @@ use Rattle.area.specs.Records.{Run}
 use Rattle.calls.specs.Replies.{replyOf}
 use Rattle.calls.specs.Table as table
 use Rattle.calls.specs.Calls.{callOn}
-use Rattle.calls.proofs.Facts.{call-facts}
 use Rattle.records.proofs.Cuts.{room-for, cut-count, cut-run, cut-after, cut-whole, front-length}
-use Rattle.records.proofs.Stored.{stores}
+use Rattle.records.proofs.Stored.{promote-idle, stores}
 use Rattle.records.specs.Lent.{areaOn, front}
 use Rattle.records.proofs.Words.{words-count}
 use Rattle.records.proofs.flat_promote.Statement.{statement}
@@ -49,7 +48,7 @@ returns c =
     let same = c .before .before .promote .kept .1 .0 in
     stores (areaOn (s .args .job) (front n (flat .words)) (now (s .args .store))) table.promote r (now (s .args .store)) (after ++ drop (n * 27) (flat .words)) n (c .to-store .result)
     (front-length n (flat .words) (s .pre) count) (front-length n (after ++ drop (n * 27) (flat .words)) (s .pre) (cut-whole n (flat .words) (s .pre) count after same))
-    (call-facts .promote-unchanged (areaOn (s .args .job) (front n (flat .words)) (now (s .args .store)))) (c .to-store .ensures)
+    (promote-idle (areaOn (s .args .job) (front n (flat .words)) (now (s .args .store)))) (c .to-store .ensures)
     (ap (λ (u : Run). record { answer = table.answer (replyOf (r .answer)); area = record { job = r .job; run = u; store = now (s .args .store) } }) (cut-after n (flat .words) (s .pre) count after same)
     ∙ c .before .before .promote .ensures
     ∙ ap (λ (u : Run). callOn (record { job = s .args .job; run = u; store = now (s .args .store) }) table.promote) (cut-run n (flat .words) (s .pre) count))

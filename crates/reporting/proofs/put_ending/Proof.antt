@@ -32,6 +32,15 @@ slice-aggregate-put-last-3 c = search needs
 put-last-requires-3 : tie.Need-put-last-requires-3
 put-last-requires-3 c κs = search needs
 
+enum-told-4 : tie.Need-enum-told-4
+enum-told-4 c = search needs
+
+slice-aggregate-put-last-4 : tie.Need-slice-aggregate-put-last-4
+slice-aggregate-put-last-4 c = search needs
+
+put-last-requires-4 : tie.Need-put-last-requires-4
+put-last-requires-4 c κs = search needs
+
 same-length : tie.Need-same-length
 same-length c = search needs
 
@@ -53,6 +62,13 @@ returns-3 : tie.Need-returns-3
 unfolding endingIn endingWord
 returns-3 c = rw (c .before .before .before .before .before .enum-told3 .given .1) (c .before .before .put-last3 .ensures)
 
+same-length-4 : tie.Need-same-length-4
+same-length-4 c = search needs
+
+returns-4 : tie.Need-returns-4
+unfolding endingIn endingWord
+returns-4 c = rw (c .before .before .before .before .before .enum-told4 .given .1) (c .before .before .put-last4 .ensures)
+
 pub put-ending-spec : {M : Type 1} → statement M
 put-ending-spec =
     tie.close
@@ -66,9 +82,14 @@ put-ending-spec =
     enum-told-3
     slice-aggregate-put-last-3
     put-last-requires-3
+    enum-told-4
+    slice-aggregate-put-last-4
+    put-last-requires-4
     same-length
     returns
     same-length-2
     returns-2
     same-length-3
-    returns-3)
+    returns-3
+    same-length-4
+    returns-4)

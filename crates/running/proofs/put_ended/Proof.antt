@@ -28,7 +28,7 @@ unfolding machineOf
 returns c =
     let s = c .before .before .before .before .before .before .before .before in
     subst (λ f. Printed (reportText f) (now (s .args .report)) (c .before .before .put-report .last .1 .0) (c .before .before .put-report .result))
-    (report-values-are (machineOf (areaOf (s .args .job) (now (s .args .cells)) (now (s .args .store)))) (s .args .ending) (s .args .unused) (c .before .before .before .before .before .result .result) _ (back (c .before .before .before .before .before .result .result .mean) (sfits-of (c .before .before .before .before .struct-told .given .1 .1 .1 .1 .1 .0 .1))) (c .before .before .before .before .before .result .ensures))
+    (report-values-are (machineOf (areaOf (s .args .job) (now (s .args .cells)) (now (s .args .store)))) (s .args .ending) (s .args .unused) (c .before .before .before .before .before .result .result) _ (back (c .before .before .before .before .before .result .result .mean) (sfits-of (c .before .before .before .before .struct-told .given .1 .1 .1 .1 .1 .1 .0 .1))) (c .before .before .before .before .before .result .ensures))
     (record { bytes = c .before .before .put-report .ensures .0; count = c .before .before .put-report .ensures .1 })
 
 pub put-ended-spec : {M : Type 1} → statement M

@@ -1,4 +1,4 @@
--- `wihupya::count_words` meets its contract: the nine words one after the other. Assumes nothing.
+-- `wihupya::count_words` meets its contract: the eleven words one after the other. Assumes nothing.
 use mathlib.Core.Path.{ap, _∙_}
 use mathlib.Core.List.{[], _∷_}
 use Prim.Native.Nat.{_-_}
@@ -54,13 +54,25 @@ array-write-words-8 c = search needs
 array-write-words-9 : tie.Need-array-write-words-9
 array-write-words-9 c = search needs
 
+low-word-requires-3 : tie.Need-low-word-requires-3
+low-word-requires-3 c κs = search needs
+
+array-write-words-10 : tie.Need-array-write-words-10
+array-write-words-10 c = search needs
+
+high-word-requires-3 : tie.Need-high-word-requires-3
+high-word-requires-3 c κs = search needs
+
+array-write-words-11 : tie.Need-array-write-words-11
+array-write-words-11 c = search needs
+
 returns : tie.Need-returns
 unfolding countsAfter countsIn
 returns c =
-    let s = c .before .before .before .before .before .before in
+    let s = c .before .before .before .before .before .before .before .before in
     let n = s .args .counts in
-    let mean = c .before .before .before .before .bits-of .ensures ∙ ap (ofZ w64) (back (n .mean) (sfits-of (c .before .before .before .before .before .struct-told .given .1 .1 .1 .1 .1 .0 .1))) in
-    λ i. c .before .before .before .low-word .ensures i ∷ c .before .before .high-word .ensures i ∷ (c .before .low-word2 .ensures ∙ ap lowWord mean) i ∷ (c .high-word2 .ensures ∙ ap highWord mean) i ∷ n .old ∷ n .active ∷ n .wanted ∷ n .reserved ∷ n .ceiling ∷ []
+    let mean = c .before .before .before .before .before .before .bits-of .ensures ∙ ap (ofZ w64) (back (n .mean) (sfits-of (c .before .before .before .before .before .before .before .struct-told .given .1 .1 .1 .1 .1 .1 .0 .1))) in
+    λ i. c .before .before .before .before .before .low-word .ensures i ∷ c .before .before .before .before .high-word .ensures i ∷ (c .before .before .before .low-word2 .ensures ∙ ap lowWord mean) i ∷ (c .before .before .high-word2 .ensures ∙ ap highWord mean) i ∷ n .old ∷ n .active ∷ n .wanted ∷ n .reserved ∷ n .ceiling ∷ c .before .low-word3 .ensures i ∷ c .high-word3 .ensures i ∷ []
 
 pub count-words-spec : {M : Type 1} → statement M
 count-words-spec =
@@ -80,4 +92,8 @@ count-words-spec =
     array-write-words-7
     array-write-words-8
     array-write-words-9
+    low-word-requires-3
+    array-write-words-10
+    high-word-requires-3
+    array-write-words-11
     returns)

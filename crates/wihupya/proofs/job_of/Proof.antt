@@ -48,15 +48,24 @@ element-copy-out-wide-6 c = search needs
 wide-requires-3 : tie.Need-wide-requires-3
 wide-requires-3 c κs = search needs
 
+element-copy-out-wide-7 : tie.Need-element-copy-out-wide-7
+element-copy-out-wide-7 c = search needs
+
+element-copy-out-wide-8 : tie.Need-element-copy-out-wide-8
+element-copy-out-wide-8 c = search needs
+
+wide-requires-4 : tie.Need-wide-requires-4
+wide-requires-4 c κs = search needs
+
 signed-requires : tie.Need-signed-requires
 signed-requires c κs = search needs
 
 returns : tie.Need-returns
 unfolding jobOf
 returns c =
-    let w = now (c .before .before .before .before .before .before .before .before .before .before .before .before .before .before .args .words) in
-    let mean = back (c .signed .result) (sfits-of (c .signed .ok)) ∙ c .signed .ensures ∙ ap (toZ w64) (c .before .wide3 .ensures) in
-    rw (c .before .before .before .before .before .before .before .before .before .before .wide .ensures, c .before .before .before .before .wide2 .ensures, mean)
+    let w = now (c .before .before .before .before .before .before .before .before .before .before .before .before .before .before .before .before .before .args .words) in
+    let mean = back (c .signed .result) (sfits-of (c .signed .ok)) ∙ c .signed .ensures ∙ ap (toZ w64) (c .before .wide4 .ensures) in
+    rw (c .before .before .before .before .before .before .before .before .before .before .before .before .before .wide .ensures, c .before .before .before .before .before .before .before .wide2 .ensures, c .before .before .before .before .wide3 .ensures, mean)
 
 pub job-of-spec : {M : Type 1} → statement M
 job-of-spec =
@@ -75,5 +84,8 @@ job-of-spec =
     element-copy-out-wide-5
     element-copy-out-wide-6
     wide-requires-3
+    element-copy-out-wide-7
+    element-copy-out-wide-8
+    wide-requires-4
     signed-requires
     returns)

@@ -1,4 +1,4 @@
--- `wihupya::words_of` meets its contract: the ten words one after the other. Assumes nothing.
+-- `wihupya::words_of` meets its contract: the twelve words one after the other. Assumes nothing.
 use mathlib.Core.Path.{ap, _∙_}
 use mathlib.Core.List.{[], _∷_}
 use Prim.Native.Nat.{_-_}
@@ -61,13 +61,25 @@ array-write-words-9 c = search needs
 array-write-words-10 : tie.Need-array-write-words-10
 array-write-words-10 c = search needs
 
+low-word-requires-4 : tie.Need-low-word-requires-4
+low-word-requires-4 c κs = search needs
+
+array-write-words-11 : tie.Need-array-write-words-11
+array-write-words-11 c = search needs
+
+high-word-requires-4 : tie.Need-high-word-requires-4
+high-word-requires-4 c κs = search needs
+
+array-write-words-12 : tie.Need-array-write-words-12
+array-write-words-12 c = search needs
+
 returns : tie.Need-returns
 unfolding wordsOf
 returns c =
-    let s = c .before .before .before .before .before .before .before .before in
+    let s = c .before .before .before .before .before .before .before .before .before .before in
     let j = s .args .job in
-    let mean = c .before .before .before .before .before .before .bits-of .ensures ∙ ap (ofZ w64) (back (j .mean) (sfits-of (c .before .before .before .before .before .before .before .struct-told .given .1 .1 .1 .1 .0 .1))) in
-    λ i. c .before .before .before .before .before .low-word .ensures i ∷ c .before .before .before .before .high-word .ensures i ∷ c .before .before .before .low-word2 .ensures i ∷ c .before .before .high-word2 .ensures i ∷ (c .before .low-word3 .ensures ∙ ap lowWord mean) i ∷ (c .high-word3 .ensures ∙ ap highWord mean) i ∷ j .settings .axes ∷ j .settings .budget ∷ j .held ∷ j .reserved ∷ []
+    let mean = c .before .before .before .before .before .before .before .before .bits-of .ensures ∙ ap (ofZ w64) (back (j .mean) (sfits-of (c .before .before .before .before .before .before .before .before .before .struct-told .given .1 .1 .1 .1 .1 .0 .1))) in
+    λ i. c .before .before .before .before .before .before .before .low-word .ensures i ∷ c .before .before .before .before .before .before .high-word .ensures i ∷ c .before .before .before .before .before .low-word2 .ensures i ∷ c .before .before .before .before .high-word2 .ensures i ∷ (c .before .before .before .low-word3 .ensures ∙ ap lowWord mean) i ∷ (c .before .before .high-word3 .ensures ∙ ap highWord mean) i ∷ j .settings .axes ∷ j .settings .budget ∷ j .held ∷ j .reserved ∷ c .before .low-word4 .ensures i ∷ c .high-word4 .ensures i ∷ []
 
 pub words-of-spec : {M : Type 1} → statement M
 words-of-spec =
@@ -90,4 +102,8 @@ words-of-spec =
     array-write-words-8
     array-write-words-9
     array-write-words-10
+    low-word-requires-4
+    array-write-words-11
+    high-word-requires-4
+    array-write-words-12
     returns)
