@@ -9,7 +9,7 @@
  *     wihupya_points   the points of the block that is wanted, many at once; wihupya_point gives one at a time
  *     wihupya_deliver  the readings at these points, in the same order, and an indicator of how much the block matters
  *     ...              the next block, until wihupya_points says WIHUPYA_NO_BLOCK_WANTED
- *     wihupya_promote  refines where the indicator is largest, so that new blocks are wanted; ends with met or spent
+ *     wihupya_promote  refines where the indicator is largest, so that new blocks are wanted; ends with met, capped or spent
  *     wihupya_result   the mean; wihupya_doubles gives it as a double
  *
  * WHAT YOU LEND. The library has no memory of its own. A job lives in three arrays of yours, its work area, which you hand to
@@ -34,11 +34,12 @@
  * wihupya_cross_total 3 KB, every other call less than 1 KB.
  *
  * LATER RELEASES. Words, doubles and outcomes are only ever appended, never moved. When they are, compile anew with the new header: the arrays that
- * you lend become longer. There is no version word: an area that an earlier release saved has to be started anew, and no call can tell
- * it. The order of a block's points (wihupya_point) changed once: before, every row began at its lower end. Job files from then have to be
- * written anew, though their form and the reports that they give are the same. Kept for later, and
- * none of them in use: job words 10 and 11 (carried error), 12 to 17 (means of outputs 2 to 4), 18 (outputs), 19 (edition) and 20 (weight);
- * words 9 and 10 (carried error) and 11 to 16 (further means) of result; outcomes 3 (capped) and 4 (a place was chosen).
+ * you lend become longer. There is no version word: an area that an earlier release saved has to be started anew; do not count on
+ * a call to tell it. The order of a block's points (wihupya_point) changed once: before, every row began at its lower end. Job files from then have to be
+ * written anew, though their form and the reports that they give are the same. The carried error came later: with it job records have
+ * two words more, result gives two words more, and what was met before may be capped (see wihupya_promote). Kept for later, and none of
+ * them in use: job words 12 to 17 (means of outputs 2 to 4), 18 (outputs), 19 (edition) and 20 (weight); words 11 to 16 (further means) of
+ * result; outcome 4 (a place was chosen).
  *
  * WHAT A CALL RETURNS. 0 if it did what you asked, else the number of the cause for which it refused; a refused call leaves
  * everything that you lent as it was. Only wihupya_check cannot be refused: it returns its answer.
@@ -66,12 +67,12 @@ extern "C" {
 #define WIHUPYA_SCALE 1048576           /* the scaled mean is the mean times this */
 
 /* Lengths in 32-bit words. */
-#define WIHUPYA_JOB_WORDS 10
+#define WIHUPYA_JOB_WORDS 12
 #define WIHUPYA_RECORD_CELLS 27
 #define WIHUPYA_CELLS (WIHUPYA_RECORDS * WIHUPYA_RECORD_CELLS)
 #define WIHUPYA_POINTS_WORDS 2
 #define WIHUPYA_OUTCOME_WORDS 1
-#define WIHUPYA_COUNT_WORDS 9
+#define WIHUPYA_COUNT_WORDS 11
 #define WIHUPYA_TOTAL_WORDS 2
 
 /* Length in doubles. */
@@ -92,9 +93,10 @@ extern "C" {
 #define WIHUPYA_NO_SUCH_POINT 9        /* point, points: n is not below the number of the block's points */
 
 /* Outcomes of wihupya_promote. */
-#define WIHUPYA_MET 0      /* the pending error is at most the threshold: the job is done */
+#define WIHUPYA_MET 0      /* the pending and the carried error together are at most the threshold: the job is done */
 #define WIHUPYA_SPENT 1    /* the next refinement would take more readings than the budget, or more than 512 indices */
 #define WIHUPYA_PROMOTED 2 /* refined; wihupya_points tells whether a block is wanted now */
+#define WIHUPYA_CAPPED 3   /* the pending error is at most the threshold, but not together with the carried error, which no refining takes away */
 
 /* The words of a job record. A 64-bit number takes two words, the low one first: see wihupya_unsigned_at. */
 #define WIHUPYA_JOB_THRESHOLD 0 /* 64 bits */
@@ -104,6 +106,7 @@ extern "C" {
 #define WIHUPYA_JOB_BUDGET 7
 #define WIHUPYA_JOB_HELD 8     /* the number of indices */
 #define WIHUPYA_JOB_RESERVED 9 /* the readings that their blocks take together */
+#define WIHUPYA_JOB_CARRIED 10 /* 64 bits: the carried error */
 
 /* The words that wihupya_points writes. */
 #define WIHUPYA_POINTS_WRITTEN 0  /* how many points it wrote */
@@ -117,6 +120,7 @@ extern "C" {
 #define WIHUPYA_COUNT_WANTED 6   /* indices whose block is not delivered */
 #define WIHUPYA_COUNT_RESERVED 7 /* the readings that all their blocks take together */
 #define WIHUPYA_COUNT_CEILING 8  /* how often refining would have passed level 8 or excess 12 */
+#define WIHUPYA_COUNT_CARRIED 9  /* 64 bits: the carried error, the sum of the indicators of refined indices at a ceiling */
 
 /* The doubles that wihupya_doubles writes, IEEE 754 numbers of 64 bits. */
 #define WIHUPYA_DOUBLES_MEAN 0    /* the mean, in the unit of your readings: the scaled mean divided by WIHUPYA_SCALE */
@@ -144,7 +148,7 @@ extern "C" {
  * job record and the first record.
  *
  *   axes       the number of varying dimensions, 1 to 8
- *   threshold  the pending error, in the unit of your indicators, at which the job is done; any number
+ *   threshold  the job refines while the pending error is above this, in the unit of your indicators; any number
  *   budget     the most readings that the job may ask for, 1 to 8,192
  *
  * Refused with 1, 2 or 3.
@@ -202,7 +206,12 @@ uint32_t wihupya_deliver(uint32_t job[WIHUPYA_JOB_WORDS], const int32_t *block, 
 /*
  * Promotes: if the pending error is above the threshold, refines the active index of largest indicator. Does not write the store.
  *
- *   outcome  becomes WIHUPYA_MET, WIHUPYA_SPENT (both leave the work area as it was) or WIHUPYA_PROMOTED
+ * Refining takes an index's indicator out of the pending error. Where the index is at a ceiling, that is, where along at least one axis of the
+ * job it cannot be refined without passing level 8 or excess 12, the indicator joins the carried error instead, once, since what it stood for
+ * is not looked into there. So when the pending error is at most the threshold, the job is met only if pending and carried error together
+ * are; otherwise it is capped. What is carried never keeps a job from going on.
+ *
+ *   outcome  becomes WIHUPYA_MET, WIHUPYA_CAPPED, WIHUPYA_SPENT (these leave the work area as it was) or WIHUPYA_PROMOTED
  *
  * Refused with 3, 4 or 6; outcome is then left as it was.
  */
@@ -210,9 +219,9 @@ uint32_t wihupya_promote(uint32_t job[WIHUPYA_JOB_WORDS], uint32_t outcome[WIHUP
                          const int32_t *store, size_t readings);
 
 /*
- * Gives the counts of the job, its pending error and its scaled mean as they are recorded. Can be called at any time.
+ * Gives the counts of the job, its pending and its carried error and its scaled mean as they are recorded. Can be called at any time.
  *
- *   counts  becomes the nine words WIHUPYA_COUNT_...
+ *   counts  becomes the eleven words WIHUPYA_COUNT_...
  *
  * Refused with 3 or 4; counts is then left as it was.
  */
