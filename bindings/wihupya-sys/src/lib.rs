@@ -12,18 +12,20 @@
 //!   borrow overlaps another borrow.
 
 /// The number of words of a job record.
-pub const JOB_WORDS: usize = 10;
+pub const JOB_WORDS: usize = 12;
 
 /// A job record: threshold, pending error and scaled mean, the low word of
-/// each first, then axes, budget, held and reserved.
+/// each first, then axes, budget, held and reserved, then the carried error,
+/// its low word first.
 pub type JobWords = [u32; JOB_WORDS];
 /// Points' words: how many points it wrote, and how many the block has.
 pub type PointsWords = [u32; 2];
-/// Promote's word: 0 met, 1 spent, 2 promoted.
+/// Promote's word: 0 met, 1 spent, 2 promoted, 3 capped.
 pub type OutcomeWord = [u32; 1];
 /// Result's words: pending error and scaled mean, the low word of each first,
-/// then old, active, wanted, reserved and ceiling.
-pub type CountWords = [u32; 9];
+/// then old, active, wanted, reserved and ceiling, then the carried error, its
+/// low word first.
+pub type CountWords = [u32; 11];
 /// Doubles' report: mean, pending error and largest delivered difference.
 pub type DoublesReport = [f64; 3];
 /// Cross total's words, the low word first.

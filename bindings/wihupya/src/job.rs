@@ -6,10 +6,12 @@ use wihupya_sys::JobWords;
 /// and the reading store. The default one is no job's.
 #[derive(Clone, Copy, Debug, Default, PartialEq, Eq, Hash)]
 pub struct JobRecord {
-    /// The pending error at which the job is met.
+    /// The job is met if pending and carried error together are at most this.
     pub threshold: u64,
     /// The sum of the active indices' indicators.
     pub pending_error: u64,
+    /// The sum of the indicators of old indices at a ceiling, each once.
+    pub carried_error: u64,
     /// The mean times [`SCALE`](crate::SCALE).
     pub scaled_mean: i64,
     /// The number of axes.
@@ -23,12 +25,13 @@ pub struct JobRecord {
 }
 
 impl JobRecord {
-    /// The job record that ten words are, in the order of `include/wihupya.h`.
-    /// Every ten words are one.
+    /// The job record that twelve words are, in the order of
+    /// `include/wihupya.h`. Every twelve words are one.
     pub fn from_words(words: JobWords) -> JobRecord {
         JobRecord {
             threshold: wide(words[0], words[1]),
             pending_error: wide(words[2], words[3]),
+            carried_error: wide(words[10], words[11]),
             scaled_mean: signed(words[4], words[5]),
             axes: words[6],
             budget: words[7],
@@ -37,9 +40,10 @@ impl JobRecord {
         }
     }
 
-    /// The ten words of this job record.
+    /// The twelve words of this job record.
     pub fn to_words(self) -> JobWords {
-        let [threshold, pending] = [self.threshold, self.pending_error].map(halves);
+        let [threshold, pending, carried] =
+            [self.threshold, self.pending_error, self.carried_error].map(halves);
         // The same 64 bits.
         let mean = halves(self.scaled_mean as u64);
         [
@@ -53,6 +57,8 @@ impl JobRecord {
             self.budget,
             self.held,
             self.reserved,
+            carried[0],
+            carried[1],
         ]
     }
 }

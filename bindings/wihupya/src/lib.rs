@@ -3,8 +3,8 @@
 //!
 //! The integrator decides which points to measure and averages the readings;
 //! the caller measures. While a block is wanted, the caller asks for its
-//! points and delivers their readings; else it promotes, until the job is met
-//! or spent:
+//! points and delivers their readings; else it promotes, until the job is met,
+//! capped or spent:
 //!
 //! ```
 //! use wihupya::{Integrator, Promotion, Refusal, CELLS, SCALE};
@@ -29,7 +29,7 @@
 //!         }
 //!         Err(Refusal::NoBlockWanted) => match job.promote()? {
 //!             Promotion::Promoted => {}
-//!             Promotion::Met | Promotion::Spent => break,
+//!             Promotion::Met | Promotion::Capped | Promotion::Spent => break,
 //!         },
 //!         Err(refusal) => return Err(refusal),
 //!     }
@@ -89,8 +89,12 @@ pub struct Integrator<'a> {
 /// How a promotion came out.
 #[derive(Clone, Copy, Debug, PartialEq, Eq, Hash)]
 pub enum Promotion {
-    /// The pending error is at most the threshold: the job is done.
+    /// Pending and carried error together are at most the threshold: the job is
+    /// done.
     Met,
+    /// The pending error is at most the threshold, but not together with the
+    /// carried error, which no refining takes away: it lies at the ceilings.
+    Capped,
     /// The next refinement would take more readings than the budget, or more
     /// than 512 indices.
     Spent,
@@ -103,6 +107,10 @@ pub enum Promotion {
 pub struct Counts {
     /// The sum of the active indices' indicators.
     pub pending_error: u64,
+    /// The sum of the indicators of old indices at a ceiling, each once. An
+    /// index is at a ceiling if along at least one axis of the job refining it
+    /// would pass level 8 or excess 12.
+    pub carried_error: u64,
     /// The mean times [`SCALE`].
     pub scaled_mean: i64,
     /// Indices that are refined.
@@ -164,9 +172,9 @@ impl<'a> Integrator<'a> {
     }
 
     /// Starts a job, whatever the work area held: its first block, the single
-    /// centre point, is wanted. There are 1 to 8 axes; the job is met when the
-    /// pending error is at most the threshold, and asks for no more readings
-    /// than the budget, 1 to 8,192.
+    /// centre point, is wanted. There are 1 to 8 axes; the job is met when
+    /// pending and carried error together are at most the threshold, and asks
+    /// for no more readings than the budget, 1 to 8,192.
     pub fn start(&mut self, axes: u32, threshold: u64, budget: u32) -> Result<(), Refusal> {
         let Integrator { job, cells, store } = self;
         Refusal::judge(exported::start(job, axes, threshold, budget, cells, store))
@@ -253,8 +261,12 @@ impl<'a> Integrator<'a> {
         Refusal::judge(exported::deliver(job, readings, indicator, cells, store))
     }
 
-    /// Refines the active index of largest indicator, unless the job is met or
-    /// its budget spent; these two change nothing.
+    /// Refines the active index of largest indicator if the pending error is
+    /// above the threshold, whatever is carried. Where the job is met, capped or
+    /// spent, it changes nothing.
+    ///
+    /// Refining takes the index's indicator out of the pending error; where the
+    /// index is at a ceiling, the indicator joins the carried error.
     pub fn promote(&mut self) -> Result<Promotion, Refusal> {
         let mut outcome = [u32::MAX];
         Refusal::judge(exported::promote(&mut self.job, &mut outcome, self.cells, self.store))?;
@@ -262,16 +274,19 @@ impl<'a> Integrator<'a> {
             [0] => Promotion::Met,
             [1] => Promotion::Spent,
             [2] => Promotion::Promoted,
+            [3] => Promotion::Capped,
             [other] => panic!("{other} is no outcome of promote"),
         })
     }
 
-    /// The counts, and pending error and mean as they are recorded.
+    /// The counts, and pending error, carried error and mean as they are
+    /// recorded.
     pub fn result(&self) -> Result<Counts, Refusal> {
-        let mut counts = [0; 9];
+        let mut counts = [0; 11];
         Refusal::judge(exported::result(&self.job, &mut counts, self.cells, self.store))?;
         Ok(Counts {
             pending_error: job::wide(counts[0], counts[1]),
+            carried_error: job::wide(counts[9], counts[10]),
             scaled_mean: job::signed(counts[2], counts[3]),
             old: counts[4],
             active: counts[5],
