@@ -47,6 +47,7 @@ fn the_documents_job_comes_to_the_documents_figures() {
     let scaled_mean = 5_972_688_896;
     let expected = Counts {
         pending_error: 10,
+        carried_error: 0,
         scaled_mean,
         old: 2,
         active: 2,
@@ -62,6 +63,7 @@ fn the_documents_job_comes_to_the_documents_figures() {
     let record = JobRecord {
         threshold: 40,
         pending_error: 10,
+        carried_error: 0,
         scaled_mean,
         axes: 2,
         budget: 64,

@@ -8,7 +8,8 @@
 #include <stdlib.h>
 #include <string.h>
 
-enum { AXES = 2, BUDGET = 64, MARK = 77 };
+/* The budget is what two axes take up to their highest levels, and (2,2) beside them. */
+enum { AXES = 2, BUDGET = 261, MARK = 77 };
 
 static struct area {
     uint32_t job[WIHUPYA_JOB_WORDS];
@@ -72,6 +73,7 @@ static void test_start(void)
     EXPECT(wihupya_unsigned_at(area.job, WIHUPYA_JOB_THRESHOLD) == threshold);
     EXPECT(area.job[WIHUPYA_JOB_AXES] == AXES && area.job[WIHUPYA_JOB_BUDGET] == BUDGET);
     EXPECT(area.job[WIHUPYA_JOB_HELD] == 1 && area.job[WIHUPYA_JOB_RESERVED] == 1);
+    EXPECT(wihupya_unsigned_at(area.job, WIHUPYA_JOB_PENDING) == 0 && wihupya_unsigned_at(area.job, WIHUPYA_JOB_CARRIED) == 0);
     EXPECT(area.cells[WIHUPYA_CELL_LEVELS] == 1 && area.cells[WIHUPYA_CELL_STATE] == WIHUPYA_WANTED);
     EXPECT(area.cells[WIHUPYA_CELL_FORWARD] == WIHUPYA_NONE && area.cells[WIHUPYA_CELL_BACKWARD + 7] == WIHUPYA_NONE);
 }
@@ -147,6 +149,7 @@ static void test_result(void)
     const int64_t mean = WIHUPYA_SCALE * root + 2 * (WIHUPYA_SCALE / 4) * (ends - 2 * root);
     EXPECT(wihupya_result(area.job, counts, WHOLE) == WIHUPYA_ACCEPTED);
     EXPECT(wihupya_unsigned_at(counts, WIHUPYA_COUNT_PENDING) == 2 * (uint64_t)UINT32_MAX);
+    EXPECT(wihupya_unsigned_at(counts, WIHUPYA_COUNT_CARRIED) == 0);
     EXPECT(wihupya_signed_at(counts, WIHUPYA_COUNT_MEAN) == mean);
     EXPECT(counts[WIHUPYA_COUNT_OLD] == 1 && counts[WIHUPYA_COUNT_ACTIVE] == 2 && counts[WIHUPYA_COUNT_WANTED] == 0);
     EXPECT(counts[WIHUPYA_COUNT_RESERVED] == 5 && counts[WIHUPYA_COUNT_CEILING] == 0);
@@ -167,6 +170,74 @@ static void test_negative_mean(void)
     EXPECT(wihupya_signed_at(area.job, WIHUPYA_JOB_MEAN) == -WIHUPYA_SCALE);
     EXPECT(wihupya_cross_total(area.job, total, WHOLE) == WIHUPYA_ACCEPTED && wihupya_signed_at(total, 0) == -WIHUPYA_SCALE);
     EXPECT(wihupya_promote(area.job, outcome, WHOLE) == WIHUPYA_ACCEPTED && outcome[0] == WIHUPYA_MET);
+}
+
+/* Runs a job to its end, with readings all 3 and this indicator for every block but that of (2,2), which has 0. */
+static uint32_t run(uint32_t axes, uint64_t threshold, uint32_t indicator)
+{
+    int32_t block[64];
+    for (size_t n = 0; n < 64; n++)
+        block[n] = 3;
+    EXPECT(wihupya_start(area.job, axes, threshold, BUDGET, WHOLE) == WIHUPYA_ACCEPTED);
+    for (size_t place = 0;;) {
+        if (place == area.job[WIHUPYA_JOB_HELD]) {
+            EXPECT(wihupya_promote(area.job, outcome, WHOLE) == WIHUPYA_ACCEPTED);
+            if (outcome[0] != WIHUPYA_PROMOTED)
+                return outcome[0];
+        } else {
+            const uint32_t *levels = area.cells + place * WIHUPYA_RECORD_CELLS + WIHUPYA_CELL_LEVELS;
+            EXPECT(points(0, sizeof positions) == WIHUPYA_ACCEPTED && written[WIHUPYA_POINTS_OF_BLOCK] <= 64);
+            EXPECT(deliver(block, written[WIHUPYA_POINTS_OF_BLOCK], levels[0] == 2 && levels[1] == 2 ? 0 : indicator) == WIHUPYA_ACCEPTED);
+            place++;
+        }
+    }
+}
+
+/* With another carried error the area is not sound: every call but start is refused. */
+static void test_altered_carried(uint32_t low, uint32_t high)
+{
+    const int32_t block[1] = {3};
+    const struct area sound = area;
+    area.job[WIHUPYA_JOB_CARRIED] = low;
+    area.job[WIHUPYA_JOB_CARRIED + 1] = high;
+    EXPECT(!wihupya_check(area.job, WHOLE));
+    REFUSED(WIHUPYA_NOT_SOUND, wihupya_point(area.job, 0, WHOLE, position, sizeof position));
+    REFUSED(WIHUPYA_NOT_SOUND, points(0, sizeof positions));
+    REFUSED(WIHUPYA_NOT_SOUND, deliver(block, 1, 1));
+    REFUSED(WIHUPYA_NOT_SOUND, wihupya_promote(area.job, outcome, WHOLE));
+    REFUSED(WIHUPYA_NOT_SOUND, wihupya_result(area.job, counts, WHOLE));
+    REFUSED(WIHUPYA_NOT_SOUND, wihupya_doubles(area.job, report, WHOLE));
+    REFUSED(WIHUPYA_NOT_SOUND, wihupya_cross_total(area.job, total, WHOLE));
+    area = sound;
+    EXPECT(wihupya_check(area.job, WHOLE));
+}
+
+/* Jobs that are refined up to the highest level: 8 indices on one axis, 15 and (2,2) on two. */
+static void test_carried(void)
+{
+    EXPECT(run(1, 9, 10) == WIHUPYA_CAPPED);
+    EXPECT(wihupya_result(area.job, counts, WHOLE) == WIHUPYA_ACCEPTED);
+    EXPECT(wihupya_unsigned_at(counts, WIHUPYA_COUNT_PENDING) == 0 && wihupya_unsigned_at(counts, WIHUPYA_COUNT_CARRIED) == 10);
+    EXPECT(wihupya_signed_at(counts, WIHUPYA_COUNT_MEAN) == 3145728);
+    EXPECT(counts[WIHUPYA_COUNT_OLD] == 8 && counts[WIHUPYA_COUNT_ACTIVE] == 0 && counts[WIHUPYA_COUNT_WANTED] == 0);
+    EXPECT(counts[WIHUPYA_COUNT_RESERVED] == 129 && counts[WIHUPYA_COUNT_CEILING] == 1);
+    test_altered_carried(11, 0);
+    test_altered_carried(0, 0);
+    test_altered_carried(10, 1);
+
+    /* Capped leaves the area. With another threshold the area is still sound, and with 10 it is met. */
+    before = area;
+    EXPECT(wihupya_promote(area.job, outcome, WHOLE) == WIHUPYA_ACCEPTED && outcome[0] == WIHUPYA_CAPPED);
+    EXPECT(memcmp(&before, &area, sizeof area) == 0);
+    area.job[WIHUPYA_JOB_THRESHOLD] = 10;
+    EXPECT(wihupya_promote(area.job, outcome, WHOLE) == WIHUPYA_ACCEPTED && outcome[0] == WIHUPYA_MET);
+
+    /* Above 32 bits. */
+    EXPECT(run(AXES, 0, UINT32_MAX) == WIHUPYA_CAPPED);
+    EXPECT(wihupya_unsigned_at(area.job, WIHUPYA_JOB_CARRIED) == 2 * (uint64_t)UINT32_MAX);
+    EXPECT(wihupya_result(area.job, counts, WHOLE) == WIHUPYA_ACCEPTED);
+    EXPECT(wihupya_unsigned_at(counts, WIHUPYA_COUNT_CARRIED) == 2 * (uint64_t)UINT32_MAX);
+    EXPECT(counts[WIHUPYA_COUNT_OLD] == 15 && counts[WIHUPYA_COUNT_ACTIVE] == 1 && counts[WIHUPYA_COUNT_CEILING] == 2);
 }
 
 /* Whether the report is these three, bit by bit, and the area as it was. */
@@ -240,6 +311,7 @@ int main(void)
     test_steps();
     test_result();
     test_negative_mean();
+    test_carried();
     test_doubles();
     return EXIT_SUCCESS;
 }

@@ -2,7 +2,7 @@
 
 mod support;
 
-use support::Storage;
+use support::{run, Storage};
 use wihupya::*;
 
 const HEADER: &str = include_str!("../../../include/wihupya.h");
@@ -13,6 +13,11 @@ fn defined(name: &str) -> Option<&'static str> {
         let value = line.strip_prefix("#define WIHUPYA_")?.strip_prefix(name)?.strip_prefix(' ')?;
         Some(value.split("/*").next().unwrap_or(value).trim())
     })
+}
+
+/// The number that the header defines a name as.
+fn number(name: &str) -> usize {
+    defined(name).unwrap().parse().unwrap()
 }
 
 /// `NotSound` as `NOT_SOUND`.
@@ -55,6 +60,7 @@ fn the_job_records_words_are_the_headers() {
     let job = JobRecord {
         threshold: 1 << 32 | 2,
         pending_error: 3 << 32 | 4,
+        carried_error: 11 << 32 | 12,
         scaled_mean: 5 << 32 | 6,
         axes: 7,
         budget: 8,
@@ -62,13 +68,75 @@ fn the_job_records_words_are_the_headers() {
         reserved: 10,
     };
     let words = job.to_words();
-    let at = |name: &str| defined(name).unwrap().parse::<usize>().unwrap();
-    let wide = |name| words[at(name)..][..2].to_vec();
+    let wide = |name| words[number(name)..][..2].to_vec();
     assert_eq!(wide("JOB_THRESHOLD"), [2, 1]);
     assert_eq!(wide("JOB_PENDING"), [4, 3]);
     assert_eq!(wide("JOB_MEAN"), [6, 5]);
-    let narrow = ["JOB_AXES", "JOB_BUDGET", "JOB_HELD", "JOB_RESERVED"].map(|name| words[at(name)]);
+    assert_eq!(wide("JOB_CARRIED"), [12, 11]);
+    let narrow =
+        ["JOB_AXES", "JOB_BUDGET", "JOB_HELD", "JOB_RESERVED"].map(|name| words[number(name)]);
     assert_eq!(narrow, [7, 8, 9, 10]);
+}
+
+/// The words as the library writes them, and the outcome that the bindings make
+/// of the same area.
+#[test]
+fn outcomes_have_the_headers_numbers() {
+    let delivered = |threshold, budget| {
+        let mut storage = Storage::started(1, threshold, budget);
+        storage.call(|job| job.deliver(&[0], 5)).unwrap();
+        storage
+    };
+    let outcomes = [
+        ("MET", delivered(5, 1), Promotion::Met),
+        ("SPENT", delivered(4, 2), Promotion::Spent),
+        ("PROMOTED", delivered(4, 3), Promotion::Promoted),
+        ("CAPPED", run((1, 9, 129), 0, |_| 10).0, Promotion::Capped),
+    ];
+    for (name, mut storage, promotion) in outcomes {
+        let Storage { job, mut cells, store } = storage.clone();
+        let mut outcome = [u32::MAX];
+        assert_eq!(wihupya_sys::promote(&mut job.to_words(), &mut outcome, &mut cells, &store), 0);
+        assert_eq!(outcome[0] as usize, number(name), "{name}");
+        assert_eq!(storage.call(|job| job.promote()), Ok(promotion), "{name}");
+    }
+}
+
+/// Both axes are refined up to their highest level, and (2,2) is active: the
+/// counts are all different, and the carried error takes both its words.
+#[test]
+fn the_counts_lie_where_the_header_says() {
+    let indicator = |levels: &[u32]| if levels == [2, 2] { 7 } else { u32::MAX };
+    let (mut storage, _) = run((2, 7, 261), 0, indicator);
+    storage.job.scaled_mean = -(3 << 32 | 4);
+    let mut words = [u32::MAX; 11];
+    let Storage { job, cells, store } = &storage;
+    assert_eq!(wihupya_sys::result(&job.to_words(), &mut words, cells, store), 0);
+    assert_eq!(number("COUNT_WORDS"), words.len());
+    let narrow = |name| words[number(name)];
+    let wide = |name| u64::from(narrow(name)) | u64::from(words[number(name) + 1]) << 32;
+    let said = Counts {
+        pending_error: wide("COUNT_PENDING"),
+        carried_error: wide("COUNT_CARRIED"),
+        scaled_mean: wide("COUNT_MEAN") as i64,
+        old: narrow("COUNT_OLD"),
+        active: narrow("COUNT_ACTIVE"),
+        wanted: narrow("COUNT_WANTED"),
+        reserved: narrow("COUNT_RESERVED"),
+        ceiling: narrow("COUNT_CEILING"),
+    };
+    let expected = Counts {
+        pending_error: 7,
+        carried_error: 2 * u64::from(u32::MAX),
+        scaled_mean: -(3 << 32 | 4),
+        old: 15,
+        active: 1,
+        wanted: 0,
+        reserved: 261,
+        ceiling: 2,
+    };
+    assert_eq!(said, expected);
+    assert_eq!(storage.call(|job| job.result()), Ok(expected));
 }
 
 /// The root's block is delivered, so that the three are different.
@@ -80,11 +148,11 @@ fn the_doubles_lie_where_the_header_says() {
     let mut report = [f64::NAN; 3];
     let Storage { job, cells, store } = &storage;
     assert_eq!(wihupya_sys::doubles(&job.to_words(), &mut report, cells, store), 0);
-    assert_eq!(defined("DOUBLES_LENGTH"), Some(report.len().to_string().as_str()));
-    let at = |name: &str| report[defined(name).unwrap().parse::<usize>().unwrap()];
+    assert_eq!(number("DOUBLES_LENGTH"), report.len());
+    let reported = |name| report[number(name)];
     let doubles = storage.call(|job| job.doubles()).unwrap();
     assert_eq!(doubles, Doubles { mean: 3.0, pending_error: 9.0, largest_difference: 5.0 });
-    assert_eq!(at("DOUBLES_MEAN"), doubles.mean);
-    assert_eq!(at("DOUBLES_PENDING"), doubles.pending_error);
-    assert_eq!(at("DOUBLES_LARGEST"), doubles.largest_difference);
+    assert_eq!(reported("DOUBLES_MEAN"), doubles.mean);
+    assert_eq!(reported("DOUBLES_PENDING"), doubles.pending_error);
+    assert_eq!(reported("DOUBLES_LARGEST"), doubles.largest_difference);
 }

@@ -4,7 +4,7 @@
 mod support;
 
 use support::{refused, refused_in, Storage};
-use wihupya::{Integrator, Refusal, CELLS};
+use wihupya::{Integrator, JobRecord, Refusal, CELLS};
 
 /// Makes a call in a part of the storage, where it must be refused.
 type Refused = fn(&mut Storage, (usize, usize), Refusal);
@@ -95,13 +95,17 @@ fn point_buffer_too_short() {
 
 #[test]
 fn area_not_sound() {
-    for (mut storage, refused_call) in calls_on_an_area() {
-        storage.job.pending_error += 1;
-        let whole = (storage.cells.len(), storage.store.len());
-        refused_call(&mut storage, whole, Refusal::NotSound);
-        assert!(!storage.call(|job| job.check()));
-        assert_eq!(storage.call(|job| job.start(2, 0, 64)), Ok(()));
-        assert!(storage.call(|job| job.check()));
+    let alterations: [fn(&mut JobRecord); 2] =
+        [|job| job.pending_error += 1, |job| job.carried_error += 1];
+    for alter in alterations {
+        for (mut storage, refused_call) in calls_on_an_area() {
+            alter(&mut storage.job);
+            let whole = (storage.cells.len(), storage.store.len());
+            refused_call(&mut storage, whole, Refusal::NotSound);
+            assert!(!storage.call(|job| job.check()));
+            assert_eq!(storage.call(|job| job.start(2, 0, 64)), Ok(()));
+            assert!(storage.call(|job| job.check()));
+        }
     }
 }
 

@@ -2,18 +2,20 @@
 
 mod support;
 
-use support::Storage;
+use support::{run, Storage};
 use wihupya::{JobRecord, Promotion, LARGEST_READING, SCALE};
 
 #[test]
-fn every_ten_words_are_a_job_record() {
+fn every_twelve_words_are_a_job_record() {
     let words = std::array::from_fn(|word| 0x8101_0101u32.wrapping_mul(word as u32 + 1));
     let job = JobRecord::from_words(words);
     assert_eq!(job.to_words(), words);
     assert_eq!(job.threshold, 0x0202_0202_8101_0101);
+    assert_eq!(job.carried_error, 0x0c0c_0c0c_8b0b_0b0b);
     let distinct = JobRecord {
         threshold: u64::MAX - 1,
         pending_error: 1 << 63,
+        carried_error: 1 << 63 | 1,
         scaled_mean: i64::MIN,
         axes: u32::MAX,
         budget: u32::MAX - 1,
@@ -42,6 +44,19 @@ fn a_pending_error_passes_32_bits() {
     let counts = storage.call(|job| job.result()).unwrap();
     assert_eq!(counts.pending_error, 2 * u64::from(u32::MAX));
     assert_eq!(storage.job.pending_error, counts.pending_error);
+}
+
+/// Both axes are refined up to their highest level. (2,2) comes beside them, and
+/// matters nothing.
+#[test]
+fn a_carried_error_passes_32_bits() {
+    let indicator = |levels: &[u32]| if levels == [2, 2] { 0 } else { u32::MAX };
+    let (mut storage, end) = run((2, 0, 261), 1, indicator);
+    assert_eq!(end, Promotion::Capped);
+    let counts = storage.call(|job| job.result()).unwrap();
+    assert_eq!((counts.old, counts.ceiling, counts.pending_error), (15, 2, 0));
+    assert_eq!(counts.carried_error, 2 * u64::from(u32::MAX));
+    assert_eq!(storage.job.carried_error, counts.carried_error);
 }
 
 #[test]

@@ -4,7 +4,9 @@
 #![allow(dead_code)]
 
 use std::fmt::Debug;
-use wihupya::{Integrator, JobRecord, Promotion, Refusal, CELLS, LARGEST_BUDGET, RECORD_CELLS};
+use wihupya::{
+    Integrator, JobRecord, Promotion, Refusal, CELLS, JOB_WORDS, LARGEST_BUDGET, RECORD_CELLS,
+};
 
 const MARK: u32 = 0xa5a5_a5a5;
 
@@ -19,7 +21,7 @@ pub struct Storage {
 impl Storage {
     /// Full of marks: 512 records, a part of another, a store of 100 readings.
     pub fn marked() -> Storage {
-        let job = JobRecord::from_words([MARK; 10]);
+        let job = JobRecord::from_words([MARK; JOB_WORDS]);
         Storage { job, cells: vec![MARK; CELLS + 5], store: vec![MARK as i32; 100] }
     }
 
@@ -81,9 +83,7 @@ pub fn grow(axes: u32, target: &[u32], mut look: impl FnMut(&Integrator)) -> Sto
                 continue;
             }
             look(job);
-            // Blocks are wanted in the order of the records.
-            let record = &job.cells()[delivered * RECORD_CELLS..];
-            let levels = record[..axes as usize].to_vec();
+            let levels = levels(job, delivered);
             if levels == target {
                 break;
             }
@@ -94,6 +94,39 @@ pub fn grow(axes: u32, target: &[u32], mut look: impl FnMut(&Integrator)) -> Sto
         }
     });
     storage
+}
+
+/// A job run to its end, and how it ended. All readings are this one; a block's
+/// indicator comes from its levels.
+pub fn run(
+    (axes, threshold, budget): (u32, u64, u32),
+    reading: i32,
+    indicator: impl Fn(&[u32]) -> u32,
+) -> (Storage, Promotion) {
+    let mut storage = Storage::marked();
+    storage.store.resize(budget as usize, 0);
+    let end = storage.call(|job| {
+        job.start(axes, threshold, budget).unwrap();
+        let mut delivered = 0;
+        loop {
+            if delivered == job.job().held as usize {
+                match job.promote().unwrap() {
+                    Promotion::Promoted => continue,
+                    end => break end,
+                }
+            }
+            let readings = vec![reading; job.wanted_block().unwrap().len()];
+            job.deliver(&readings, indicator(&levels(job, delivered))).unwrap();
+            delivered += 1;
+        }
+    });
+    (storage, end)
+}
+
+/// The levels of a held index. Blocks are wanted in the order of the places.
+fn levels(job: &Integrator, place: usize) -> Vec<u32> {
+    let record = &job.cells()[place * RECORD_CELLS..];
+    record[..job.job().axes as usize].to_vec()
 }
 
 /// The call is refused for this cause, and all storage is as it was.
