@@ -115,6 +115,19 @@ static uint32_t run(void)
     }
 }
 
+/* How a job ended, as the report has it. */
+static const char *ending(uint32_t end)
+{
+    switch (end) {
+    case WIHUPYA_MET:
+        return "met";
+    case WIHUPYA_CAPPED:
+        return "capped";
+    default:
+        return "spent";
+    }
+}
+
 /* The report, in the form that the program gives it for a job file. */
 static void print_report(const uint32_t counts[WIHUPYA_COUNT_WORDS], uint32_t end)
 {
@@ -124,10 +137,11 @@ static void print_report(const uint32_t counts[WIHUPYA_COUNT_WORDS], uint32_t en
     printf("wanted %" PRIu32 "\n", counts[WIHUPYA_COUNT_WANTED]);
     printf("reserved %" PRIu32 "\n", counts[WIHUPYA_COUNT_RESERVED]);
     printf("pending %" PRIu64 "\n", wihupya_unsigned_at(counts, WIHUPYA_COUNT_PENDING));
+    printf("carried %" PRIu64 "\n", wihupya_unsigned_at(counts, WIHUPYA_COUNT_CARRIED));
     printf("ceiling %" PRIu32 "\n", counts[WIHUPYA_COUNT_CEILING]);
     printf("scaled %" PRId64 "\n", wihupya_signed_at(counts, WIHUPYA_COUNT_MEAN));
     printf("unused 0\n"); /* no block is measured that is not wanted */
-    printf("end %s\n", end == WIHUPYA_MET ? "met" : "spent");
+    printf("end %s\n", ending(end));
 }
 
 /* The figures that a plotting package reads, in nanolitres but for the pending error. Twenty digits show each of them whole. */

@@ -75,7 +75,7 @@ fn indicator(job: &Integrator, readings: &[i32]) -> Result<u32, Refusal> {
 }
 
 /// Runs the job to its end; says how it ended, and what was delivered.
-fn run(job: &mut Integrator) -> Result<(Promotion, Vec<Entry>), Refusal> {
+fn run(job: &mut Integrator) -> Result<(&'static str, Vec<Entry>), Refusal> {
     let mut entries = Vec::new();
     job.start(AXES, THRESHOLD, BUDGET)?;
     loop {
@@ -86,25 +86,29 @@ fn run(job: &mut Integrator) -> Result<(Promotion, Vec<Entry>), Refusal> {
             entries.push(Entry { indicator, readings });
             continue;
         }
-        match job.promote()? {
-            Promotion::Promoted => {}
-            end => return Ok((end, entries)),
-        }
+        let end = match job.promote()? {
+            Promotion::Promoted => continue,
+            Promotion::Met => "met",
+            Promotion::Capped => "capped",
+            Promotion::Spent => "spent",
+        };
+        return Ok((end, entries));
     }
 }
 
 /// The report, in the form that the program gives it for a job file.
-fn print_report(counts: &Counts, end: Promotion) {
+fn print_report(counts: &Counts, end: &str) {
     println!("axes {AXES}");
     println!("old {}", counts.old);
     println!("active {}", counts.active);
     println!("wanted {}", counts.wanted);
     println!("reserved {}", counts.reserved);
     println!("pending {}", counts.pending_error);
+    println!("carried {}", counts.carried_error);
     println!("ceiling {}", counts.ceiling);
     println!("scaled {}", counts.scaled_mean);
     println!("unused 0"); // no block is measured that is not wanted
-    println!("end {}", if end == Promotion::Met { "met" } else { "spent" });
+    println!("end {end}");
 }
 
 /// The figures that a plotting package reads, in nanolitres but for the pending
