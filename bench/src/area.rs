@@ -22,6 +22,7 @@ pub struct JobRecord {
     pub held: u32,
     pub reserved: u32,
     pub pending: u64,
+    pub carried: u64,
     pub mean: i64,
 }
 

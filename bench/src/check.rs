@@ -113,6 +113,7 @@ fn figures_fit(job: &JobRecord, held: &[IndexRecord], store: &[i32]) -> bool {
     wanted.iter().all(|record| record.state == WANTED && record.indicator == 0)
         && blocks_fit(job, held)
         && pending(delivered) == job.pending
+        && carried(delivered) == job.carried
         && job.mean.unsigned_abs() <= delivered.len() as u64 * DIFFERENCE_LIMIT
         && {
             // The delivered blocks lie in a row, up to the first wanted one.
@@ -135,6 +136,15 @@ fn blocks_fit(job: &JobRecord, held: &[IndexRecord]) -> bool {
 }
 
 fn pending(delivered: &[IndexRecord]) -> u64 {
-    let active = delivered.iter().filter(|record| record.state == ACTIVE);
-    active.map(|record| u64::from(record.indicator)).sum()
+    sum_of_indicators(delivered, |record| record.state == ACTIVE)
+}
+
+/// Of the old indices at a ceiling.
+fn carried(delivered: &[IndexRecord]) -> u64 {
+    sum_of_indicators(delivered, |record| record.state == OLD && index::at_ceiling(&record.levels))
+}
+
+fn sum_of_indicators(records: &[IndexRecord], counts: impl Fn(&IndexRecord) -> bool) -> u64 {
+    let counted = records.iter().filter(|record| counts(record));
+    counted.map(|record| u64::from(record.indicator)).sum()
 }

@@ -19,6 +19,11 @@ pub fn within_ceilings(levels: &Levels) -> bool {
     levels.iter().all(|level| (1..=TOP_LEVEL).contains(level)) && excess(levels) <= EXCESS_CEILING
 }
 
+/// Whether some forward neighbour of an index within the ceilings passes one.
+pub fn at_ceiling(levels: &Levels) -> bool {
+    levels.contains(&TOP_LEVEL) || excess(levels) == EXCESS_CEILING
+}
+
 pub fn forward_neighbour(levels: &Levels, axis: usize) -> Levels {
     let mut neighbour = *levels;
     neighbour[axis] += 1;

@@ -30,14 +30,15 @@ fn run(bytes: &[u8]) -> Result<String, Refusal> {
     let (used, ending) = carry_out(&file, &mut job, &mut records)?;
     let counts = steps::result(&job, &records);
     Ok(format!(
-        "axes {}\nold {}\nactive {}\nwanted {}\nreserved {}\npending {}\nceiling {}\nscaled {}\n\
-         unused {}\nend {ending}\n",
+        "axes {}\nold {}\nactive {}\nwanted {}\nreserved {}\npending {}\ncarried {}\nceiling {}\n\
+         scaled {}\nunused {}\nend {ending}\n",
         job.axes,
         counts.old,
         counts.active,
         counts.wanted,
         counts.reserved,
         counts.pending,
+        counts.carried,
         counts.ceiling,
         counts.mean,
         file.entries.len() - used,
@@ -67,6 +68,7 @@ fn carry_out(
         } else {
             match steps::promote(job, records) {
                 Promotion::Met => return Ok((used, "met")),
+                Promotion::Capped => return Ok((used, "capped")),
                 Promotion::Spent => return Ok((used, "spent")),
                 Promotion::Promoted => {}
             }

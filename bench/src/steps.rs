@@ -9,6 +9,7 @@ use crate::quadrature::{Readings, SCALE};
 #[derive(Clone, Copy, Debug, PartialEq, Eq)]
 pub enum Promotion {
     Met,
+    Capped,
     Spent,
     Promoted,
 }
@@ -28,6 +29,7 @@ pub struct Counts {
     pub wanted: u32,
     pub reserved: u32,
     pub pending: u64,
+    pub carried: u64,
     pub mean: i64,
     pub ceiling: u32,
 }
@@ -60,7 +62,7 @@ pub fn start(
     threshold: u64,
     budget: u32,
 ) {
-    *job = JobRecord { axes, threshold, budget, held: 1, reserved: 1, pending: 0, mean: 0 };
+    *job = JobRecord { axes, threshold, budget, held: 1, reserved: 1, ..JobRecord::default() };
     records[0] = IndexRecord::wanted(ROOT, 0);
 }
 
@@ -95,11 +97,14 @@ pub fn deliver(
     job.mean += readings(job, records, store).difference(&records[place].levels);
 }
 
-/// Met, or the selected index refined, unless that is spent. No block is
-/// wanted.
+/// Met or capped, or the selected index refined, unless that is spent. No block
+/// is wanted.
 pub fn promote(job: &mut JobRecord, records: &mut [IndexRecord]) -> Promotion {
-    if job.pending <= job.threshold {
+    if job.pending + job.carried <= job.threshold {
         return Promotion::Met;
+    }
+    if job.pending <= job.threshold {
+        return Promotion::Capped;
     }
     // A pending error above the threshold comes from some active index.
     match select(held(job, records)) {
@@ -131,6 +136,9 @@ fn refine(job: &mut JobRecord, records: &mut [IndexRecord], selected: usize) -> 
     }
     records[selected].state = OLD;
     job.pending -= u64::from(indicator);
+    if index::at_ceiling(&levels) {
+        job.carried += u64::from(indicator);
+    }
     for levels in admitted {
         append(job, records, levels);
     }
@@ -173,6 +181,7 @@ pub fn result(job: &JobRecord, records: &[IndexRecord]) -> Counts {
         wanted: count(WANTED),
         reserved: job.reserved,
         pending: job.pending,
+        carried: job.carried,
         mean: job.mean,
         ceiling: ceiling_count(job.axes as usize, held),
     }

@@ -32,8 +32,8 @@ fn garbage(rng: &mut Rng) -> Area {
         held: rng.number() as u32 >> rng.below(32),
         reserved: rng.number() as u32,
         pending: rng.number(),
-        mean: rng.number() as i64,
         carried: rng.number(),
+        mean: rng.number() as i64,
     };
     Area { job, records, store }
 }
@@ -164,6 +164,7 @@ fn lists_of_calls_leave_what_the_reference_leaves() {
         "deliver refused 7",
         "deliver refused 8",
         "promote Met",
+        "promote Capped",
         "promote Spent",
         "promote Promoted",
         "promote refused 3",

@@ -32,8 +32,8 @@ impl Lent {
 }
 
 fn job_of(job: &area::JobRecord) -> JobRecord {
-    let area::JobRecord { axes, threshold, budget, held, reserved, pending, mean, .. } = *job;
-    JobRecord { axes, threshold, budget, held, reserved, pending, mean }
+    let area::JobRecord { axes, threshold, budget, held, reserved, pending, carried, mean } = *job;
+    JobRecord { axes, threshold, budget, held, reserved, pending, carried, mean }
 }
 
 fn record_of(record: &area::IndexRecord) -> IndexRecord {
@@ -121,6 +121,7 @@ fn written(PointCounts { written, block }: PointCounts, axes: u32, buffer: &[u8]
 fn promotion(promotion: Promotion) -> Answer {
     Answer::Promotion(match promotion {
         Promotion::Met => reference_calls::Promotion::Met,
+        Promotion::Capped => reference_calls::Promotion::Capped,
         Promotion::Spent => reference_calls::Promotion::Spent,
         Promotion::Promoted => reference_calls::Promotion::Promoted,
     })
@@ -131,14 +132,14 @@ fn report(Doubles { mean, pending, largest }: Doubles) -> Answer {
 }
 
 fn totals(counts: Counts) -> Answer {
-    let Counts { old, active, wanted, reserved, pending, mean, ceiling } = counts;
+    let Counts { old, active, wanted, reserved, pending, carried, mean, ceiling } = counts;
     Answer::Totals(reference_calls::Totals {
         old,
         active,
         wanted,
         reserved,
         pending,
-        carried: 0,
+        carried,
         mean,
         ceiling,
     })

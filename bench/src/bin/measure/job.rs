@@ -130,7 +130,7 @@ impl Job {
 #[cfg(test)]
 mod tests {
     use super::*;
-    use crate::sides::{cells_of, Proved};
+    use crate::sides::{cells_of, words_of, Proved};
     use reference::area::Area;
     use reference::{jobfile, program};
 
@@ -144,7 +144,7 @@ mod tests {
             let idiomatic: Idiomatic = job.go_through(asking, |_, part| part());
             assert_eq!(proved.cells, cells_of(&idiomatic.records));
             assert_eq!(proved.store, idiomatic.store);
-            assert_eq!(proved.job[4], idiomatic.job.mean as u32);
+            assert_eq!(proved.job, words_of(&idiomatic.job));
         }
         for held in [32, 128, 512] {
             let area: Proved = job.area(held);

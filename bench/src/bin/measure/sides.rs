@@ -5,7 +5,7 @@ use bench::area::{IndexRecord, JobRecord, BUDGET_LIMIT, HELD_LIMIT};
 use bench::calls;
 use bench::steps::PointCounts;
 use std::hint::black_box;
-use wihupya_sys::{self as proved, JobWords};
+use wihupya_sys::{self as proved, JobWords, JOB_WORDS};
 
 /// Words in an index record of the proved library.
 const WORDS: usize = 27;
@@ -60,7 +60,7 @@ impl Side for Proved {
 
     fn new() -> Proved {
         let cells = vec![0; HELD_LIMIT * WORDS];
-        Proved { job: [0; 10], cells, store: vec![0; BUDGET_LIMIT as usize] }
+        Proved { job: [0; JOB_WORDS], cells, store: vec![0; BUDGET_LIMIT as usize] }
     }
 
     fn start(&mut self, axes: u32, threshold: u64, budget: u32) {
@@ -93,7 +93,7 @@ impl Side for Proved {
     }
 
     fn result(&self) {
-        let mut counts = [0; 9];
+        let mut counts = [0; 11];
         accepted(proved::result(&self.job, &mut counts, &self.cells, &self.store));
         black_box(counts);
     }
@@ -173,6 +173,17 @@ impl Side for Idiomatic {
     fn held(&self) -> u32 {
         self.job.held
     }
+}
+
+/// The job record of the idiomatic side as the proved side's words.
+#[cfg(test)]
+pub fn words_of(job: &JobRecord) -> JobWords {
+    let halves = |wide: u64| [wide as u32, (wide >> 32) as u32];
+    let [threshold, pending, mean, carried] =
+        [job.threshold, job.pending, job.mean as u64, job.carried].map(halves);
+    let narrow = [job.axes, job.budget, job.held, job.reserved];
+    let words = [&threshold[..], &pending, &mean, &narrow, &carried].concat();
+    words.try_into().expect("each word of a job record")
 }
 
 /// The records of the idiomatic side as the proved side's cells.
