@@ -95,11 +95,12 @@ pub fn outcome_word(promotion: Promotion) -> u32 {
 }
 
 pub fn count_words(totals: &Totals) -> CountWords {
-    let Totals { old, active, wanted, reserved, pending, mean, ceiling, .. } = *totals;
-    let low = |wide: u64| wide as u32;
-    let high = |wide: u64| (wide >> 32) as u32;
-    let mean = mean as u64;
-    [low(pending), high(pending), low(mean), high(mean), old, active, wanted, reserved, ceiling]
+    let Totals { old, active, wanted, reserved, pending, carried, mean, ceiling } = *totals;
+    let halves = |wide: u64| [wide as u32, (wide >> 32) as u32];
+    let [pending, mean, carried] = [pending, mean as u64, carried].map(halves);
+    let narrow = [old, active, wanted, reserved, ceiling];
+    let words = [&pending[..], &mean, &narrow, &carried].concat();
+    words.try_into().expect("each word of result")
 }
 
 pub fn total_words(total: i64) -> TotalWords {

@@ -161,7 +161,7 @@ fn at_limits(case: &mut Case, rng: &mut Rng) {
         0 => job.held = rng.pick(&[0, 1, 2, 511, 512, 513, records, u32::MAX]),
         1 => job.held = records + 1,
         // Nothing held, and every sum over the held what it then is.
-        2 => *job = JobRecord { held: 0, reserved: 0, pending: 0, mean: 0, ..*job },
+        2 => *job = JobRecord { held: 0, reserved: 0, pending: 0, mean: 0, carried: 0, ..*job },
         _ => return,
     }
     case.done.push(format!("held became {} of {records} records", job.held));

@@ -25,13 +25,24 @@ pub const REFUSALS: [(&str, &[u32]); 8] = [
     ("doubles", &[3, 4]),
 ];
 
-const OUTCOMES: [&str; 6] = [
+const OUTCOMES: [&str; 7] = [
     "met",
+    "capped",
     "promoted",
     "promoted with nothing admitted",
     "spent by the budget",
     "spent by the limit of 512",
     "spent by both limits",
+];
+
+/// How promote ended or went on beside a carried error. Met takes an altered
+/// area.
+const CARRIED: [&str; 5] = [
+    "capped with pending above 0",
+    "capped with the threshold equal to the pending error",
+    "met with carried above 0",
+    "promoted with carried above 0",
+    "spent with carried above 0",
 ];
 
 /// Accepted calls on storage that is just enough, or goes on a little; the
@@ -181,6 +192,7 @@ impl Coverage {
     }
 
     fn note_promotion(&mut self, promotion: Promotion, area: &Area) {
+        self.note_carried(promotion, area);
         let outcome = match promotion {
             Promotion::Met => "met",
             Promotion::Capped => "capped",
@@ -199,9 +211,24 @@ impl Coverage {
         self.count(outcome);
     }
 
+    fn note_carried(&mut self, promotion: Promotion, area: &Area) {
+        let job = &area.job;
+        let capped = promotion == Promotion::Capped;
+        let beside = |outcome: Promotion| promotion == outcome && job.carried > 0;
+        let seen = [
+            capped && job.pending > 0,
+            capped && job.threshold == job.pending,
+            beside(Promotion::Met),
+            beside(Promotion::Promoted),
+            beside(Promotion::Spent),
+        ];
+        self.count_seen(CARRIED, seen);
+    }
+
     /// What a long run has to see and this one didn't.
     pub fn missing(&self) -> Vec<String> {
-        let lists = [&OUTCOMES[..], &LENT, &POINTS, &BUFFERS, &CROSS_TOTALS, &doubles::SEEN];
+        let calls = [&OUTCOMES[..], &CARRIED, &LENT, &POINTS, &BUFFERS];
+        let lists = [&calls[..], &[&CROSS_TOTALS, &doubles::SEEN]].concat();
         let mut due: Vec<String> = lists.concat().into_iter().map(String::from).collect();
         for (call, numbers) in REFUSALS {
             due.push(format!("accepted {call}"));
@@ -246,7 +273,7 @@ mod tests {
         let refusals: usize = REFUSALS.iter().map(|(_, numbers)| 1 + numbers.len()).sum();
         let points = POINTS.len() + BUFFERS.len();
         let figures = CROSS_TOTALS.len() + doubles::SEEN.len();
-        let lists = OUTCOMES.len() + LENT.len() + points + figures;
+        let lists = OUTCOMES.len() + CARRIED.len() + LENT.len() + points + figures;
         assert_eq!(Coverage::default().missing().len(), lists + refusals + 8 + 3 + 3);
     }
 }

@@ -1,11 +1,11 @@
-//! An area as the exported calls take it: the job record as ten words, the
+//! An area as the exported calls take it: the job record as twelve words, the
 //! index records as one run of cells, and the reading store.
 
 use reference::area::{self, Area, IndexRecord};
 use wihupya_sys::JobWords;
 
-/// The job record in the order in which a caller's struct has it: wide numbers
-/// first, so that there are 40 bytes and none of them is padding.
+/// The job record in the order in which a caller's struct has it: there are 48
+/// bytes, and none of them is padding.
 #[repr(C)]
 #[derive(Clone, Copy, Debug, PartialEq, Eq)]
 pub struct JobRecord {
@@ -16,17 +16,19 @@ pub struct JobRecord {
     pub budget: u32,
     pub held: u32,
     pub reserved: u32,
+    pub carried: u64,
 }
 
 impl From<area::JobRecord> for JobRecord {
     fn from(job: area::JobRecord) -> JobRecord {
-        let area::JobRecord { axes, threshold, budget, held, reserved, pending, mean, .. } = job;
-        JobRecord { threshold, pending, mean, axes, budget, held, reserved }
+        let area::JobRecord { axes, threshold, budget, held, reserved, pending, mean, carried } =
+            job;
+        JobRecord { threshold, pending, mean, axes, budget, held, reserved, carried }
     }
 }
 
 impl JobRecord {
-    /// The same 40 bytes as words, a wide number's low word first.
+    /// The same 48 bytes as words, a wide number's low word first.
     pub fn words(self) -> JobWords {
         let low = |wide: u64| wide as u32;
         let high = |wide: u64| (wide >> 32) as u32;
@@ -42,6 +44,8 @@ impl JobRecord {
             self.budget,
             self.held,
             self.reserved,
+            low(self.carried),
+            high(self.carried),
         ]
     }
 }
@@ -100,16 +104,17 @@ mod tests {
 
     const SIZE: usize = std::mem::size_of::<JobRecord>();
 
-    /// A job record whose forty bytes are all different.
+    /// A job record whose 48 bytes are all different.
     fn distinct_bytes_job() -> JobRecord {
         JobRecord {
             threshold: 0x0807_0605_0403_0201,
             pending: 0x1817_1615_1413_1211,
-            mean: -0x0708_090a_0b0c_0d0e,
+            mean: -0x0708_090a_0b0c_0d0f,
             axes: 0x3433_3231,
             budget: 0x4443_4241,
             held: 0x5453_5251,
             reserved: 0x6463_6261,
+            carried: 0x7877_7675_7473_7271,
         }
     }
 
@@ -127,10 +132,11 @@ mod tests {
                     budget: rng.number() as u32,
                     held: rng.number() as u32,
                     reserved: rng.number() as u32,
+                    carried: rng.number(),
                 },
             };
             // No padding: the fields' sizes add up to the struct's.
-            assert_eq!(SIZE, 3 * 8 + 4 * 4);
+            assert_eq!(SIZE, 4 * 8 + 4 * 4);
             let bytes: [u8; SIZE] = unsafe { std::mem::transmute(job) };
             let words = job.words();
             let words: Vec<u8> = words.iter().flat_map(|word| word.to_ne_bytes()).collect();
@@ -149,7 +155,7 @@ mod tests {
             reserved: job.reserved,
             pending: job.pending,
             mean: job.mean,
-            carried: 0,
+            carried: job.carried,
         };
         assert_eq!(JobRecord::from(same), job);
     }

@@ -24,7 +24,7 @@ struct List {
     altered: bool,
     /// The sound area from before an alteration that broke it.
     kept: Option<Area>,
-    /// Set when the job is met or spent: a new one is due soon.
+    /// Set when the job is met, capped or spent: a new one is due soon.
     ended: bool,
 }
 

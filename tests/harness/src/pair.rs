@@ -117,7 +117,7 @@ mod tests {
         assert_eq!(pair().same_areas(), Ok(()));
         let Part { cells, store } = pair().whole();
         let mut changed = pair();
-        for word in 0..10 {
+        for word in 0..changed.library.job.len() {
             changed.library.job[word] ^= 1 << 31;
             assert!(changed.same_areas().is_err(), "job word {word}");
             changed.library.job[word] ^= 1 << 31;

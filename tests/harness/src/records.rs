@@ -256,6 +256,7 @@ fn job_words(job: &JobRecord) -> Vec<u32> {
     words.extend(wide(job.threshold));
     words.extend([job.budget, job.held, job.reserved]);
     words.extend(wide(job.pending));
+    words.extend(wide(job.carried));
     words.extend(wide(job.mean as u64));
     words
 }
@@ -300,7 +301,7 @@ fn printed(answer: &Answer) -> Vec<u64> {
         Answer::Totals(totals) => [0, totals.old.into(), totals.active.into()]
             .into_iter()
             .chain([totals.wanted.into(), totals.reserved.into(), totals.pending])
-            .chain([totals.mean as u64, totals.ceiling.into()])
+            .chain([totals.carried, totals.mean as u64, totals.ceiling.into()])
             .collect(),
         Answer::CrossTotal(total) => vec![0, *total as u64],
         Answer::Doubles(report) => [&[0], &report.bits()[..]].concat(),

@@ -17,13 +17,13 @@ fn before_the_first_delivery_the_scaled_mean_is_0() {
     for axes in 1..=8 {
         let mut lent = started(axes, 40, 64);
         assert!(calls::check_lent(&mut lent));
-        assert_eq!(counts(&mut lent), [0, 0, 0, 0, 0, 0, 1, 1, 0]);
+        assert_eq!(counts(&mut lent), [0, 0, 0, 0, 0, 0, 1, 1, 0, 0, 0]);
         assert_eq!(cross_total(&mut lent), 0);
     }
 }
 
 #[test]
-fn a_threshold_equal_to_the_pending_error_is_met() {
+fn a_threshold_equal_to_the_pending_error_is_met_with_nothing_carried() {
     let mut equal = started(2, 7, 64);
     deliver(&mut equal, &[5], 7);
     let before = equal.clone();
@@ -32,6 +32,42 @@ fn a_threshold_equal_to_the_pending_error_is_met() {
     let mut below = started(2, 6, 64);
     deliver(&mut below, &[5], 7);
     assert_eq!(promote(&mut below), PROMOTED);
+}
+
+/// One axis, its readings all 3 and its indicators all 10, refined up to level 8.
+fn refined_to_the_ceiling() -> Lent {
+    let mut lent = storage();
+    lent.store.resize(129, 0);
+    assert_eq!(calls::start(lent.all(), 1, 9, 129), 0);
+    for points in [1, 2, 2, 4, 8, 16, 32, 64] {
+        deliver(&mut lent, &vec![3; points], 10);
+        assert_eq!(promote(&mut lent), PROMOTED);
+    }
+    lent
+}
+
+#[test]
+fn a_job_whose_error_lies_at_a_ceiling_is_capped() {
+    let mut lent = refined_to_the_ceiling();
+    let before = lent.clone();
+    assert_eq!(promote(&mut lent), CAPPED);
+    assert!(lent == before, "capped changes nothing");
+    assert_eq!(lent.job[CARRIED..], [10, 0]);
+    assert_eq!(counts(&mut lent), [0, 0, 3 << 20, 0, 8, 0, 0, 129, 1, 10, 0]);
+}
+
+#[test]
+fn another_carried_error_is_not_sound() {
+    for (word, value) in [(CARRIED, 11), (CARRIED, 0), (CARRIED + 1, 1)] {
+        let mut lent = refined_to_the_ceiling();
+        lent.job[word] = value;
+        assert!(!calls::check_lent(&mut lent));
+        let others = [Call::Promote, Call::Result, Call::CrossTotal, Call::Doubles];
+        for call in [point(0), points(0), delivery(&[3])].into_iter().chain(others) {
+            refused(&mut lent, &call, 4);
+        }
+        accepted(&lent, &start(1, 129));
+    }
 }
 
 #[test]
@@ -48,7 +84,7 @@ fn with_two_axes_a_budget_of_5_is_not_spent_at_the_first_promotion() {
     let mut lent = started(2, 0, 5);
     deliver(&mut lent, &[5], 1);
     assert_eq!(promote(&mut lent), PROMOTED);
-    assert_eq!(counts(&mut lent)[4..], [1, 0, 2, 5, 0]);
+    assert_eq!(counts(&mut lent)[4..], [1, 0, 2, 5, 0, 0, 0]);
 }
 
 #[test]
@@ -74,7 +110,7 @@ fn the_example_job_is_met_with_its_counts_and_scaled_mean() {
     assert_eq!(outcome, MET);
     assert_eq!(entries.next(), None);
     let mean = 5_972_688_896u64;
-    assert_eq!(counts(&mut lent), [10, 0, mean as u32, (mean >> 32) as u32, 2, 2, 0, 7, 0]);
+    assert_eq!(counts(&mut lent), [10, 0, mean as u32, (mean >> 32) as u32, 2, 2, 0, 7, 0, 0, 0]);
     assert_eq!(cross_total(&mut lent), mean as i64);
     assert!(calls::check_lent(&mut lent));
 }

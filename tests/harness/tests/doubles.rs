@@ -60,7 +60,7 @@ fn one_axis(root: i32, ends: [i32; 2], indicator: u32) -> Lent {
 #[test]
 fn the_areas_by_name() {
     let cases = reports::cases();
-    assert_eq!(cases.len(), 29);
+    assert_eq!(cases.len(), 32);
     for Case { name, area, answer } in cases {
         let expected = match answer {
             Ok(report) => (0, report.bits()),

@@ -61,7 +61,7 @@ impl Deepest {
     fn calls_on(&mut self, area: &Area) {
         let mut lent = Lent::of(area);
         let axes = area.job.axes;
-        let (mut buffer, mut counts, mut total, mut outcome) = ([0; 8], [0; 9], [0; 2], [0]);
+        let (mut buffer, mut counts, mut total, mut outcome) = ([0; 8], [0; 11], [0; 2], [0]);
         let Lent { job, cells, store } = &mut lent;
         self.note("check", || {
             black_box(exported::check(job, cells, store));

@@ -10,15 +10,19 @@ use harness::doubles::Bits;
 use harness::lent::{Lent, Part};
 use reference::area::WORDS;
 use reference::call::Call;
+use wihupya_sys::JOB_WORDS;
 
 pub const MET: u32 = 0;
 pub const SPENT: u32 = 1;
 pub const PROMOTED: u32 = 2;
+pub const CAPPED: u32 = 3;
 pub const RECORDS: usize = 512;
 /// The place of the pending error's low word in the job words.
 pub const PENDING: usize = 2;
 /// The place of the scaled mean's low word.
 pub const MEAN: usize = 4;
+/// The place of the carried error's low word.
+pub const CARRIED: usize = 10;
 const MARK: u32 = 0xa5a5_a5a5;
 /// What lies in a buffer beforehand; no position is above 128.
 pub const MARKED_BYTE: u8 = 0xa5;
@@ -31,7 +35,7 @@ pub const MARKED_DOUBLES: Bits =
 /// Storage full of marks: 512 records, a part of another, a store of 100.
 pub fn storage() -> Lent {
     let cells = vec![MARK; RECORDS * WORDS + 5];
-    Lent { job: [MARK; 10], cells, store: vec![MARK as i32; 100] }
+    Lent { job: [MARK; JOB_WORDS], cells, store: vec![MARK as i32; 100] }
 }
 
 pub fn started(axes: u32, threshold: u64, budget: u32) -> Lent {
@@ -51,7 +55,7 @@ pub fn promote(lent: &mut Lent) -> u32 {
 }
 
 pub fn counts(lent: &mut Lent) -> CountWords {
-    let mut counts = [MARK; 9];
+    let mut counts = [MARK; 11];
     assert_eq!(calls::result(lent.all(), &mut counts), 0);
     counts
 }
@@ -127,7 +131,7 @@ fn slots(buffer: usize) -> Slots {
     Slots {
         points: [MARK; 2],
         outcome: [MARK],
-        counts: [MARK; 9],
+        counts: [MARK; 11],
         total: [MARK; 2],
         doubles: MARKED_DOUBLES,
         buffer: vec![MARKED_BYTE; buffer + BEHIND],
