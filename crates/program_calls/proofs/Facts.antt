@@ -25,7 +25,7 @@ use Rattle.calls.specs.Calls.{CallResult, callOn}
 use Rattle.calls.proofs.Accepted.{startable}
 use Rattle.calls.proofs.Rows.{start-accepts}
 use Rattle.published.specs.Figure.{Problem}
-use Rattle.published.specs.Turns.{SettingsMatch, ReadingValued, Supplied}
+use Rattle.published.specs.Turns.{SettingsMatch, Supplied}
 use Rattle.published.proofs.Moments.{start-course}
 use Rattle.history.specs.LentCalls.{LentCall}
 use Rattle.history.specs.Logged.{stateOf, answersBy}
@@ -45,7 +45,7 @@ use Rattle.running.specs.Report.{reportValuesOf, textIn, textOf}
 use Rattle.running.specs.Facts.{AllowedResult}
 use Rattle.running.proofs.Facts.{execution-facts}
 use Rattle.program_calls.specs.Calls.{ownPart, lent, startCall, laterCalls, programLog}
-use Rattle.program_calls.specs.Facts.{EndingAnswers, EndsBy, RefusedBy, ResultBy, LoopEnded, ProgramIsCalls, EndMet, EndCapped, EndSpent, EndShort, ProgramFacts}
+use Rattle.program_calls.specs.Facts.{EndingAnswers, EndsBy, RefusedBy, ResultBy, LoopEnded, Posed, ProgramIsCalls, PrintedEnd, EndMet, EndCapped, EndSpent, EndShort, ProgramFacts}
 use Rattle.program_calls.proofs.Answers.{start-taken, start-refused}
 use Rattle.program_calls.proofs.Steps.{agrees}
 use Rattle.program_calls.proofs.Endings.{only-ended, refused-start, right-form, start-accepts-it}
@@ -145,8 +145,7 @@ module _ (c : List ℕ) (right : formOf c ≡ formed) (none : startCause c ≡ 0
       → (P : Problem) → SettingsMatch (fileSettings c) P → Supplied P (programLog c .entries) → LoopEnded P c e m used (countOf 2 (programLog c .entries))
   ended-loop e m used which by = let x = ended-outcome e m used which by in loop-ended c fit follows e (x .0) m used by (x .1) (x .2) (x .3)
 
-  ended-posed : (e : Ending) (m : Machine) (used : ℕ) → (e ≡ met) ⊎ (e ≡ capped) → EndsBy c (steps.startLog g) 0 (laterCalls c) e m used
-      → (P : Problem) × SettingsMatch (fileSettings c) P × ReadingValued P × Supplied P (programLog c .entries)
+  ended-posed : (e : Ending) (m : Machine) (used : ℕ) → (e ≡ met) ⊎ (e ≡ capped) → EndsBy c (steps.startLog g) 0 (laterCalls c) e m used → Posed c
   ended-posed e m used which by = let x = ended-outcome e m used which by in ended-problem c fit follows e (x .0) m used by (x .1) (x .2) (x .3)
 
   pub is-calls : ProgramIsCalls c
@@ -170,79 +169,70 @@ refused-text c right f = ap (textIn (entryCount c)) (refused-start c right (ne-e
 
 -- ---- the last line
 
+-- whose execution then ends with that word
+printed-end : (c before : List ℕ) (e : Ending) → textOf c ≡ before ++ line endWord (endingWord e) → PrintedEnd c e
+printed-end c before e h =
+    let (m, used, is) = only-ended e (entryCount c) (resultOf c) before (unfold textOf in h) in
+    record { right = right-form c e m used is; starts = start-accepts-it c e m used is; state = m; used = used; result = is }
+
+module _ (c : List ℕ) (e : Ending) (p : PrintedEnd c e) where
+  by-end : EndsBy c (steps.startLog (fileSettings c)) 0 (laterCalls c) e (p .state) (p .used)
+  by-end = ends c (p .right) (p .starts) e (p .state) (p .used) (p .result)
+
+  fit-there : SettingsFit (fileSettings c)
+  fit-there = fit c (p .right) (p .starts)
+
+  follows-there : StepsFollow (programLog c)
+  follows-there = follows c (p .right) (p .starts)
+
 end-met : (c before : List ℕ) → textOf c ≡ before ++ line endWord (endingWord met) → EndMet c
-end-met c before e =
-    let (m, used, is) = only-ended met (entryCount c) (resultOf c) before (unfold textOf in e) in
-    let right = right-form c met m used is in
-    let none = start-accepts-it c met m used is in
-    let by = ends c right none met m used is in
-    let calls = is-calls c right none in
+end-met c before h =
+    let p = printed-end c before met h in
+    let by = by-end c met p in
+    let calls = is-calls c (p .right) (p .starts) in
     record {
-      right = right;
-      starts = none;
-      state = m;
-      used = used;
-      result = is;
+      printed = p;
       loop = λ P posed supplied. (
-        calls .loop-ended met m used (inl refl) is P posed supplied,
-        met-within c (fit c right none) (follows c right none) met rule.met m used by (inl refl) (by .answers .1) (by .answers .2) P posed supplied refl,
+        calls .loop-ended met (p .state) (p .used) (inl refl) (p .result) P posed supplied,
+        met-within c (fit-there c met p) (follows-there c met p) met rule.met (p .state) (p .used) by (inl refl) (by .answers .1) (by .answers .2) P posed supplied refl,
       );
-      problem = calls .problem met m used (inl refl) is;
+      problem = calls .problem met (p .state) (p .used) (inl refl) (p .result);
     }
 
 end-capped : (c before : List ℕ) → textOf c ≡ before ++ line endWord (endingWord capped) → EndCapped c
-end-capped c before e =
-    let (m, used, is) = only-ended capped (entryCount c) (resultOf c) before (unfold textOf in e) in
-    let right = right-form c capped m used is in
-    let none = start-accepts-it c capped m used is in
-    let by = ends c right none capped m used is in
-    let calls = is-calls c right none in
+end-capped c before h =
+    let p = printed-end c before capped h in
+    let by = by-end c capped p in
+    let calls = is-calls c (p .right) (p .starts) in
     record {
-      right = right;
-      starts = none;
-      state = m;
-      used = used;
-      result = is;
+      printed = p;
       loop = λ P posed supplied. (
-        calls .loop-ended capped m used (inr refl) is P posed supplied,
-        capped-above c (fit c right none) (follows c right none) capped rule.capped m used by (inr refl) (by .answers .1) (by .answers .2) P posed supplied refl,
+        calls .loop-ended capped (p .state) (p .used) (inr refl) (p .result) P posed supplied,
+        capped-above c (fit-there c capped p) (follows-there c capped p) capped rule.capped (p .state) (p .used) by (inr refl) (by .answers .1) (by .answers .2) P posed supplied refl,
       );
-      problem = calls .problem capped m used (inr refl) is;
+      problem = calls .problem capped (p .state) (p .used) (inr refl) (p .result);
     }
 
 end-spent : (c before : List ℕ) → textOf c ≡ before ++ line endWord (endingWord spent) → EndSpent c
-end-spent c before e =
-    let (m, used, is) = only-ended spent (entryCount c) (resultOf c) before (unfold textOf in e) in
-    let right = right-form c spent m used is in
-    let none = start-accepts-it c spent m used is in
-    let by = ends c right none spent m used is in
+end-spent c before h =
+    let p = printed-end c before spent h in
     record {
-      right = right;
-      starts = none;
-      state = m;
-      used = used;
-      result = is;
-      loop = loop-spent c (fit c right none) (follows c right none) m used by;
-      problem = spent-problem c (fit c right none) (follows c right none) m used by;
+      printed = p;
+      loop = loop-spent c (fit-there c spent p) (follows-there c spent p) (p .state) (p .used) (by-end c spent p);
+      problem = spent-problem c (fit-there c spent p) (follows-there c spent p) (p .state) (p .used) (by-end c spent p);
     }
 
 end-short : (c before : List ℕ) → textOf c ≡ before ++ line endWord (endingWord short) → EndShort c
-end-short c before e =
-    let (m, used, is) = only-ended short (entryCount c) (resultOf c) before (unfold textOf in e) in
-    let right = right-form c short m used is in
-    let none = start-accepts-it c short m used is in
-    let by = ends c right none short m used is in
-    let most = subst (AllowedResult (entryCount c)) is (execution-facts .well-formed c right) .1 in
+end-short c before h =
+    let p = printed-end c before short h in
+    let by = by-end c short p in
+    let most = subst (AllowedResult (entryCount c)) (p .result) (execution-facts .well-formed c (p .right)) .1 in
     record {
-      right = right;
-      starts = none;
-      state = m;
-      used = used;
-      result = is;
+      printed = p;
       exhausted = omega (arith, by .answers .2, most);
-      wanted = still-wanted c (fit c right none) (follows c right none) m used by;
-      loop = loop-short c (fit c right none) (follows c right none) m used by;
-      problem = short-problem c (fit c right none) (follows c right none) m used by;
+      wanted = still-wanted c (fit-there c short p) (follows-there c short p) (p .state) (p .used) by;
+      loop = loop-short c (fit-there c short p) (follows-there c short p) (p .state) (p .used) by;
+      problem = short-problem c (fit-there c short p) (follows-there c short p) (p .state) (p .used) by;
     }
 
 pub program-facts : ProgramFacts

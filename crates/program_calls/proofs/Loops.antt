@@ -33,7 +33,7 @@ use Rattle.reporting.specs.Text.{Ending, spent, short}
 use Rattle.running.specs.Execution.{fileSettings}
 use Rattle.running.specs.Report.{reportValuesOf}
 use Rattle.program_calls.specs.Calls.{ownLent, laterCalls, programLog}
-use Rattle.program_calls.specs.Facts.{EndsBy, LoopEnded, WithinTolerance, LoopSpent, LoopShort}
+use Rattle.program_calls.specs.Facts.{EndsBy, LoopEnded, WithinTolerance, LoopSpent, LoopShort, Posed}
 use Rattle.program_calls.proofs.Answers.{promote-answer}
 
 module _ (c : List ℕ) (fit : SettingsFit (fileSettings c)) (follows : StepsFollow (programLog c)) where
@@ -82,7 +82,7 @@ module _ (c : List ℕ) (fit : SettingsFit (fileSettings c)) (follows : StepsFol
       there : (P : Problem) → SettingsMatch (fileSettings c) P → Supplied P (programLog c .entries) → Follows P (programLog c) made
       there P posed supplied = follows .every P (posed-here P posed) supplied
 
-      posed-problem : (P : Problem) × SettingsMatch (fileSettings c) P × ReadingValued P × Supplied P (programLog c .entries)
+      posed-problem : Posed c
       posed-problem =
           let x = follows .some (λ q. let clash : true ≡ false = sym q ∙ free in let z : _≡_ {A = ℕ} 0 1 = cc in omega arith) in
           (x .0, subst (λ s. SettingsMatch s (x .0)) settings-are (x .1), x .2, x .3)
@@ -115,7 +115,7 @@ module _ (c : List ℕ) (fit : SettingsFit (fileSettings c)) (follows : StepsFol
         over-by true q = absurd (goes q ended-by)
         over-by false q = q
 
-    pub ended-problem : (P : Problem) × SettingsMatch (fileSettings c) P × ReadingValued P × Supplied P (programLog c .entries)
+    pub ended-problem : Posed c
     ended-problem = posed-problem e m used ends o none is
 
     -- η and carried together, as the outcome says
@@ -152,7 +152,7 @@ module _ (c : List ℕ) (fit : SettingsFit (fileSettings c)) (follows : StepsFol
         why : (loopCondition P (turns P made) ≡ true) × ExceedsLimits (programLog c .settings .budget) (turns P (suc made))
         why = here .spent-only ownLent (again spent m used ends rule.spent (ends .answers .1) (ends .answers .2))
 
-    pub spent-problem : (P : Problem) × SettingsMatch (fileSettings c) P × ReadingValued P × Supplied P (programLog c .entries)
+    pub spent-problem : Posed c
     spent-problem = posed-problem spent m used ends rule.spent (ends .answers .1) (ends .answers .2)
 
   -- ---- short

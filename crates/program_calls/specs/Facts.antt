@@ -133,6 +133,10 @@ pub record LoopShort (P : Problem) (c : List ℕ) (m : Machine) (used n : ℕ) :
 
 -- ---- the program
 
+-- There is a problem that gives the file's readings and indicators.
+abbrev pub Posed : List ℕ → Type 0
+Posed c = (P : Problem) × SettingsMatch (fileSettings c) P × ReadingValued P × Supplied P (programLog c .entries)
+
 -- Of a file of the right form that start accepts:
 pub record ProgramIsCalls (c : List ℕ) : Type 0 where
   -- start is accepted, whatever the log was
@@ -153,63 +157,51 @@ pub record ProgramIsCalls (c : List ℕ) : Type 0 where
   -- there is one
   pub loop-ended : (e : Ending) (m : Machine) (used : ℕ) → (e ≡ met) ⊎ (e ≡ capped) → resultOf c ≡ ended e m used → (P : Problem) → SettingsMatch (fileSettings c) P
       → Supplied P (programLog c .entries) → LoopEnded P c e m used (countOf 2 (programLog c .entries))
-  pub problem : (e : Ending) (m : Machine) (used : ℕ) → (e ≡ met) ⊎ (e ≡ capped) → resultOf c ≡ ended e m used
-      → (P : Problem) × SettingsMatch (fileSettings c) P × ReadingValued P × Supplied P (programLog c .entries)
+  pub problem : (e : Ending) (m : Machine) (used : ℕ) → (e ≡ met) ⊎ (e ≡ capped) → resultOf c ≡ ended e m used → Posed c
 
--- Of every list of bytes whose text has `end met` as its last line:
-pub record EndMet (c : List ℕ) : Type 0 where
-  -- it is a file of the right form that start accepts, and its execution ends *met*, with a state and so many entries used
+-- Of every list of bytes whose text has the word of e in its last line: it is a file of the right form that start accepts, and its execution
+-- ends so, with a state and so many entries used.
+pub record PrintedEnd (c : List ℕ) (e : Ending) : Type 0 where
   pub right : formOf c ≡ formed
   pub starts : startCause c ≡ 0
   pub state : Machine
   pub used : ℕ
-  pub result : resultOf c ≡ ended met state used
+  pub result : resultOf c ≡ ended e state used
+
+-- Where the last line is `end met`:
+pub record EndMet (c : List ℕ) : Type 0 where
+  pub printed : PrintedEnd c met
   -- the loop of Fig. 1 has ended, `scaled` is its r, and η and carried together are at most TOL, for every problem that gives the file's
   -- readings and indicators; there is one
   pub loop : (P : Problem) → SettingsMatch (fileSettings c) P → Supplied P (programLog c .entries)
-      → LoopEnded P c met state used (countOf 2 (programLog c .entries)) × WithinTolerance P (countOf 2 (programLog c .entries))
-  pub problem : (P : Problem) × SettingsMatch (fileSettings c) P × ReadingValued P × Supplied P (programLog c .entries)
+      → LoopEnded P c met (printed .state) (printed .used) (countOf 2 (programLog c .entries)) × WithinTolerance P (countOf 2 (programLog c .entries))
+  pub problem : Posed c
 
--- Of every list of bytes whose text has `end capped` as its last line:
+-- Where it is `end capped`:
 pub record EndCapped (c : List ℕ) : Type 0 where
-  -- it is a file of the right form that start accepts, and its execution ends *capped*
-  pub right : formOf c ≡ formed
-  pub starts : startCause c ≡ 0
-  pub state : Machine
-  pub used : ℕ
-  pub result : resultOf c ≡ ended capped state used
-  -- the loop of Fig. 1 has ended, `scaled` is its r, and η and carried together are above TOL, for every problem that gives the file's readings
-  -- and indicators; there is one
+  pub printed : PrintedEnd c capped
+  -- the loop of Fig. 1 has ended, `scaled` is its r, and η and carried together are above TOL
   pub loop : (P : Problem) → SettingsMatch (fileSettings c) P → Supplied P (programLog c .entries)
-      → LoopEnded P c capped state used (countOf 2 (programLog c .entries)) × (WithinTolerance P (countOf 2 (programLog c .entries)) → ⊥)
-  pub problem : (P : Problem) × SettingsMatch (fileSettings c) P × ReadingValued P × Supplied P (programLog c .entries)
+      → LoopEnded P c capped (printed .state) (printed .used) (countOf 2 (programLog c .entries)) × (WithinTolerance P (countOf 2 (programLog c .entries)) → ⊥)
+  pub problem : Posed c
 
--- Of every list of bytes whose text has `end spent` as its last line:
+-- Where it is `end spent`:
 pub record EndSpent (c : List ℕ) : Type 0 where
-  -- it is a file of the right form that start accepts, and its execution ends *spent*
-  pub right : formOf c ≡ formed
-  pub starts : startCause c ≡ 0
-  pub state : Machine
-  pub used : ℕ
-  pub result : resultOf c ≡ ended spent state used
-  -- the loop of Fig. 1 has not ended, and its next turn would pass the limits, for every problem that gives the file's readings and indicators;
-  -- there is one
-  pub loop : (P : Problem) → SettingsMatch (fileSettings c) P → Supplied P (programLog c .entries) → LoopSpent P c state used (countOf 2 (programLog c .entries))
-  pub problem : (P : Problem) × SettingsMatch (fileSettings c) P × ReadingValued P × Supplied P (programLog c .entries)
+  pub printed : PrintedEnd c spent
+  -- the loop of Fig. 1 has not ended, and its next turn would pass the limits
+  pub loop : (P : Problem) → SettingsMatch (fileSettings c) P → Supplied P (programLog c .entries)
+      → LoopSpent P c (printed .state) (printed .used) (countOf 2 (programLog c .entries))
+  pub problem : Posed c
 
--- Of every list of bytes whose text has `end short` as its last line:
+-- Where it is `end short`:
 pub record EndShort (c : List ℕ) : Type 0 where
-  -- it is a file of the right form that start accepts, and its execution ends *short*
-  pub right : formOf c ≡ formed
-  pub starts : startCause c ≡ 0
-  pub state : Machine
-  pub used : ℕ
-  pub result : resultOf c ≡ ended short state used
+  pub printed : PrintedEnd c short
   -- entries exhausted, block wanted
-  pub exhausted : used ≡ entryCount c
+  pub exhausted : printed .used ≡ entryCount c
   pub wanted : anyWanted (programLog c .entries) ≡ true
   -- the log follows Fig. 1 but for what is wanted, for every problem that gives the readings and indicators delivered; there is one
-  pub loop : (P : Problem) → SettingsMatch (fileSettings c) P → SuppliedSoFar P (programLog c .entries) → LoopShort P c state used (countOf 2 (programLog c .entries))
+  pub loop : (P : Problem) → SettingsMatch (fileSettings c) P → SuppliedSoFar P (programLog c .entries)
+      → LoopShort P c (printed .state) (printed .used) (countOf 2 (programLog c .entries))
   pub problem : (P : Problem) × SettingsMatch (fileSettings c) P × ReadingValued P × SuppliedSoFar P (programLog c .entries)
 
 pub record ProgramFacts : Type 0 where
