@@ -8,6 +8,7 @@ use crate::rng::Rng;
 use crate::sums::DIFFERENCE_LIMIT;
 
 mod carried;
+mod choosing;
 mod held;
 mod near_misses;
 
@@ -17,7 +18,7 @@ type Change = fn(&mut Area, &mut Rng) -> Option<String>;
 
 /// Every kind of change; each says what it did, or nothing if it cannot be
 /// made in this area.
-const CHANGES: [Change; 42] = [
+const CHANGES: [Change; 48] = [
     job_field,
     record_word,
     record_word,
@@ -60,6 +61,12 @@ const CHANGES: [Change; 42] = [
     carried::threshold_near,
     carried::carry_all,
     carried::take_back,
+    choosing::deliver_all,
+    choosing::deliver_all,
+    choosing::equal_indicators,
+    choosing::equal_indicators,
+    choosing::budget_of_a_promotion,
+    choosing::budget_of_a_promotion,
 ];
 
 /// Alters the area in one to three places and says how.

@@ -2,7 +2,7 @@
 //! can be made, performed and predicted.
 
 use crate::area::Area;
-use crate::calls::{self, Cause, PointCounts, Promotion, Totals};
+use crate::calls::{self, Cause, Choice, PointCounts, Promotion, Totals};
 use crate::doubles::Report;
 
 #[derive(Clone, Debug, PartialEq, Eq)]
@@ -11,7 +11,8 @@ pub enum Call {
     Point { n: u64, buffer: usize },
     Points { n: u64, buffer: usize },
     Deliver { readings: Vec<i32>, indicator: u32 },
-    Promote,
+    Choose,
+    Promote { place: u64 },
     Result,
     CrossTotal,
     Doubles,
@@ -29,6 +30,7 @@ pub enum Answer {
         positions: Vec<u8>,
     },
     Delivered,
+    Choice(Choice),
     Promotion(Promotion),
     Totals(Totals),
     CrossTotal(i64),
@@ -51,7 +53,8 @@ impl Call {
             Call::Point { .. } => "point",
             Call::Points { .. } => "points",
             Call::Deliver { .. } => "deliver",
-            Call::Promote => "promote",
+            Call::Choose => "choose",
+            Call::Promote { .. } => "promote",
             Call::Result => "result",
             Call::CrossTotal => "cross total",
             Call::Doubles => "doubles",
@@ -93,7 +96,8 @@ pub fn perform(area: &mut Area, call: &Call, buffer: &mut [u8]) -> Answer {
         Call::Deliver { readings, indicator } => {
             answer(calls::deliver(area, readings, *indicator), |()| Answer::Delivered)
         }
-        Call::Promote => answer(calls::promote(area), Answer::Promotion),
+        Call::Choose => answer(calls::choose(area), Answer::Choice),
+        Call::Promote { place } => answer(calls::promote(area, *place), Answer::Promotion),
         Call::Result => answer(calls::result(area), Answer::Totals),
         Call::CrossTotal => answer(calls::cross_total(area), Answer::CrossTotal),
         Call::Doubles => answer(calls::doubles(area), Answer::Doubles),

@@ -1,5 +1,5 @@
-//! The nine calls on a lent area. The storage lent is as long as the area's
-//! lists of records and readings.
+//! The ten calls on a lent area. The storage lent is as long as the area's
+//! lists of records and readings. Choose and promote have a file of their own.
 //!
 //! Causes are tested in the order of the scope document's table, each in its
 //! own case and no other; a refused call changes nothing; every call is total
@@ -10,6 +10,10 @@ use crate::doubles::{ExactReport, Report};
 use crate::grid::{self, Levels, Point, BUDGET_LIMIT, HELD_LIMIT, MOST_AXES, ROOT};
 use crate::soundness;
 use crate::sums::{self, Readings};
+
+mod promotion;
+
+pub use promotion::{choose, limits_passed, promote, Choice, Promotion};
 
 /// The causes of a refusal; their numbers are those of the table.
 #[derive(Clone, Copy, Debug, PartialEq, Eq, Hash, PartialOrd, Ord)]
@@ -24,22 +28,13 @@ pub enum Cause {
     ReadingOutOfRange = 8,
     PointNumberTooLarge = 9,
     JobFileMalformed = 10,
+    PlaceNotActive = 11,
 }
 
 impl Cause {
     pub fn number(self) -> u32 {
         self as u32
     }
-}
-
-#[derive(Clone, Copy, Debug, PartialEq, Eq, Hash, PartialOrd, Ord)]
-pub enum Promotion {
-    Met,
-    Spent,
-    Promoted,
-    /// The pending error is at most the threshold, but not together with the
-    /// carried error.
-    Capped,
 }
 
 /// What points answers.
@@ -180,86 +175,6 @@ pub fn deliver(area: &mut Area, readings: &[i32], indicator: u32) -> Result<(), 
     Ok(())
 }
 
-/// "It selects the active index of largest indicator, the lowest place among
-/// equals."
-fn select(area: &Area) -> Option<usize> {
-    let mut best: Option<usize> = None;
-    for (place, record) in area.held().iter().enumerate() {
-        let larger = best.is_none_or(|b| record.indicator > area.records[b].indicator);
-        if record.state == ACTIVE && larger {
-            best = Some(place);
-        }
-    }
-    best
-}
-
-/// "It then goes through axes 1 to d: a forward neighbour within the ceilings
-/// is admitted if all its own backward neighbours are old, the selected one
-/// now included; the scan leaves it for the next axis at the first that is
-/// not."
-fn admit(area: &Area, selected: usize) -> Vec<Levels> {
-    let axes = area.job.axes as usize;
-    let held = area.held();
-    let mut admitted = Vec::new();
-    'axes: for axis in 0..axes {
-        let Some(neighbour) = grid::forward_neighbour(&held[selected].levels, axis) else {
-            continue;
-        };
-        if !grid::within_ceilings(&neighbour) {
-            continue;
-        }
-        for other in 0..axes {
-            let Some(backward) = grid::backward_neighbour(&neighbour, other) else {
-                continue;
-            };
-            let old = held.iter().enumerate().any(|(place, record)| {
-                record.levels == backward && (record.state == OLD || place == selected)
-            });
-            if !old {
-                continue 'axes;
-            }
-        }
-        admitted.push(neighbour);
-    }
-    admitted
-}
-
-/// Appends an admitted index, wanted, and links it with its neighbours.
-fn append(area: &mut Area, levels: Levels) {
-    let place = area.job.held as usize;
-    let mut record = IndexRecord::wanted(levels, area.job.reserved);
-    for axis in 0..area.job.axes as usize {
-        // Only backward neighbours can be held: a held forward neighbour would
-        // ask for this index to be old.
-        let Some(backward) = grid::backward_neighbour(&levels, axis) else {
-            continue;
-        };
-        let neighbour = area.held().iter().position(|held| held.levels == backward);
-        let neighbour = neighbour.expect("an admitted index has its backward neighbours held");
-        record.backward[axis] = neighbour as u32;
-        area.records[neighbour].forward[axis] = place as u32;
-    }
-    area.records[place] = record;
-    area.job.held += 1;
-    area.job.reserved += grid::block_size(&levels) as u32;
-}
-
-/// Whether the admitted would bring the held above 512, and whether they would
-/// bring the reserved readings above the budget.
-fn past_limits(area: &Area, admitted: &[Levels]) -> (bool, bool) {
-    let held = area.job.held as usize + admitted.len();
-    let sizes: u64 = admitted.iter().map(|levels| grid::block_size(levels) as u64).sum();
-    let reserved = u64::from(area.job.reserved) + sizes;
-    (held > HELD_LIMIT, reserved > u64::from(area.job.budget))
-}
-
-/// Which of the two limits made a promote answer spent, for counts of what was
-/// seen. In a sound area with an active index.
-pub fn limits_passed(area: &Area) -> (bool, bool) {
-    let selected = select(area).expect("a spent promote has selected an index");
-    past_limits(area, &admit(area, selected))
-}
-
 /// How many of an index's forward neighbours pass a ceiling.
 fn past_ceilings(axes: usize, levels: &Levels) -> u32 {
     let passes = |axis: &usize| {
@@ -267,43 +182,6 @@ fn past_ceilings(axes: usize, levels: &Levels) -> u32 {
         !neighbour.is_some_and(|index| grid::within_ceilings(&index))
     };
     (0..axes).filter(passes).count() as u32
-}
-
-/// Where the pending error is at most the threshold: "met exactly if pending and
-/// carried together are at most the threshold, and otherwise capped".
-fn ending(job: &JobRecord) -> Promotion {
-    // Each sums at most 512 indicators of 32 bits.
-    match job.pending + job.carried <= job.threshold {
-        true => Promotion::Met,
-        false => Promotion::Capped,
-    }
-}
-
-/// Promote: met or capped, spent, or promoted. What a promoted index takes out of
-/// the pending error it carries if it is at a ceiling.
-pub fn promote(area: &mut Area) -> Result<Promotion, Cause> {
-    refuse_storage_or_area(area)?;
-    if first_wanted(area).is_some() {
-        return Err(Cause::BlockWanted);
-    }
-    if area.job.pending <= area.job.threshold {
-        return Ok(ending(&area.job));
-    }
-    let selected = select(area).expect("a pending error above 0 comes from an active index");
-    let admitted = admit(area, selected);
-    if past_limits(area, &admitted) != (false, false) {
-        return Ok(Promotion::Spent);
-    }
-    let IndexRecord { levels, indicator, .. } = area.records[selected];
-    area.records[selected].state = OLD;
-    area.job.pending -= u64::from(indicator);
-    if past_ceilings(area.job.axes as usize, &levels) > 0 {
-        area.job.carried += u64::from(indicator);
-    }
-    for levels in admitted {
-        append(area, levels);
-    }
-    Ok(Promotion::Promoted)
 }
 
 /// Result: the counts, the recorded pending error, carried error and mean, and

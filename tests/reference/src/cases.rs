@@ -2,12 +2,11 @@
 //! that its sentences ask for, written by hand.
 
 use crate::call::{Answer, Call};
-use crate::calls::Promotion;
 use crate::examples::scope_job;
 use crate::grid::{self, READING_LIMIT, ROOT};
 use crate::jobfile::{self, Entry, JobFile};
 use crate::log::Log;
-use crate::replay::LENT;
+use crate::replay::{self, LENT};
 
 pub struct Case {
     pub name: &'static str,
@@ -125,7 +124,7 @@ fn up_to(levels: [u32; 2], budget: u32, indicator: u32) -> Vec<u8> {
     loop {
         let job = log.job.as_ref().expect("the start was accepted");
         let Some(wanted) = job.first_wanted() else {
-            if log.expect(&Call::Promote, LENT) == Answer::Promotion(Promotion::Promoted) {
+            if replay::choose_and_promote(&mut log).is_none() {
                 continue;
             }
             return jobfile::write(&JobFile { axes: 2, budget, threshold: 9, entries });

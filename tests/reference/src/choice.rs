@@ -1,12 +1,16 @@
 //! The calls of random lists: what a job is meant to become, and calls
 //! that advance it, leave it as it is, or are to be refused. A choice needs to
-//! know the first wanted block and no more, so that lists on any area, altered
-//! ones included, can use it.
+//! know the first wanted block and which state is at which place and no more, so
+//! that lists on any area, altered ones included, can use it.
 
+use crate::area::Area;
 use crate::call::Call;
+use crate::calls;
 use crate::corner::{self, Corner};
 use crate::generate::ceiling_target;
-use crate::grid::{self, Levels, BUDGET_LIMIT, READING_LIMIT};
+use crate::grid::{self, Levels, BUDGET_LIMIT, MOST_AXES, READING_LIMIT};
+use crate::log::Job;
+use crate::places::Places;
 use crate::rng::Rng;
 use crate::style::{self, IndicatorStyle, ReadingStyle};
 
@@ -22,6 +26,11 @@ pub struct Parameters {
     pub readings: ReadingStyle,
     /// How many of a hundred calls carry the job on.
     pub steps: u64,
+    /// How many of a hundred promotes go to any active place and not to the one of
+    /// largest indicator.
+    pub own_way: u64,
+    /// Whether the job goes on where choose answers met or capped.
+    pub past_the_end: bool,
 }
 
 /// A block to be delivered, with the number of axes of its job.
@@ -31,7 +40,24 @@ pub struct Block {
     pub levels: Levels,
 }
 
-/// Chooses calls; they depend on the seed and on the blocks asked about.
+impl Block {
+    /// The log's first wanted block.
+    pub fn of_job(job: &Job) -> Option<Block> {
+        let wanted = job.first_wanted()?;
+        Some(Block { axes: job.axes, levels: job.entries[wanted].levels })
+    }
+
+    /// The first wanted block of any area. An altered one may name an index that has
+    /// no block; then there is none.
+    pub fn of_area(area: &Area) -> Option<Block> {
+        let levels = area.records[calls::first_wanted(area)?].levels;
+        let axes = area.job.axes as usize;
+        let has_block = (1..=MOST_AXES).contains(&axes) && grid::within_ceilings(&levels);
+        has_block.then_some(Block { axes, levels })
+    }
+}
+
+/// Chooses calls; they depend on the seed and on the blocks and places asked about.
 pub struct Chooser {
     pub rng: Rng,
     pub parameters: Parameters,
@@ -56,14 +82,26 @@ impl Parameters {
                 self.budget = BUDGET_LIMIT;
             }
         }
-        // A job meant to grow isn't cut off by its threshold or by many calls that do not advance it.
+        // A job meant to grow isn't cut off by its threshold or by many calls that do not
+        // advance it, mostly grows as the rule has it, and ends where that ends.
         self.threshold = 0;
         self.steps = 95;
+        self.own_way = rng.pick(&[0, 0, 3]);
+        self.past_the_end = false;
     }
 
     fn turn_to(&mut self, corner: Corner) {
         let Corner { indicators, threshold, budget } = corner;
         (self.indicators, self.threshold, self.budget) = (indicators, threshold, budget);
+        self.own_way = self.own_way.min(10);
+    }
+
+    /// A job toward a corner that goes on past its end: where it is capped, or where
+    /// it is met all the same under a threshold that takes what is carried.
+    fn turn_past(&mut self, corner: Corner, rng: &mut Rng) {
+        self.turn_to(corner);
+        self.threshold = rng.pick(&[self.threshold, 200, 1_000, 1 << 40, u64::MAX]);
+        self.past_the_end = true;
     }
 }
 
@@ -77,6 +115,8 @@ pub fn random_parameters(rng: &mut Rng) -> Parameters {
         indicators: style::any_indicator_style(rng, axes),
         readings,
         steps: rng.pick(&[40, 60, 80]),
+        own_way: rng.pick(&[0, 0, 0, 10, 50, 100]),
+        past_the_end: rng.percent(25),
     };
     match rng.below(900) {
         which @ 0..=2 => parameters.grow(which, rng),
@@ -87,6 +127,7 @@ pub fn random_parameters(rng: &mut Rng) -> Parameters {
             parameters.steps = 95;
         }
         15..=74 => parameters.turn_to(corner::of_level(rng, axes)),
+        75..=104 => parameters.turn_past(corner::of_level(rng, axes), rng),
         _ => {}
     }
     parameters
@@ -181,14 +222,40 @@ impl Chooser {
         Call::Points { n, buffer }
     }
 
-    /// The call that carries the job on: the wanted block, or a promote.
-    pub fn carry_on(&mut self, wanted: Option<Block>) -> Call {
+    /// The call that carries the job on: the wanted block, or a promote, or at times
+    /// and at the job's end a choose.
+    pub fn carry_on(&mut self, wanted: Option<Block>, places: &Places) -> Call {
         let Some(Block { axes, levels }) = wanted else {
-            return Call::Promote;
+            let ended = places.active.is_empty() || places.chosen().is_none();
+            let asks = match ended && !self.parameters.past_the_end {
+                true => 90,
+                false => 20,
+            };
+            return match self.rng.percent(asks) {
+                true => Call::Choose,
+                false => self.promote(places),
+            };
         };
         let indicator = style::indicator(self.parameters.indicators, &mut self.rng, &levels);
         let readings = style::readings(self.parameters.readings, &mut self.rng, axes, &levels);
         Call::Deliver { readings, indicator }
+    }
+
+    /// A promote of an active index, mostly the one of largest indicator; of any
+    /// place where none is active.
+    pub fn promote(&mut self, places: &Places) -> Call {
+        let own_way = self.rng.percent(self.parameters.own_way);
+        let place = match places.largest {
+            None => places.any(&mut self.rng),
+            Some(_) if own_way => self.rng.pick(&places.active),
+            Some(largest) => largest,
+        };
+        Call::Promote { place }
+    }
+
+    /// A promote of any place, which is mostly not that of an active index.
+    pub fn damaged_promote(&mut self, places: &Places) -> Call {
+        Call::Promote { place: places.any(&mut self.rng) }
     }
 
     /// A delivery with a wrong count, a reading out of range, or both; none of

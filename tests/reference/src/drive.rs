@@ -1,29 +1,39 @@
 //! Random lists of calls on one area by seed. After every call the area and
-//! the answer are held against the log, and what must not change is compared
-//! with what was there before.
+//! the answer are held against the log and against Fig. 1, and what must not change
+//! is compared with what was there before.
 
 use crate::area::{Area, IndexRecord, JobRecord, WORDS};
+use crate::beside::Beside;
 use crate::call::{self, Answer, Call, Lengths};
-use crate::calls::{self, PointCounts, Promotion};
+use crate::calls::{self, Choice, Promotion};
 use crate::choice::{Block, Chooser};
 use crate::demand;
 use crate::grid::{self, BUDGET_LIMIT};
 use crate::laws;
 use crate::log::Log;
+use crate::places::Places;
 use crate::promotes;
 use crate::rng::Rng;
-use crate::sums::SCALE;
 use std::collections::BTreeMap;
+
+mod notes;
 
 /// How often each thing was seen, by name.
 pub type Counts = BTreeMap<String, u64>;
+
+/// So many calls of one list see everything that is due.
+pub const ENOUGH: u64 = 40_000;
 
 struct Driver {
     chooser: Chooser,
     area: Area,
     log: Log,
+    beside: Beside,
     /// Set when the job is met, capped or spent: a new one is due soon.
     ended: bool,
+    /// Whether each index made old since the last accepted start was the one that
+    /// choose would have answered.
+    by_rule: bool,
     log_changes: u64,
     counts: Counts,
 }
@@ -33,12 +43,25 @@ pub fn drive(seed: u64, calls: u64) -> Counts {
     let mut rng = Rng::new(seed);
     let area = garbage_area(&mut rng);
     let chooser = Chooser::new(rng);
-    let (log, counts) = (Log::default(), Counts::new());
-    let mut driver = Driver { chooser, area, log, ended: false, log_changes: 0, counts };
+    let mut driver = Driver {
+        chooser,
+        area,
+        log: Log::default(),
+        beside: Beside::default(),
+        ended: false,
+        by_rule: true,
+        log_changes: 0,
+        counts: Counts::new(),
+    };
     for _ in 0..calls {
         driver.step();
     }
     driver.counts
+}
+
+/// What a long list has to see of choose and promote and didn't.
+pub fn missing(counts: &Counts) -> Vec<&'static str> {
+    promotes::DUE.into_iter().filter(|what| !counts.contains_key(*what)).collect()
 }
 
 /// Storage as it may be found: of sufficient length and full of anything.
@@ -61,19 +84,11 @@ fn garbage_area(rng: &mut Rng) -> Area {
 }
 
 impl Driver {
-    fn count(&mut self, what: String) {
-        *self.counts.entry(what).or_insert(0) += 1;
-    }
-
-    fn highest(&mut self, what: &str, value: u64) {
-        let slot = self.counts.entry(format!("highest {what}")).or_insert(0);
-        *slot = value.max(*slot);
-    }
-
     fn step(&mut self) {
-        let call = self.choose();
+        let call = self.next_call();
         let lengths = self.lend(&call);
-        self.note_plan(&call, lengths);
+        self.note_names(&call, lengths);
+        let choice = self.choice();
         let before = self.area.clone();
         let held_before = self.log.job.as_ref().map(|job| job.entries.len());
         let expected = self.log.expect(&call, lengths);
@@ -85,8 +100,10 @@ impl Driver {
             .map(|_| self.chooser.rng.number() as u8)
             .collect();
         let mut buffer = buffer_before.clone();
-        if call == Call::Promote {
-            laws::assert_promote(&self.area);
+        match call {
+            Call::Choose => laws::assert_choose(&self.area),
+            Call::Promote { place } => laws::assert_promote(&self.area, place),
+            _ => {}
         }
         let answer = call::perform(&mut self.area, &call, &mut buffer);
         match call {
@@ -106,7 +123,15 @@ impl Driver {
         self.assert_buffer(&answer, &buffer_before, &buffer);
         let changed = self.assert_untouched(&call, &answer, &before, held_before);
         self.assert_demand(changed);
+        self.assert_figure(&call, &answer, changed);
+        self.assert_not_met(&call, &answer, choice);
         self.note_answer(&call, &answer);
+    }
+
+    /// What choose would answer by the log, where nothing is wanted.
+    fn choice(&self) -> Option<Choice> {
+        let job = self.log.job.as_ref()?;
+        job.first_wanted().is_none().then(|| job.choice())
     }
 
     /// The buffer begins with the positions of the points written; all else in
@@ -171,102 +196,34 @@ impl Driver {
         }
     }
 
-    /// Which limit a spent promote passes, and the rest, is known only to the log.
-    fn note_plan(&mut self, call: &Call, lengths: Lengths) {
+    /// Fig. 1 after every call, the whole of it at times, and what choose answers
+    /// wherever nothing is wanted any more.
+    fn assert_figure(&mut self, call: &Call, answer: &Answer, changed: bool) {
         let Some(job) = self.log.job.as_ref() else {
             return;
         };
-        let refused = job.first_wanted().is_some()
-            || lengths.records < 512
-            || lengths.store < job.budget as usize;
-        if *call != Call::Promote || refused {
-            return;
+        self.beside.follow(call, answer, job);
+        self.beside.assert_same(&self.area);
+        if changed && job.first_wanted().is_none() {
+            assert_eq!(calls::choose(&self.area), Ok(job.choice()), "choose");
+            self.beside.assert_choice(job.choice(), job);
         }
-        for name in promotes::names(job) {
-            self.count(format!("promote {name}"));
+        if changed && self.log_changes.is_multiple_of(20) {
+            self.beside.assert_led(job);
         }
     }
 
-    fn note_answer(&mut self, call: &Call, answer: &Answer) {
-        let name = call.name();
-        self.count(format!("call {name}"));
-        match answer {
-            Answer::Refused(cause) => {
-                self.count(format!("refused {} by {name}", cause.number()));
-                self.count(format!("refusal {}", cause.number()));
+    /// By the rule alone a job that carries is never met.
+    fn assert_not_met(&mut self, call: &Call, answer: &Answer, choice: Option<Choice>) {
+        match (call, answer) {
+            (_, Answer::Started) => self.by_rule = true,
+            (Call::Promote { place }, Answer::Promotion(Promotion::Promoted)) => {
+                self.by_rule &= choice == Some(Choice::Place(*place));
             }
-            Answer::Sound(sound) => self.count(format!("check answered {sound}")),
-            _ => self.count(format!("accepted {name}")),
-        }
-        match answer {
-            Answer::Started => {
-                self.ended = false;
-                self.count(format!("jobs of {} axes", self.chooser.parameters.axes));
+            (_, Answer::Choice(Choice::Met)) => {
+                assert!(!self.by_rule || self.area.job.carried == 0, "met by the rule");
             }
-            Answer::Promotion(promotion) => self.ended = *promotion != Promotion::Promoted,
-            Answer::Totals(totals) => self.highest("ceiling count", u64::from(totals.ceiling)),
-            Answer::Points { counts, positions } => self.note_points(call, *counts, positions),
-            Answer::Doubles(_) => self.note_doubles(),
             _ => {}
-        }
-        if self.log.job.is_some() {
-            self.highest("held", u64::from(self.area.job.held));
-            self.highest("reserved", u64::from(self.area.job.reserved));
-            self.highest("carried error", self.area.job.carried);
-        }
-    }
-
-    /// What ended the writing, where it began, and along which axes it went.
-    fn note_points(&mut self, call: &Call, counts: PointCounts, positions: &[u8]) {
-        let Call::Points { n, buffer } = *call else {
-            unreachable!("only points answers so");
-        };
-        let PointCounts { written, block } = counts;
-        let axes = self.area.job.axes as usize;
-        let last = n + u64::from(written) == u64::from(block);
-        let over = buffer - written as usize * axes;
-        let moves = |axis: &usize| positions.chunks(axes).any(|p| p[*axis] != positions[*axis]);
-        let moving = (0..axes).filter(moves).count();
-        let so = [
-            ("went on to another row", moving >= 2),
-            ("went on along three axes", moving >= 3),
-            ("wrote a block whole", written == block),
-            ("wrote the rest of a block", last && n > 0),
-            ("wrote one point of several left", !last && written == 1),
-            ("left points for want of room", !last),
-            ("left points with room for a part of one", !last && over > 0),
-            ("wrote just what there was room for", last && over == 0),
-            ("wrote all with room for a part of one", last && over > 0 && over < axes),
-            ("wrote all with room for more", last && over >= axes),
-        ];
-        for (what, _) in so.into_iter().filter(|(_, seen)| *seen) {
-            self.count(format!("points {what}"));
-        }
-        self.highest("points written", u64::from(written));
-    }
-
-    /// What the largest delivered difference was, and what came near it.
-    fn note_doubles(&mut self) {
-        let Some((place, largest)) = calls::largest_difference(&self.area) else {
-            return self.count("doubles of nothing delivered".to_string());
-        };
-        let differences = calls::delivered_differences(&self.area);
-        let others = || differences.iter().filter(|(other, _)| *other != place);
-        let so = [
-            ("of a largest above 0", largest > 0),
-            ("of a largest below 0", largest < 0),
-            ("of differences that are all 0", largest == 0),
-            ("of a largest that is not the root's", place > 0),
-            ("of a largest that is not whole", largest % (1 << SCALE) != 0),
-            ("of a largest that a later one equals", others().any(|(_, d)| *d == largest)),
-            (
-                "of a largest that a later one has with the other sign",
-                largest != 0 && others().any(|(_, d)| *d == -largest),
-            ),
-            ("while a block is wanted", calls::first_wanted(&self.area).is_some()),
-        ];
-        for (what, _) in so.into_iter().filter(|(_, seen)| *seen) {
-            self.count(format!("doubles {what}"));
         }
     }
 
@@ -290,43 +247,41 @@ impl Driver {
         }
     }
 
-    fn choose(&mut self) -> Call {
-        let wanted = self.wanted();
-        let chooser = &mut self.chooser;
-        if self.log.job.is_none() {
+    /// The next call of the list.
+    fn next_call(&mut self) -> Call {
+        let Some(job) = self.log.job.as_ref() else {
+            let chooser = &mut self.chooser;
             return if chooser.rng.percent(50) { chooser.start() } else { chooser.damaged_start() };
-        }
+        };
+        let (wanted, places) = (Block::of_job(job), Places::of_job(job));
+        let chooser = &mut self.chooser;
         if self.ended && chooser.rng.percent(40) {
             chooser.draw_parameters();
             return chooser.start();
         }
         if chooser.rng.percent(chooser.parameters.steps) {
-            return chooser.carry_on(wanted);
+            return chooser.carry_on(wanted, &places);
         }
         match chooser.rng.below(100) {
             0..=7 => chooser.point(wanted),
             8..=12 => chooser.damaged_point(wanted),
-            13..=22 => chooser.points(wanted),
-            23..=28 => chooser.damaged_points(wanted),
-            29..=38 => chooser.damaged_deliver(wanted),
-            39..=46 => chooser.carry_on(wanted),
-            47..=55 => Call::Promote,
-            56..=63 => Call::Result,
-            64..=71 => Call::CrossTotal,
-            72..=80 => Call::Doubles,
-            81..=88 => Call::Check,
-            89..=95 => chooser.damaged_start(),
-            96 if chooser.parameters.steps < 95 => {
+            13..=21 => chooser.points(wanted),
+            22..=27 => chooser.damaged_points(wanted),
+            28..=36 => chooser.damaged_deliver(wanted),
+            37..=43 => chooser.carry_on(wanted, &places),
+            44..=48 => Call::Choose,
+            49..=52 => chooser.promote(&places),
+            53..=62 => chooser.damaged_promote(&places),
+            63..=69 => Call::Result,
+            70..=76 => Call::CrossTotal,
+            77..=84 => Call::Doubles,
+            85..=90 => Call::Check,
+            91..=96 => chooser.damaged_start(),
+            97 if chooser.parameters.steps < 95 => {
                 chooser.draw_parameters();
                 chooser.start()
             }
             _ => chooser.point(wanted),
         }
-    }
-
-    /// The log's first wanted block.
-    fn wanted(&self) -> Option<Block> {
-        let job = self.log.job.as_ref()?;
-        Some(Block { axes: job.axes, levels: job.entries[job.first_wanted()?].levels })
     }
 }

@@ -1,14 +1,13 @@
 //! The three example jobs with their texts, files and reports.
 
 use crate::call::{Answer, Call};
-use crate::calls::Promotion;
 use crate::grid::{self, Levels};
 use crate::jobfile::{self, Entry, JobFile};
 use crate::jobtext;
 use crate::log::Log;
 use crate::program;
 use crate::pump;
-use crate::replay::LENT;
+use crate::replay::{self, LENT};
 use crate::sums;
 
 pub struct Example {
@@ -97,7 +96,7 @@ fn pump_job(axes: u32, threshold: u64, budget: u32) -> JobFile {
             let call = Call::Deliver { readings: readings.clone(), indicator };
             assert_eq!(log.expect(&call, LENT), Answer::Delivered);
             entries.push(Entry { indicator, readings });
-        } else if log.expect(&Call::Promote, LENT) != Answer::Promotion(Promotion::Promoted) {
+        } else if replay::choose_and_promote(&mut log).is_some() {
             return JobFile { axes, budget, threshold, entries };
         }
     }

@@ -3,13 +3,12 @@
 //! the log, which tells the size of each block that comes to be wanted.
 
 use crate::call::{Answer, Call};
-use crate::calls::Promotion;
 use crate::corner::{self, Corner};
 use crate::damage::{self, Damage};
 use crate::grid::{self, Levels, BUDGET_LIMIT, READING_LIMIT, ROOT};
 use crate::jobfile::{self, Entry, JobFile, MOST_ENTRIES, MOST_READINGS};
 use crate::log::{Job, Log};
-use crate::replay::LENT;
+use crate::replay::{self, LENT};
 use crate::rng::Rng;
 use crate::style::{self, IndicatorStyle, ReadingStyle};
 
@@ -90,7 +89,7 @@ fn run(shape: &Shape, rng: &mut Rng) -> History {
         }
         note_promote(&mut history, job);
         let over = history.pending.len() > shape.most_promotes;
-        if over || log.expect(&Call::Promote, LENT) != Answer::Promotion(Promotion::Promoted) {
+        if over || replay::choose_and_promote(&mut log).is_some() {
             return history;
         }
     }

@@ -1,7 +1,8 @@
 //! What point says of points, and what result and the differences say of
 //! doubles, as laws. They leave those two calls no freedom, and they hold on any
 //! area, altered ones included. And what the rig sees of a walk, without knowing
-//! the block: it never jumps. And what result, before and after, says of promote.
+//! the block: it never jumps. What result and Fig. 1 say of choose and promote has
+//! a file of its own.
 //!
 //! Point and points are refused alike; the i-th point that points writes from n
 //! on is the one that point writes for n + i; a buffer of one point gets what
@@ -14,19 +15,17 @@
 //! Doubles is refused as result is; its mean and pending error are result's,
 //! exactly; its largest is a delivered difference that no other passes in size,
 //! the one of the lowest place; a zero is never -0.
-//!
-//! Promote is refused as result is, or for a wanted block. "When the pending error
-//! is at most the threshold, promote answers met exactly if pending and carried
-//! together are at most the threshold, and otherwise capped"; above it, it answers
-//! spent or promoted. What a promotion takes out of the pending error is carried
-//! exactly if the ceiling count rises.
 
 use crate::area::Area;
-use crate::calls::{self, Cause, Doubled, PointCounts, Promotion, Totals};
+use crate::calls::{self, Cause, Doubled, PointCounts};
 use crate::doubles;
 use crate::grid::{Levels, MOST_AXES};
 use crate::rule;
 use crate::sums;
+
+mod promotion;
+
+pub use promotion::{assert_choose, assert_promote, broken_by_choose, broken_by_promote};
 
 /// Asserts the laws for a call of points from n on, whose buffer is lent with
 /// this content.
@@ -183,66 +182,4 @@ fn first_differences(area: &Area, delivered: usize) -> Vec<i128> {
     let axes = area.job.axes as usize;
     let records = area.records[..delivered].iter();
     records.map(|record| sums::difference(axes, &record.levels, &reading)).collect()
-}
-
-/// Asserts the laws for a call of promote on this area, which is left as it is.
-pub fn assert_promote(area: &Area) {
-    let mut after = area.clone();
-    let answer = calls::promote(&mut after);
-    assert_eq!(broken_by_promote(area, &answer, &after), None, "{answer:?}");
-}
-
-/// The first law that an answer of promote breaks, with the area before and after
-/// it, in words.
-pub fn broken_by_promote(
-    area: &Area,
-    answer: &Result<Promotion, Cause>,
-    after: &Area,
-) -> Option<&'static str> {
-    let due = match calls::result(area) {
-        Err(cause) => Err(cause),
-        Ok(totals) if totals.wanted > 0 => Err(Cause::BlockWanted),
-        Ok(totals) => Ok(totals),
-    };
-    let (totals, promotion) = match (due, answer) {
-        (Ok(totals), Ok(promotion)) => (totals, *promotion),
-        (Err(cause), Err(other)) if cause == *other && after == area => return None,
-        (Err(cause), Err(other)) if cause == *other => return Some("a refusal changes nothing"),
-        _ => return Some("promote is refused as result is, or for a wanted block"),
-    };
-    let threshold = u128::from(area.job.threshold);
-    let (pending, carried) = (u128::from(totals.pending), u128::from(totals.carried));
-    let ended = matches!(promotion, Promotion::Met | Promotion::Capped);
-    let laws = [
-        ("it ends at a pending error of the threshold", ended == (pending <= threshold)),
-        (
-            "met is both together",
-            !ended || (promotion == Promotion::Met) == (pending + carried <= threshold),
-        ),
-        ("it changes the area if promoted", (promotion == Promotion::Promoted) == (after != area)),
-    ];
-    let broken = laws.into_iter().find(|(_, holds)| !holds).map(|(law, _)| law);
-    match promotion == Promotion::Promoted {
-        true => broken.or_else(|| broken_by_promotion(&totals, after)),
-        false => broken,
-    }
-}
-
-/// The same for an area in which an index was promoted, given result before it.
-fn broken_by_promotion(before: &Totals, area: &Area) -> Option<&'static str> {
-    let Ok(after) = calls::result(area) else {
-        return Some("a promotion leaves the area sound");
-    };
-    let (pending, carried) = (before.pending, before.carried);
-    let kept = match after.ceiling > before.ceiling {
-        true => after.pending + after.carried == pending + carried,
-        false => after.carried == carried,
-    };
-    let laws = [
-        ("one more is old", (after.old, after.active + 1) == (before.old + 1, before.active)),
-        ("the pending error falls", after.pending < pending),
-        ("what the ceilings stop is carried, and nothing else", kept),
-        ("the mean stays", after.mean == before.mean),
-    ];
-    laws.into_iter().find(|(_, holds)| !holds).map(|(law, _)| law)
 }

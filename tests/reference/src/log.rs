@@ -6,7 +6,7 @@
 //! log's entries; only indices and sums are shared with the calls.
 
 use crate::call::{Answer, Call, Lengths};
-use crate::calls::{Cause, PointCounts, Promotion, Totals};
+use crate::calls::{Cause, Choice, PointCounts, Promotion, Totals};
 use crate::doubles::ExactReport;
 use crate::grid::{self, Levels, ROOT};
 use crate::sums::{self, Readings};
@@ -47,18 +47,16 @@ struct Sums {
     largest: i128,
 }
 
-/// What promote has to do by the log.
+/// What promote has to do by the log at the place of an active entry.
 #[derive(Clone, Debug, PartialEq, Eq)]
 pub enum Plan {
-    Met,
-    Capped,
     /// Which of the two limits the admitted would pass; both may be.
     Spent {
         past_held: bool,
         past_budget: bool,
     },
     Promoted {
-        selected: usize,
+        promoted: usize,
         admitted: Vec<Levels>,
     },
 }
@@ -190,38 +188,52 @@ impl Job {
         Ok(Answer::Points { counts, positions })
     }
 
-    /// Promote's rule worked on the log, when no block is wanted.
-    pub fn plan(&self) -> Plan {
+    /// Choose's rule worked on the log, when no block is wanted.
+    pub fn choice(&self) -> Choice {
         // Met leaves room below the threshold for what is carried.
         match self.threshold.checked_sub(self.pending()) {
-            Some(room) if self.carried() <= room => return Plan::Met,
-            Some(_) => return Plan::Capped,
+            Some(room) if self.carried() <= room => return Choice::Met,
+            Some(_) => return Choice::Capped,
             None => {}
         }
         // From the last to the first, so that the lowest place wins a tie.
-        let mut selected = usize::MAX;
+        let mut selected = u64::MAX;
         let mut largest = 0;
         for (place, entry) in self.entries.iter().enumerate().rev() {
             if entry.state == State::Active && entry.indicator >= largest {
-                selected = place;
+                selected = place as u64;
                 largest = entry.indicator;
             }
         }
+        Choice::Place(selected)
+    }
+
+    /// The active entry of a place, any number; none where no entry or another is.
+    fn active_entry(&self, place: u64) -> Option<usize> {
+        let place = usize::try_from(place).ok()?;
+        let entry = self.entries.get(place)?;
+        (entry.state == State::Active).then_some(place)
+    }
+
+    /// Promote's rule worked on the log, when no block is wanted; none where no
+    /// active index is at the place.
+    pub fn plan(&self, place: u64) -> Option<Plan> {
+        let promoted = self.active_entry(place)?;
         let admitted: Vec<Levels> =
-            (0..self.axes).filter_map(|axis| self.admitted(selected, axis)).collect();
+            (0..self.axes).filter_map(|axis| self.admitted(promoted, axis)).collect();
         let sizes: u64 = admitted.iter().map(|levels| grid::block_size(levels) as u64).sum();
         let past_held = self.entries.len() + admitted.len() > 512;
         let past_budget = self.reserved() + sizes > u64::from(self.budget);
-        if past_held || past_budget {
-            return Plan::Spent { past_held, past_budget };
-        }
-        Plan::Promoted { selected, admitted }
+        Some(match past_held || past_budget {
+            true => Plan::Spent { past_held, past_budget },
+            false => Plan::Promoted { promoted, admitted },
+        })
     }
 
-    /// The selected index raised on one axis, if it is admitted: within the
-    /// ceilings and every index just below it is old or the selected one.
-    fn admitted(&self, selected: usize, axis: usize) -> Option<Levels> {
-        let mut raised = self.entries[selected].levels;
+    /// The promoted index raised on one axis, if it is admitted: within the
+    /// ceilings and every index just below it is old or the promoted one.
+    fn admitted(&self, promoted: usize, axis: usize) -> Option<Levels> {
+        let mut raised = self.entries[promoted].levels;
         raised[axis] += 1;
         if raised[axis] > 8 || raised.iter().sum::<u32>() - 8 > 12 {
             return None;
@@ -230,15 +242,52 @@ impl Job {
             let mut lowered = raised;
             lowered[other] -= 1;
             self.entries.iter().enumerate().any(|(place, entry)| {
-                entry.levels == lowered && (entry.state == State::Old || place == selected)
+                entry.levels == lowered && (entry.state == State::Old || place == promoted)
             })
         });
         all_old.then_some(raised)
     }
 
-    pub fn promoted(&mut self, selected: usize, admitted: &[Levels]) {
-        self.entries[selected].state = State::Old;
+    pub fn promoted(&mut self, promoted: usize, admitted: &[Levels]) {
+        self.entries[promoted].state = State::Old;
         self.entries.extend(admitted.iter().map(|levels| Entry::wanted(*levels)));
+    }
+
+    /// Cause 6 by the log, of choose and promote.
+    fn refuse_while_wanted(&self) -> Result<(), Cause> {
+        match self.first_wanted() {
+            Some(_) => Err(Cause::BlockWanted),
+            None => Ok(()),
+        }
+    }
+
+    /// An accepted promote that is promoted "makes that active index old" and
+    /// appends the admitted, wanted; a spent one leaves the log.
+    fn promote(&mut self, place: u64) -> Result<Promotion, Cause> {
+        self.refuse_while_wanted()?;
+        match self.plan(place).ok_or(Cause::PlaceNotActive)? {
+            Plan::Spent { .. } => Ok(Promotion::Spent),
+            Plan::Promoted { promoted, admitted } => {
+                self.promoted(promoted, &admitted);
+                Ok(Promotion::Promoted)
+            }
+        }
+    }
+
+    fn deliver(&mut self, readings: &[i32], indicator: u32) -> Result<Answer, Cause> {
+        let wanted = self.first_wanted().ok_or(Cause::NoBlockWanted)?;
+        let entry = &mut self.entries[wanted];
+        if readings.len() != grid::block_size(&entry.levels) {
+            return Err(Cause::ReadingCountWrong);
+        }
+        if readings.iter().any(|reading| reading.unsigned_abs() > 1 << 20) {
+            return Err(Cause::ReadingOutOfRange);
+        }
+        entry.state = State::Active;
+        entry.indicator = indicator;
+        entry.readings = readings.to_vec();
+        self.sums = OnceCell::new();
+        Ok(Answer::Delivered)
     }
 
     fn totals(&self) -> Totals {
@@ -298,35 +347,12 @@ impl Log {
                 Ok(Answer::Point(job.point(&levels, *n)))
             }
             Call::Points { n, buffer } => job.points(*n, *buffer),
-            Call::Deliver { readings, indicator } => {
-                let wanted = job.first_wanted().ok_or(Cause::NoBlockWanted)?;
-                let entry = &mut job.entries[wanted];
-                if readings.len() != grid::block_size(&entry.levels) {
-                    return Err(Cause::ReadingCountWrong);
-                }
-                if readings.iter().any(|reading| reading.unsigned_abs() > 1 << 20) {
-                    return Err(Cause::ReadingOutOfRange);
-                }
-                entry.state = State::Active;
-                entry.indicator = *indicator;
-                entry.readings = readings.clone();
-                job.sums = OnceCell::new();
-                Ok(Answer::Delivered)
+            Call::Deliver { readings, indicator } => job.deliver(readings, *indicator),
+            Call::Choose => {
+                job.refuse_while_wanted()?;
+                Ok(Answer::Choice(job.choice()))
             }
-            Call::Promote => {
-                if job.first_wanted().is_some() {
-                    return Err(Cause::BlockWanted);
-                }
-                Ok(Answer::Promotion(match job.plan() {
-                    Plan::Met => Promotion::Met,
-                    Plan::Capped => Promotion::Capped,
-                    Plan::Spent { .. } => Promotion::Spent,
-                    Plan::Promoted { selected, admitted } => {
-                        job.promoted(selected, &admitted);
-                        Promotion::Promoted
-                    }
-                }))
-            }
+            Call::Promote { place } => job.promote(*place).map(Answer::Promotion),
             Call::Result => Ok(Answer::Totals(job.totals())),
             Call::CrossTotal => Ok(Answer::CrossTotal(job.tensor_sum())),
             // Put together from bits, where the call divides.

@@ -1,7 +1,7 @@
 //! The program: runs a job file by the calls and writes the report.
 
 use crate::area::Area;
-use crate::calls::{self, Cause, Promotion, Totals};
+use crate::calls::{self, Cause, Choice, Promotion, Totals};
 use crate::grid::{self, BUDGET_LIMIT, HELD_LIMIT};
 use crate::jobfile::{self, JobFile};
 
@@ -44,8 +44,8 @@ pub fn outcome(input: &[u8]) -> Outcome {
 }
 
 /// "While a block is wanted it delivers the next entry, else it promotes,
-/// until met, spent or short"; capped ends it too. The area is left as the job
-/// leaves it.
+/// until met, spent or short"; capped ends it too. To promote it chooses first: "the
+/// program calls both in turn". The area is left as the job leaves it.
 pub fn run(job: &JobFile, area: &mut Area) -> Outcome {
     match run_to_end(job, area) {
         Ok((ending, used)) => Outcome::Ended {
@@ -73,14 +73,23 @@ fn run_to_end(job: &JobFile, area: &mut Area) -> Result<(Ending, usize), (Cause,
             calls::deliver(area, &entry.readings, entry.indicator)
                 .map_err(|cause| (cause, byte_of(job, used, cause)))?;
             used += 1;
-        } else {
-            match calls::promote(area).expect("no block is wanted") {
-                Promotion::Met => return Ok((Ending::Met, used)),
-                Promotion::Spent => return Ok((Ending::Spent, used)),
-                Promotion::Capped => return Ok((Ending::Capped, used)),
-                Promotion::Promoted => {}
-            }
+        } else if let Some(ending) = choose_and_promote(area) {
+            return Ok((ending, used));
         }
+    }
+}
+
+/// Choose and promote in turn, where no block is wanted: the ending, or none where
+/// the chosen index was promoted.
+pub fn choose_and_promote(area: &mut Area) -> Option<Ending> {
+    let place = match calls::choose(area).expect("no block is wanted") {
+        Choice::Met => return Some(Ending::Met),
+        Choice::Capped => return Some(Ending::Capped),
+        Choice::Place(place) => place,
+    };
+    match calls::promote(area, place).expect("an active index was chosen") {
+        Promotion::Spent => Some(Ending::Spent),
+        Promotion::Promoted => None,
     }
 }
 

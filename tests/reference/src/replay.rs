@@ -2,7 +2,7 @@
 //! print, predicted from arguments. Its readings are tested here separately.
 
 use crate::call::{Answer, Call, Lengths};
-use crate::calls::{Cause, Promotion};
+use crate::calls::{Cause, Choice, Promotion};
 use crate::jobfile::{self, Entry, JobFile, Part};
 use crate::log::{Job, Log};
 use crate::program::{Ending, Outcome};
@@ -17,7 +17,7 @@ pub struct Prediction {
     pub outcome: Outcome,
     /// The broken part of a malformed file.
     pub part: Option<Part>,
-    /// What the promotes of a run that ended were like, by name.
+    /// What the chooses and promotes of a run that ended were like, by name.
     pub promotes: BTreeSet<&'static str>,
 }
 
@@ -103,19 +103,13 @@ impl Replay<'_> {
     }
 
     fn promote(&mut self) -> Option<Prediction> {
-        let names = promotes::names(self.job());
-        self.promotes.extend(names);
-        let answer = self.log.expect(&Call::Promote, LENT);
-        let Answer::Promotion(promotion) = answer else {
-            unreachable!("no block is wanted: {answer:?}");
-        };
-        let ending = match promotion {
-            Promotion::Met => Ending::Met,
-            Promotion::Spent => Ending::Spent,
-            Promotion::Capped => Ending::Capped,
-            Promotion::Promoted => return None,
-        };
-        Some(self.ended(ending))
+        let job = self.job();
+        let mut seen = promotes::names(job, &Call::Choose, LENT);
+        if let Choice::Place(place) = job.choice() {
+            seen.extend(promotes::names(job, &Call::Promote { place }, LENT));
+        }
+        self.promotes.extend(seen);
+        choose_and_promote(&mut self.log).map(|ending| self.ended(ending))
     }
 
     fn ended(&mut self, ending: Ending) -> Prediction {
@@ -125,5 +119,21 @@ impl Replay<'_> {
         let (axes, unused) = (self.job().axes as u32, self.entries.len());
         let outcome = Outcome::Ended { axes, totals, unused, ending };
         Prediction { outcome, part: None, promotes: std::mem::take(&mut self.promotes) }
+    }
+}
+
+/// Choose and promote in turn on the log, where no block is wanted: the ending, or
+/// none where the chosen index was promoted.
+pub fn choose_and_promote(log: &mut Log) -> Option<Ending> {
+    let place = match log.expect(&Call::Choose, LENT) {
+        Answer::Choice(Choice::Met) => return Some(Ending::Met),
+        Answer::Choice(Choice::Capped) => return Some(Ending::Capped),
+        Answer::Choice(Choice::Place(place)) => place,
+        answer => unreachable!("no block is wanted: {answer:?}"),
+    };
+    match log.expect(&Call::Promote { place }, LENT) {
+        Answer::Promotion(Promotion::Spent) => Some(Ending::Spent),
+        Answer::Promotion(Promotion::Promoted) => None,
+        answer => unreachable!("an active index was chosen: {answer:?}"),
     }
 }

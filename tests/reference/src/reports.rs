@@ -1,7 +1,7 @@
 //! Areas by name, each with what doubles must answer there, worked out by hand.
 
 use crate::area::{Area, WANTED};
-use crate::calls::{self, Cause, Doubled, Promotion};
+use crate::calls::{self, Cause, Doubled};
 use crate::cases;
 use crate::doubles::Report;
 use crate::examples::scope_job;
@@ -35,13 +35,13 @@ fn storage() -> Area {
 }
 
 /// The job of threshold 0 with these deliveries, an indicator and readings each,
-/// and a promote before each that finds no block wanted.
+/// and a choose and a promote before each that finds no block wanted.
 fn job(axes: u32, deliveries: &[(u32, &[i32])]) -> Area {
     let mut area = storage();
     assert_eq!(calls::start(&mut area, axes, 0, BUDGET), Ok(()));
     for (indicator, readings) in deliveries {
         if calls::first_wanted(&area).is_none() {
-            assert_eq!(calls::promote(&mut area), Ok(Promotion::Promoted));
+            assert_eq!(program::choose_and_promote(&mut area), None);
         }
         assert_eq!(calls::deliver(&mut area, readings, *indicator), Ok(()));
     }

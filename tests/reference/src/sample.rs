@@ -7,6 +7,7 @@ use crate::calls::{self, Promotion};
 use crate::corner::{self, Corner};
 use crate::generate::ceiling_target;
 use crate::grid::{self, BUDGET_LIMIT, HELD_LIMIT, ROOT};
+use crate::places::Places;
 use crate::rng::Rng;
 use crate::style::{self, IndicatorStyle, ReadingStyle};
 
@@ -20,7 +21,8 @@ pub struct Shape {
     pub deliveries: usize,
 }
 
-/// The area of a seed: mostly small, at times near a ceiling or past it.
+/// The area of a seed: mostly small, at times near a ceiling or past it, at times
+/// by promotes of places that the rule doesn't select.
 pub fn area(seed: u64) -> Area {
     let mut rng = Rng::new(seed);
     let axes = rng.between(1, 8) as usize;
@@ -42,7 +44,11 @@ pub fn area(seed: u64) -> Area {
         (shape.indicators, shape.threshold, shape.budget) = (indicators, threshold, budget);
         shape.deliveries = rng.between(8, 60) as usize;
     }
-    run(&shape, &mut rng)
+    let own_way = match rng.percent(30) {
+        true => rng.pick(&[10, 50, 100]),
+        false => 0,
+    };
+    run_led(&shape, own_way, &mut rng)
 }
 
 /// An area with all 512 places held or nearly so.
@@ -74,7 +80,14 @@ pub fn ceiling_area(seed: u64) -> Area {
     run(&shape, &mut Rng::new(seed))
 }
 
+/// A job by the rule alone, up to its end or to so many deliveries.
 pub fn run(shape: &Shape, rng: &mut Rng) -> Area {
+    run_led(shape, 0, rng)
+}
+
+/// A job in which so many of a hundred promotes go to any active place, the end
+/// that choose answers or not.
+pub fn run_led(shape: &Shape, own_way: u64, rng: &mut Rng) -> Area {
     let mut area = Area::empty(HELD_LIMIT + 8, BUDGET_LIMIT as usize + 48);
     for reading in &mut area.store {
         *reading = rng.number() as i32 >> rng.below(24);
@@ -93,8 +106,18 @@ pub fn run(shape: &Shape, rng: &mut Rng) -> Area {
             assert!(readings.iter().all(|&reading| grid::reading_in_range(reading)));
             assert_eq!(calls::deliver(&mut area, &readings, indicator), Ok(()));
             deliveries += 1;
-        } else if calls::promote(&mut area) != Ok(Promotion::Promoted) {
+        } else if !goes_on(&mut area, own_way, rng) {
             return area;
         }
     }
+}
+
+/// Promotes the chosen place or any active one; false where that ends the job.
+fn goes_on(area: &mut Area, own_way: u64, rng: &mut Rng) -> bool {
+    let places = Places::of_area(area);
+    let place = match places.active.is_empty() || !rng.percent(own_way) {
+        true => places.chosen(),
+        false => Some(rng.pick(&places.active)),
+    };
+    place.is_some_and(|place| calls::promote(area, place) == Ok(Promotion::Promoted))
 }

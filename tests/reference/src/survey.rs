@@ -57,7 +57,7 @@ fn note(predicted: &Prediction, count: &mut impl FnMut(String)) {
         Outcome::Ended { axes, totals, unused, ending } => {
             count(format!("ended with axes {axes}"));
             count(ending_name(ending, predicted));
-            predicted.promotes.iter().for_each(|name| count(format!("promote {name}")));
+            predicted.promotes.iter().for_each(|name| count(name.to_string()));
             if unused > 0 {
                 count("ended with unused entries".to_string());
             }
@@ -79,14 +79,15 @@ fn note(predicted: &Prediction, count: &mut impl FnMut(String)) {
 
 /// An ending, and the limit that a spent one names.
 fn ending_name(ending: Ending, predicted: &Prediction) -> String {
-    let by = predicted.promotes.iter().find(|name| name.starts_with("spent by"));
+    let mut names = predicted.promotes.iter();
+    let by = names.find_map(|name| name.strip_prefix("promote spent by"));
     match (ending, by) {
-        (Ending::Spent, Some(by)) => format!("end {by}"),
+        (Ending::Spent, Some(by)) => format!("end spent by{by}"),
         _ => format!("end {}", ending.name()),
     }
 }
 
-const DUE: [&str; 25] = [
+const DUE: [&str; 26] = [
     "end met",
     "end capped",
     "end short",
@@ -98,11 +99,12 @@ const DUE: [&str; 25] = [
     "ended with 8,000 or more reserved",
     "end short with carried above 0",
     "end spent with carried above 0",
-    "promote met with the threshold equal to the pending error",
-    "promote capped with the threshold equal to the pending error",
-    "promote capped with pending above 0",
-    "promote capped with carried at most the threshold",
-    "promote capped with the threshold one below both",
+    "choose met with the threshold equal to the pending error",
+    "choose capped with the threshold equal to the pending error",
+    "choose capped with pending above 0",
+    "choose capped with carried at most the threshold",
+    "choose capped with the threshold one below both",
+    "choose a place before an equal one",
     "promote promoted with nothing admitted",
     "promote promoted with carried above 0",
     "promote promoted at the ceiling of level alone",

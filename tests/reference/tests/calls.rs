@@ -1,9 +1,11 @@
 //! The calls: their effects, the boundary cases, and every row of the table of
-//! causes, alone and in order against the later ones.
+//! causes, alone and in order against the later ones. Choose and promote have more
+//! of both in `choosing.rs`.
 
 use reference::area::{Area, IndexRecord, ACTIVE, NONE, OLD, WANTED};
-use reference::calls::{self, Cause, Promotion};
+use reference::calls::{self, Cause, Choice, Promotion};
 use reference::grid::{Levels, READING_LIMIT, ROOT};
+use reference::program;
 
 fn index(levels: &[u32]) -> Levels {
     let mut index = ROOT;
@@ -21,15 +23,19 @@ fn deliver(area: &mut Area, readings: &[i32], indicator: u32) {
     assert_eq!(calls::deliver(area, readings, indicator), Ok(()));
 }
 
-/// The job of the scope document up to its first `steps` deliveries, with
-/// promotes where no block is wanted.
+fn promote(area: &mut Area, place: u64) {
+    assert_eq!(calls::promote(area, place), Ok(Promotion::Promoted));
+}
+
+/// The job of the scope document up to its first `steps` deliveries, with a choose
+/// and a promote where no block is wanted.
 fn scope_area(deliveries: usize) -> Area {
     let entries: [(u32, &[i32]); 4] =
         [(100, &[4160]), (50, &[64, 16448]), (0, &[4096, 4224]), (10, &[1088, 9280])];
     let mut area = started(2, 40, 64);
     for (indicator, readings) in &entries[..deliveries] {
         if calls::first_wanted(&area).is_none() {
-            assert_eq!(calls::promote(&mut area), Ok(Promotion::Promoted));
+            assert_eq!(program::choose_and_promote(&mut area), None);
         }
         deliver(&mut area, readings, *indicator);
     }
@@ -51,7 +57,10 @@ fn assert_all_refuse(area: &Area, cause: Cause) {
     assert_eq!(calls::points(area, 0, &mut buffer), Err(cause), "points");
     assert_eq!(buffer, [7; 12]);
     assert_eq!(calls::deliver(&mut copy, &[0], 0), Err(cause), "deliver");
-    assert_eq!(calls::promote(&mut copy), Err(cause), "promote");
+    assert_eq!(calls::choose(area), Err(cause), "choose");
+    for place in [0, 1, u64::MAX] {
+        assert_eq!(calls::promote(&mut copy, place), Err(cause), "promote {place}");
+    }
     assert_eq!(calls::result(area), Err(cause), "result");
     assert_eq!(calls::cross_total(area), Err(cause), "cross total");
     assert_eq!(calls::doubles(area), Err(cause), "doubles");
@@ -95,7 +104,8 @@ fn before_the_first_delivery_the_mean_is_0() {
 fn the_scope_document_job_call_by_call() {
     let mut area = scope_area(1);
     assert_eq!(area.job.pending, 100);
-    assert_eq!(calls::promote(&mut area), Ok(Promotion::Promoted));
+    assert_eq!(calls::choose(&area), Ok(Choice::Place(0)));
+    promote(&mut area, 0);
     assert_eq!(area.job.pending, 0, "the selected indicator leaves the pending error");
     assert_eq!((area.records[0].state, area.records[0].indicator), (OLD, 100), "and is kept");
     assert_eq!(area.records[1].levels, index(&[2, 1]));
@@ -109,12 +119,13 @@ fn the_scope_document_job_call_by_call() {
     assert_eq!(area.store[1..3], [64, 16448]);
     assert_eq!(area.job.mean, (4160 + 2048) << 20);
     deliver(&mut area, &[4096, 4224], 0);
-    assert_eq!(calls::promote(&mut area), Ok(Promotion::Promoted));
+    assert_eq!(calls::choose(&area), Ok(Choice::Place(1)));
+    promote(&mut area, 1);
     // (2,2) is not admitted: only (2,1) is old, (1,2) is active.
     assert_eq!(area.job.held, 4);
     assert_eq!(area.records[3].levels, index(&[3, 1]));
     deliver(&mut area, &[1088, 9280], 10);
-    assert_eq!(calls::promote(&mut area), Ok(Promotion::Met));
+    assert_eq!(calls::choose(&area), Ok(Choice::Met));
     let totals = calls::result(&area).unwrap();
     assert_eq!((totals.old, totals.active, totals.wanted, totals.reserved), (2, 2, 0, 7));
     assert_eq!((totals.pending, totals.mean, totals.ceiling), (10, 5_972_688_896, 0));
@@ -123,92 +134,9 @@ fn the_scope_document_job_call_by_call() {
 }
 
 #[test]
-fn a_threshold_equal_to_the_pending_error_is_met() {
-    for (threshold, answer) in [(100, Promotion::Met), (99, Promotion::Promoted)] {
-        let mut area = started(2, threshold, 64);
-        deliver(&mut area, &[1], 100);
-        let before = area.clone();
-        assert_eq!(calls::promote(&mut area), Ok(answer));
-        assert_eq!(area == before, answer == Promotion::Met);
-    }
-}
-
-#[test]
-fn budget_4_is_spent_and_budget_5_is_not() {
-    for (budget, answer) in [(4, Promotion::Spent), (5, Promotion::Promoted)] {
-        let mut area = started(2, 0, budget);
-        deliver(&mut area, &[1], 1);
-        let before = area.clone();
-        assert_eq!(calls::promote(&mut area), Ok(answer));
-        assert_eq!(area == before, answer == Promotion::Spent);
-    }
-}
-
-#[test]
-fn met_comes_before_spent_and_zero_pending_is_met() {
-    let mut area = started(8, 1, 1);
-    deliver(&mut area, &[1], 1);
-    assert_eq!(calls::promote(&mut area), Ok(Promotion::Met));
-    let mut area = started(8, 0, 1);
-    deliver(&mut area, &[1], 0);
-    assert_eq!(calls::promote(&mut area), Ok(Promotion::Met));
-}
-
-#[test]
-fn equal_indicators_select_the_lowest_place() {
-    let mut area = started(3, 0, 64);
-    deliver(&mut area, &[1], 5);
-    assert_eq!(calls::promote(&mut area), Ok(Promotion::Promoted));
-    for indicator in [3, 9, 9] {
-        deliver(&mut area, &[1, 2], indicator);
-    }
-    assert_eq!(calls::promote(&mut area), Ok(Promotion::Promoted));
-    let states: Vec<u32> = area.held().iter().map(|record| record.state).collect();
-    assert_eq!(states, [OLD, ACTIVE, OLD, ACTIVE, WANTED]);
-    assert_eq!(area.records[4].levels, index(&[1, 3, 1]));
-}
-
-#[test]
-fn a_later_index_joins_when_its_last_backward_neighbour_is_old() {
-    let mut area = scope_area(3);
-    area.job.threshold = 0;
-    assert_eq!(calls::promote(&mut area), Ok(Promotion::Promoted));
-    deliver(&mut area, &[0, 0], 0);
-    area.records[2].indicator = 1;
-    area.job.pending += 1;
-    assert_eq!(calls::promote(&mut area), Ok(Promotion::Promoted));
-    // (1,2) became old: axis 1 brings (2,2), then axis 2 brings (1,3).
-    assert_eq!(area.records[4].levels, index(&[2, 2]));
-    assert_eq!(area.records[5].levels, index(&[1, 3]));
-    assert_eq!((area.records[4].backward[0], area.records[4].backward[1]), (2, 1));
-    assert_eq!((area.records[2].forward[0], area.records[1].forward[1]), (4, 4));
-}
-
-/// One axis: level 8 is the last; its promotion admits nothing, is promoted
-/// all the same, counts one pair at the ceiling and carries its indicator.
-#[test]
-fn nothing_admitted_is_promoted_and_the_ceiling_is_counted() {
-    let mut area = started(1, 0, 8192);
-    for level in 1..=8u32 {
-        let size = if level < 3 { level as usize } else { 1 << (level - 2) };
-        deliver(&mut area, &vec![0; size], 1);
-        let totals = calls::result(&area).unwrap();
-        assert_eq!((totals.ceiling, totals.carried), (0, 0));
-        assert_eq!(calls::promote(&mut area), Ok(Promotion::Promoted));
-    }
-    let totals = calls::result(&area).unwrap();
-    assert_eq!((totals.old, totals.wanted, totals.reserved, totals.ceiling), (8, 0, 129, 1));
-    assert_eq!((totals.pending, totals.carried), (0, 1));
-    let before = area.clone();
-    assert_eq!(calls::promote(&mut area), Ok(Promotion::Capped));
-    assert_eq!(area, before, "capped changes nothing");
-}
-
-#[test]
 fn point_writes_d_positions_and_leaves_later_bytes() {
-    let area = scope_area(1);
-    let mut area = area;
-    assert_eq!(calls::promote(&mut area), Ok(Promotion::Promoted));
+    let mut area = scope_area(1);
+    promote(&mut area, 0);
     for (n, first) in [(0, 0), (1, 128)] {
         let mut buffer = [200u8; 5];
         assert_eq!(calls::point(&area, n, &mut buffer), Ok(()));
@@ -286,11 +214,12 @@ fn a_short_point_buffer_is_3_before_all_that_follows() {
     assert_eq!(calls::result(&altered), Err(Cause::AreaNotSound));
     altered.job.axes = u32::MAX;
     assert_eq!(calls::point(&altered, 0, &mut [0; 9]), Err(Cause::StorageShort));
-    assert_eq!(calls::promote(&mut altered), Err(Cause::AreaNotSound));
+    assert_eq!(calls::choose(&altered), Err(Cause::AreaNotSound));
+    assert_eq!(calls::promote(&mut altered, 0), Err(Cause::AreaNotSound));
 }
 
 #[test]
-fn cause_4_comes_before_5_to_9() {
+fn cause_4_comes_before_5_to_9_and_11() {
     // Each of these would be refused for a later cause if the area were sound.
     let mut buffer = [0u8; 8];
     let wanted = unsound(scope_area(0));
@@ -325,14 +254,6 @@ fn cause_5_comes_before_7_8_9() {
 }
 
 #[test]
-fn cause_6_comes_before_met_and_spent() {
-    let mut area = started(2, u64::MAX, 1);
-    let before = area.clone();
-    assert_eq!(calls::promote(&mut area), Err(Cause::BlockWanted));
-    assert_eq!(area, before);
-}
-
-#[test]
 fn cause_7_comes_before_8() {
     let area = scope_area(0);
     for readings in [&[][..], &[0, 0], &[i32::MAX, 0]] {
@@ -360,7 +281,7 @@ fn cause_8_at_the_edges_of_the_range() {
 #[test]
 fn cause_9_at_the_blocks_size() {
     let mut area = scope_area(1);
-    assert_eq!(calls::promote(&mut area), Ok(Promotion::Promoted));
+    promote(&mut area, 0);
     let mut buffer = [3u8; 4];
     for n in [2, 1 << 32, u64::MAX] {
         assert_eq!(calls::point(&area, n, &mut buffer), Err(Cause::PointNumberTooLarge));
@@ -381,8 +302,9 @@ fn the_numbers_of_the_causes() {
         Cause::ReadingOutOfRange,
         Cause::PointNumberTooLarge,
         Cause::JobFileMalformed,
+        Cause::PlaceNotActive,
     ];
-    assert_eq!(causes.map(Cause::number), [1, 2, 3, 4, 5, 6, 7, 8, 9, 10]);
+    assert_eq!(causes.map(Cause::number), [1, 2, 3, 4, 5, 6, 7, 8, 9, 10, 11]);
 }
 
 /// "An altered area can be sound with another mean": result gives the recorded

@@ -4,12 +4,13 @@
 use reference::alter;
 use reference::area::{Area, IndexRecord, ACTIVE, OLD};
 use reference::call::{self, Call};
-use reference::calls::{self, Cause, Promotion};
+use reference::calls::{self, Cause, Choice, Promotion};
 use reference::cases;
 use reference::grid::{self, Levels, ROOT};
 use reference::jobfile;
 use reference::laws;
 use reference::log::{Entry, Job, State};
+use reference::places::Places;
 use reference::program;
 use reference::rng::Rng;
 use reference::sample;
@@ -94,52 +95,71 @@ fn call_by_call() {
     let mut promotions = 0;
     for entry in &file.entries {
         if calls::first_wanted(&area).is_none() {
-            assert_eq!(calls::promote(&mut area), Ok(Promotion::Promoted));
+            assert_eq!(program::choose_and_promote(&mut area), None);
             promotions += 1;
         }
         assert_eq!(calls::deliver(&mut area, &entry.readings, entry.indicator), Ok(()));
         assert_eq!(area.job.carried, 0);
     }
     assert_eq!((promotions, area.job.pending), (7, 11));
-    assert_eq!(calls::promote(&mut area), Ok(Promotion::Promoted));
+    assert_eq!(calls::choose(&area), Ok(Choice::Place(8)));
+    assert_eq!(calls::promote(&mut area, 8), Ok(Promotion::Promoted));
     assert_eq!((area.job.pending, area.job.carried), (5, 6));
     let totals = calls::result(&area).unwrap();
     assert_eq!((totals.old, totals.active, totals.carried, totals.ceiling), (8, 1, 6, 1));
-    let before = area.clone();
-    assert_eq!(calls::promote(&mut area), Ok(Promotion::Capped));
-    assert_eq!(area, before, "capped changes nothing");
+    assert_eq!(calls::choose(&area), Ok(Choice::Capped));
 }
 
-/// The threshold is free, so that an area can be met with something carried; by
-/// calls from a start it never is.
+/// The threshold is free, so that an area can be met with something carried. By
+/// calls from a start it can if an index is promoted that choose doesn't answer.
 #[test]
 fn thresholds_around_pending_and_carried() {
     let area = five_and_six();
     for (threshold, answer) in [
-        (0, Promotion::Spent),
-        (4, Promotion::Spent),
-        (5, Promotion::Capped),
-        (6, Promotion::Capped),
-        (10, Promotion::Capped),
-        (11, Promotion::Met),
-        (12, Promotion::Met),
-        (u64::MAX, Promotion::Met),
+        (0, Choice::Place(2)),
+        (4, Choice::Place(2)),
+        (5, Choice::Capped),
+        (6, Choice::Capped),
+        (10, Choice::Capped),
+        (11, Choice::Met),
+        (12, Choice::Met),
+        (u64::MAX, Choice::Met),
     ] {
         let mut other = area.clone();
         other.job.threshold = threshold;
         assert!(calls::check(&other));
-        laws::assert_promote(&other);
+        laws::assert_choose(&other);
+        laws::assert_promote(&other, 2);
+        assert_eq!(calls::choose(&other), Ok(answer), "threshold {threshold}");
         let before = other.clone();
-        assert_eq!(calls::promote(&mut other), Ok(answer), "threshold {threshold}");
+        assert_eq!(calls::promote(&mut other, 2), Ok(Promotion::Spent), "threshold {threshold}");
         assert_eq!(other, before);
     }
-    let mut roomy = area;
-    (roomy.job.threshold, roomy.job.budget) = (4, 137);
-    laws::assert_promote(&roomy);
-    assert_eq!(calls::promote(&mut roomy), Ok(Promotion::Promoted));
-    assert_eq!((roomy.job.pending, roomy.job.carried), (0, 6), "(1,2) is at no ceiling");
-    roomy.job.threshold = u64::MAX;
-    assert_eq!(calls::promote(&mut roomy), Err(Cause::BlockWanted), "6 comes first");
+    for threshold in [4, 9, 11] {
+        let mut roomy = area.clone();
+        (roomy.job.threshold, roomy.job.budget) = (threshold, 137);
+        laws::assert_promote(&roomy, 2);
+        assert_eq!(calls::promote(&mut roomy, 2), Ok(Promotion::Promoted));
+        assert_eq!((roomy.job.pending, roomy.job.carried), (0, 6), "(1,2) is at no ceiling");
+        assert_eq!(calls::choose(&roomy), Err(Cause::BlockWanted), "6 comes first");
+        assert_eq!(calls::promote(&mut roomy, 2), Err(Cause::BlockWanted), "6 comes first");
+    }
+}
+
+/// By calls from a start, the last level promoted though choose says met.
+#[test]
+fn met_with_something_carried() {
+    let mut area = Area::empty(512, 129);
+    assert_eq!(calls::start(&mut area, 1, 15, 129), Ok(()));
+    for place in 0..8 {
+        let levels = area.records[place].levels;
+        let readings = vec![3; grid::block_size(&levels)];
+        assert_eq!(calls::deliver(&mut area, &readings, 10), Ok(()));
+        assert_eq!(calls::choose(&area), Ok(Choice::Met), "place {place}");
+        assert_eq!(calls::promote(&mut area, place as u64), Ok(Promotion::Promoted));
+    }
+    assert_eq!((area.job.pending, area.job.carried), (0, 10));
+    assert_eq!(calls::choose(&area), Ok(Choice::Met));
 }
 
 /// Every call but start and check, on an area that breaks this clause alone.
@@ -149,8 +169,9 @@ fn assert_all_refuse(area: &Area) {
     let mut copy = area.clone();
     let deliver = Call::Deliver { readings: vec![0], indicator: 1 };
     let (point, points) = (Call::Point { n: 0, buffer: 8 }, Call::Points { n: 0, buffer: 8 });
-    let others = [Call::Promote, Call::Result, Call::CrossTotal, Call::Doubles];
-    for call in [point, points, deliver].into_iter().chain(others) {
+    let (promote, past) = (Call::Promote { place: 0 }, Call::Promote { place: u64::MAX });
+    let others = [Call::Choose, Call::Result, Call::CrossTotal, Call::Doubles];
+    for call in [point, points, deliver, promote, past].into_iter().chain(others) {
         let mut buffer = vec![7; call.buffer_length().unwrap_or(0)];
         let answer = call::perform(&mut copy, &call, &mut buffer);
         assert_eq!(answer, call::Answer::Refused(Cause::AreaNotSound), "{call:?}");
@@ -185,12 +206,12 @@ fn old_indicators_at_a_ceiling_and_elsewhere() {
     assert_eq!(calls::result(&area).unwrap().carried, 11);
     // An old index at a ceiling may have carried nothing: then its job is met.
     (area.records[7].indicator, area.job.carried) = (0, 0);
-    assert_eq!(calls::promote(&mut area), Ok(Promotion::Met));
+    assert_eq!(calls::choose(&area), Ok(Choice::Met));
     assert_eq!(calls::result(&area).unwrap().ceiling, 1);
 }
 
-/// What promote answers on areas of all kinds, most of them altered since, by what
-/// result says of them.
+/// What choose and promote answer on areas of all kinds, most of them altered since,
+/// by what result says of them.
 #[test]
 fn the_laws_on_altered_areas() {
     let mut rng = Rng::new(41);
@@ -200,17 +221,21 @@ fn the_laws_on_altered_areas() {
         if rng.percent(80) {
             alter::alter(&mut area, &mut rng);
         }
-        laws::assert_promote(&area);
+        laws::assert_choose(&area);
+        let place = Places::of_area(&area).largest.unwrap_or(0);
+        laws::assert_promote(&area, place);
         let broken = soundness::broken_clauses(&area);
         let (carried, equal) = (area.job.carried > 0, area.job.threshold == area.job.pending);
-        let mut after = area.clone();
-        let what = match (calls::promote(&mut after), carried, equal) {
-            (Ok(Promotion::Met), true, _) => "met with carried above 0",
-            (Ok(Promotion::Met), false, true) => "met at the pending error",
-            (Ok(Promotion::Capped), _, true) => "capped at the pending error",
-            (Ok(Promotion::Capped), _, false) => "capped",
-            (Ok(Promotion::Promoted), true, _) => "promoted with carried above 0",
-            (Ok(Promotion::Spent), true, _) => "spent with carried above 0",
+        let promoted = calls::promote(&mut area.clone(), place);
+        let what = match (calls::choose(&area), carried, equal) {
+            (Ok(Choice::Met), true, _) => "met with carried above 0",
+            (Ok(Choice::Met), false, true) => "met at the pending error",
+            (Ok(Choice::Capped), _, true) => "capped at the pending error",
+            (Ok(Choice::Capped), _, false) => "capped",
+            (Ok(Choice::Place(_)), true, _) if promoted == Ok(Promotion::Spent) => {
+                "spent with carried above 0"
+            }
+            (Ok(Choice::Place(_)), true, _) => "promoted with carried above 0",
             (Err(Cause::AreaNotSound), true, _) if broken == [Clause::CarriedIsCeilingSum] => {
                 "refused for the carried error alone"
             }

@@ -4,11 +4,12 @@
 use reference::alter;
 use reference::area::Area;
 use reference::call::{self, Answer, Call};
-use reference::calls::{self, Cause, Promotion};
+use reference::calls::{self, Cause, Choice};
 use reference::doubles::{self, ExactReport};
 use reference::examples::scope_job;
 use reference::laws;
 use reference::log::Log;
+use reference::program;
 use reference::replay::LENT;
 use reference::reports::{self, Case};
 use reference::rng::Rng;
@@ -36,7 +37,7 @@ fn started(axes: u32) -> Area {
 fn one_axis(root: i32, ends: [i32; 2], indicator: u32) -> Area {
     let mut area = started(1);
     assert_eq!(calls::deliver(&mut area, &[root], 1), Ok(()));
-    assert_eq!(calls::promote(&mut area), Ok(Promotion::Promoted));
+    assert_eq!(program::choose_and_promote(&mut area), None);
     assert_eq!(calls::deliver(&mut area, &ends, indicator), Ok(()));
     area
 }
@@ -80,7 +81,10 @@ fn the_scope_document_job_call_by_call() {
     ];
     for (entry, due) in scope_job().entries.into_iter().zip(due) {
         if calls::first_wanted(&area).is_none() {
-            both(&mut area, Call::Promote);
+            let Answer::Choice(Choice::Place(place)) = both(&mut area, Call::Choose) else {
+                panic!("the job goes on");
+            };
+            both(&mut area, Call::Promote { place });
         }
         let (readings, indicator) = (entry.readings, entry.indicator);
         assert_eq!(both(&mut area, Call::Deliver { readings, indicator }), Answer::Delivered);

@@ -1,13 +1,9 @@
 //! Lists of calls against the log, and generated files against the log's own
 //! report; short runs of fixed seeds.
 
-use reference::drive::drive;
+use reference::drive::{drive, missing};
 use reference::generate::{generate, Kind};
 use reference::survey;
-
-/// What promote comes to; `coverage.rs` has more of it.
-const PROMOTES: [&str; 5] =
-    ["met", "capped", "promoted", "promoted with nothing admitted", "spent by the budget"];
 
 /// What points comes to as the block or the buffer ends first, and as a row does.
 const POINTS: [&str; 8] = [
@@ -37,17 +33,18 @@ const DOUBLES: [&str; 9] = [
 #[test]
 fn random_lists_of_calls() {
     let mut seen = std::collections::BTreeMap::new();
-    for seed in [1, 2, 4] {
+    for seed in [1, 6, 8] {
         for (what, count) in drive(seed, 12_000) {
             *seen.entry(what).or_insert(0) += count;
         }
     }
-    for number in [1, 2, 3, 5, 6, 7, 8, 9] {
+    for number in [1, 2, 3, 5, 6, 7, 8, 9, 11] {
         assert!(seen[&format!("refusal {number}")] > 100, "refusal {number}: {seen:?}");
     }
     assert!(!seen.contains_key("refusal 4"), "cause 4 never comes from the area");
-    for answer in PROMOTES {
-        assert!(seen.contains_key(&format!("promote {answer}")), "{answer}: {seen:?}");
+    assert_eq!(missing(&seen), [] as [&str; 0], "{seen:?}");
+    for (number, name) in [(3, "choose"), (6, "choose"), (3, "promote"), (6, "promote")] {
+        assert!(seen[&format!("refused {number} by {name}")] > 20, "{number} by {name}: {seen:?}");
     }
     for number in [3, 5, 9] {
         assert!(seen[&format!("refused {number} by points")] > 20, "refused {number}: {seen:?}");

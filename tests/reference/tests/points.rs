@@ -10,6 +10,7 @@ use reference::choice::{Block, Chooser};
 use reference::grid::{self, Levels, BUDGET_LIMIT, ROOT};
 use reference::laws;
 use reference::log::Log;
+use reference::places::Places;
 use reference::replay::LENT;
 use reference::rng::Rng;
 use reference::rule;
@@ -38,7 +39,8 @@ fn wanting(axes: u32, target: &Levels) -> (Area, Log) {
     both(&mut area, Call::Start { axes, threshold: 0, budget: BUDGET_LIMIT });
     loop {
         let Some(place) = calls::first_wanted(&area) else {
-            both(&mut area, Call::Promote);
+            let place = Places::of_area(&area).chosen().expect("the job goes on");
+            both(&mut area, Call::Promote { place });
             continue;
         };
         let levels = area.records[place].levels;

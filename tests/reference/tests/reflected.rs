@@ -3,7 +3,7 @@
 //! formulas; and what follows it, sums, the reading store and job files.
 
 use reference::area::Area;
-use reference::calls::{self, Promotion};
+use reference::calls;
 use reference::examples::examples;
 use reference::grid::{self, Levels, Point, MOST_AXES, READING_LIMIT, ROOT};
 use reference::jobfile::{self, Entry, JobFile};
@@ -255,7 +255,7 @@ fn replayed(job: &JobFile, mut see: impl FnMut(&Levels, &[u8], &[i32])) {
     assert_eq!(calls::start(&mut area, job.axes, job.threshold, job.budget), Ok(()));
     for entry in &job.entries {
         while calls::first_wanted(&area).is_none() {
-            assert_eq!(calls::promote(&mut area), Ok(Promotion::Promoted));
+            assert_eq!(program::choose_and_promote(&mut area), None);
         }
         let record = area.records[calls::first_wanted(&area).unwrap()];
         let mut positions = vec![0; entry.readings.len() * job.axes as usize];

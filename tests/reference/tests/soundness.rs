@@ -138,10 +138,12 @@ fn everything_is_total_on_garbage() {
         let _ = calls::check(&area);
         let _ = calls::point(&area, 0, &mut buffer);
         laws::assert_points(&area, 0, &[0; 20]);
-        laws::assert_promote(&area);
+        laws::assert_choose(&area);
+        let place = rng.pick(&[0, 1, u64::MAX]);
+        laws::assert_promote(&area, place);
         let _ = calls::result(&area);
         let _ = calls::cross_total(&area);
-        let promoted = calls::promote(&mut area).is_err();
+        let promoted = calls::promote(&mut area, place).is_err();
         let delivered = calls::deliver(&mut area, &[1], 1).is_err();
         assert!(!(promoted && delivered) || area == before, "a refusal changes nothing");
     }
@@ -182,7 +184,7 @@ fn scope_area() -> Area {
     let mut area = Area::empty(512, 8192);
     assert_eq!(calls::start(&mut area, 2, 40, 64), Ok(()));
     assert_eq!(calls::deliver(&mut area, &[4160], 100), Ok(()));
-    assert_eq!(calls::promote(&mut area), Ok(calls::Promotion::Promoted));
+    assert_eq!(calls::promote(&mut area, 0), Ok(calls::Promotion::Promoted));
     assert_eq!(calls::deliver(&mut area, &[64, 16448], 50), Ok(()));
     area
 }

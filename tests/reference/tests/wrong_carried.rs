@@ -4,11 +4,12 @@
 
 use reference::alter;
 use reference::area::{Area, IndexRecord, JobRecord, ACTIVE, OLD};
-use reference::calls::{self, Cause, Promotion};
+use reference::calls::{self, Cause, Choice, Promotion};
 use reference::cases::{self, Case};
 use reference::grid::{self, Levels};
 use reference::jobfile;
 use reference::laws;
+use reference::places::Places;
 use reference::program::{self, Ending, Outcome};
 use reference::rng::Rng;
 use reference::sample;
@@ -26,7 +27,7 @@ struct Program {
     promoted: fn(usize, &Levels) -> u64,
     /// The recorded sum as it is kept.
     kept: fn(u64) -> u64,
-    /// Whether promote looks for met or capped.
+    /// Whether choose looks for met or capped.
     ends: fn(&JobRecord) -> bool,
     met: fn(&JobRecord) -> bool,
 }
@@ -112,20 +113,37 @@ impl Program {
         Ok(())
     }
 
-    fn promote(&self, area: &mut Area) -> Result<Promotion, Cause> {
+    fn choose(&self, area: &Area) -> Result<Choice, Cause> {
         let mut right = Program::righted(area);
         // Where this program goes on, the reference has to.
         right.job.threshold = if (self.ends)(&area.job) { right.job.pending } else { 0 };
-        let answer = calls::promote(&mut right);
-        let answer = self.judged(area, answer)?;
-        if (self.ends)(&area.job) {
-            return Ok(if (self.met)(&area.job) { Promotion::Met } else { Promotion::Capped });
+        let choice = self.judged(area, calls::choose(&right))?;
+        match (self.ends)(&area.job) {
+            true if (self.met)(&area.job) => Ok(Choice::Met),
+            true => Ok(Choice::Capped),
+            false => Ok(choice),
         }
+    }
+
+    fn promote(&self, area: &mut Area, place: u64) -> Result<Promotion, Cause> {
+        let mut right = Program::righted(area);
+        let answer = calls::promote(&mut right, place);
+        let answer = self.judged(area, answer)?;
         if answer == Promotion::Promoted {
-            right.job.threshold = area.job.threshold;
             self.raise(area, right, ACTIVE, self.promoted);
         }
         Ok(answer)
+    }
+
+    /// Choose and promote in turn; none where the job goes on.
+    fn choose_and_promote(&self, area: &mut Area) -> Result<Option<Ending>, Cause> {
+        let place = match self.choose(area)? {
+            Choice::Met => return Ok(Some(Ending::Met)),
+            Choice::Capped => return Ok(Some(Ending::Capped)),
+            Choice::Place(place) => place,
+        };
+        let spent = self.promote(area, place)? == Promotion::Spent;
+        Ok(spent.then_some(Ending::Spent))
     }
 
     /// The report of a well-formed file whose blocks all fit; refused by the
@@ -138,17 +156,14 @@ impl Program {
         let ended = loop {
             let answer = match calls::first_wanted(&area).map(|_| entries.next()) {
                 Some(Some(entry)) => {
-                    let delivered = self.deliver(&mut area, &entry.readings, entry.indicator);
-                    delivered.map(|()| Promotion::Promoted)
+                    self.deliver(&mut area, &entry.readings, entry.indicator).map(|()| None)
                 }
                 Some(None) => break Ok(Ending::Short),
-                None => self.promote(&mut area),
+                None => self.choose_and_promote(&mut area),
             };
             match answer {
-                Ok(Promotion::Promoted) => {}
-                Ok(Promotion::Met) => break Ok(Ending::Met),
-                Ok(Promotion::Spent) => break Ok(Ending::Spent),
-                Ok(Promotion::Capped) => break Ok(Ending::Capped),
+                Ok(None) => {}
+                Ok(Some(ending)) => break Ok(ending),
                 Err(cause) => break Err(cause),
             }
         };
@@ -280,22 +295,26 @@ fn each_slip_is_told_by_areas_by_seed() {
             alter::alter(&mut area, &mut rng);
         }
         let mut after = area.clone();
-        let right = (calls::check(&area), calls::promote(&mut after));
-        assert_eq!(laws::broken_by_promote(&area, &right.1, &after), None, "seed {seed}");
+        // Any place where none is active.
+        let place = Places::of_area(&area).largest.unwrap_or(0);
+        let right = (calls::check(&area), calls::choose(&area), calls::promote(&mut after, place));
+        assert_eq!(laws::broken_by_choose(&area, &right.1, &area), None, "seed {seed}");
+        assert_eq!(laws::broken_by_promote(&area, place, &right.2, &after), None, "seed {seed}");
         let seen = |program: &Program| {
             let mut after = area.clone();
-            let answer = program.promote(&mut after);
-            ((program.check(&area), answer), after)
+            let (check, choice) = (program.check(&area), program.choose(&area));
+            ((check, choice, program.promote(&mut after, place)), after)
         };
         assert_eq!(seen(&RIGHT), (right, after.clone()), "seed {seed}");
-        for ((checks, promotes), slip) in told.iter_mut().zip(&slips) {
+        for ((checks, steps), slip) in told.iter_mut().zip(&slips) {
             let (answers, left) = seen(&slip.program);
             *checks += u32::from(answers.0 != right.0);
-            *promotes += u32::from(answers.1 != right.1 || left != after);
+            let others = (answers.1, answers.2) != (right.1, right.2);
+            *steps += u32::from(others || left != after);
         }
     }
-    for ((checks, promotes), slip) in told.iter().zip(&slips) {
-        println!("{}: {checks} checks, {promotes} promotes", slip.name);
-        assert!(checks + promotes > 5, "{}: {checks}, {promotes}", slip.name);
+    for ((checks, steps), slip) in told.iter().zip(&slips) {
+        println!("{}: {checks} checks, {steps} chooses and promotes", slip.name);
+        assert!(checks + steps > 5, "{}: {checks}, {steps}", slip.name);
     }
 }

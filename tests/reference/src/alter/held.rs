@@ -91,7 +91,7 @@ pub fn promote_past_limits(area: &mut Area, rng: &mut Rng) -> Option<String> {
     Some(format!("active {promoted:?} promoted without regard to the limits"))
 }
 
-fn promote_ignoring_limits(area: &mut Area, selected: usize) {
+pub fn promote_ignoring_limits(area: &mut Area, selected: usize) {
     let levels = area.records[selected].levels;
     make_old(area, selected);
     for axis in 0..axes(area) {

@@ -1,7 +1,9 @@
 //! `drive SEED CALLS`: a random list of calls on one area, each held against
-//! the log; prints how often each thing was seen. Ends with a panic at the
-//! first disagreement.
+//! the log and against Fig. 1; prints how often each thing was seen. Ends with a
+//! panic at the first disagreement, and fails if something due wasn't seen where
+//! there were calls enough for it.
 
+use reference::drive::{self, ENOUGH};
 use std::process::ExitCode;
 
 fn main() -> ExitCode {
@@ -10,8 +12,19 @@ fn main() -> ExitCode {
         eprintln!("say `drive SEED CALLS`");
         return ExitCode::FAILURE;
     };
-    for (what, count) in reference::drive::drive(seed, calls) {
+    let counts = drive::drive(seed, calls);
+    for (what, count) in &counts {
         println!("{what}: {count}");
     }
-    ExitCode::SUCCESS
+    let missing = match calls < ENOUGH {
+        true => Vec::new(),
+        false => drive::missing(&counts),
+    };
+    for what in &missing {
+        println!("not seen: {what}");
+    }
+    match missing.is_empty() {
+        true => ExitCode::SUCCESS,
+        false => ExitCode::FAILURE,
+    }
 }
