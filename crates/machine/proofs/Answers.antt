@@ -1,116 +1,58 @@
--- The answer of promote, by what is chosen: met and capped in their cases, and else what refining the selected place answers.
+-- The answer of promote, for any place: the place refined where it fits, else spent and the log as it was.
 -- Assumes nothing.
-use mathlib.Core.Path.{_≡_, refl, sym, ap, _∙_}
-use mathlib.Core.Logic.{_⊎_, inl, inr}
-use mathlib.Core.Bool.{Bool, true, false, cond}
-use Prim.Native.Nat.{ℕ, _<_, _≤_}
+use mathlib.Core.Path.{_≡_, refl, ap}
+use mathlib.Core.Bool.{Bool, true, false}
+use Prim.Native.Nat.{ℕ}
 use native.Mathlib.Omega.{arith}
-use Rattle.area.specs.Entry.{pendingOf}
 use Rattle.area.specs.Log.{Log, withEntries}
-use Rattle.machine.specs.Choose.{selected}
-use Rattle.machine.specs.Promote.{Outcome, met, capped, spent, promoted, Promotion, refine, fits, promoteAt, promoteBy, promote}
-use Rattle.machine.specs.Facts.{errorsOf}
-use Rattle.machine.proofs.Choices.{Chosen, meets, caps, goes, chosen}
+use Rattle.machine.specs.Promote.{Outcome, spent, promoted, Promotion, refine, fits, promoteWithin}
+
+-- the log with the place refined
+abbrev pub refinedLog : Log → ℕ → Log
+refinedLog l p = withEntries l (refine (l .settings .axes) (l .entries) p)
 
 -- a log with promote's answer, and the case that it is in
-pub data Answered (l : Log) : Type 0 where
-  is-met : promote l ≡ record { outcome = met; log = l } → errorsOf l ≤ l .settings .threshold → Answered l
-  is-capped : promote l ≡ record { outcome = capped; log = l } → pendingOf (l .entries) ≤ l .settings .threshold → l .settings .threshold < errorsOf l → Answered l
-  is-refined : promote l ≡ promoteAt l (selected (l .entries)) → l .settings .threshold < pendingOf (l .entries) → Answered l
+pub data Answered (limit : ℕ) (l : Log) (p : ℕ) : Type 0 where
+  is-promoted : promoteWithin limit l p ≡ record { outcome = promoted; log = refinedLog l p } → fits limit (refine (l .settings .axes) (l .entries) p) ≡ true → Answered limit l p
+  is-spent : promoteWithin limit l p ≡ record { outcome = spent; log = l } → fits limit (refine (l .settings .axes) (l .entries) p) ≡ false → Answered limit l p
 
-pub answered : (l : Log) → Answered l
-unfolding promote promoteBy
-answered l = step (chosen l)
+pub answered : (limit : ℕ) (l : Log) (p : ℕ) → Answered limit l p
+unfolding promoteWithin
+answered limit l p = step (fits limit (refine (l .settings .axes) (l .entries) p)) refl
   where
-    step : Chosen l → Answered l
-    step (meets e h) = is-met (rw e refl) h
-    step (caps e h k) = is-capped (rw e refl) h k
-    step (goes e h) = is-refined (rw e refl) h
+    step : (t : Bool) → fits limit (refine (l .settings .axes) (l .entries) p) ≡ t → Answered limit l p
+    step true e = is-promoted (rw e refl) e
+    step false e = is-spent (rw e refl) e
 
--- refining answers spent or promoted
-pub refined-answers : (l : Log) (p : ℕ) → (promoteAt l p .outcome ≡ spent) ⊎ (promoteAt l p .outcome ≡ promoted)
-unfolding promoteAt
-refined-answers l p = step (fits (l .settings .budget) (refine (l .settings .axes) (l .entries) p))
-  where
-    given : Bool → Promotion
-    given t = cond t (record { outcome = promoted; log = withEntries l (refine (l .settings .axes) (l .entries) p) }) (record { outcome = spent; log = l })
+-- the two answers are not one
+pub spent-not : {A : Type 0} {o : Outcome} → o ≡ spent → o ≡ promoted → A
+spent-not e f = let z : _≡_ {A = ℕ} 0 1 = cc in absurd (omega arith)
 
-    step : (t : Bool) → (given t .outcome ≡ spent) ⊎ (given t .outcome ≡ promoted)
-    step true = inr refl
-    step false = inl refl
-
--- no two answers are one
-abbrev number : Outcome → ℕ
-number met = 0
-number capped = 1
-number spent = 2
-number promoted = 3
-
-differ : {A : Type 0} {x y : Outcome} → x ≡ y → (number x ≡ number y → ⊥) → A
-differ e n = absurd (n (ap number e))
-
-refined-else : {A : Type 0} (l : Log) (o : Outcome) → promote l ≡ promoteAt l (selected (l .entries)) → promote l .outcome ≡ o → number o < 2 → A
-refined-else {A = A} l o e f h = step (refined-answers l (selected (l .entries)))
-  where
-    step : (promoteAt l (selected (l .entries)) .outcome ≡ spent) ⊎ (promoteAt l (selected (l .entries)) .outcome ≡ promoted) → A
-    step (inl g) = differ (sym f ∙ ap (λ x. x .outcome) e ∙ g) (λ z. omega (arith, z, h))
-    step (inr g) = differ (sym f ∙ ap (λ x. x .outcome) e ∙ g) (λ z. omega (arith, z, h))
-
-module _ (l : Log) where
-  abbrev t : ℕ
-  t = l .settings .threshold
-
-  pub met-only : promote l .outcome ≡ met → errorsOf l ≤ t
-  met-only f = step (answered l)
+module _ (limit : ℕ) (l : Log) (p : ℕ) where
+  -- what holds of the log and of the log with the place refined, holds whatever the answer
+  pub either-log : (P : Log → Type 0) → (fits limit (refine (l .settings .axes) (l .entries) p) ≡ true → P (refinedLog l p)) → P l → P (promoteWithin limit l p .log)
+  either-log P f g = step (answered limit l p)
     where
-      step : Answered l → errorsOf l ≤ t
-      step (is-met e h) = h
-      step (is-capped e h k) = differ (sym f ∙ ap (λ x. x .outcome) e) (λ z. omega (arith, z))
-      step (is-refined e h) = refined-else l met e f (omega arith)
+      step : Answered limit l p → P (promoteWithin limit l p .log)
+      step (is-promoted e h) = rw e (f h)
+      step (is-spent e h) = rw e g
 
-  pub capped-only : promote l .outcome ≡ capped → (pendingOf (l .entries) ≤ t) × (t < errorsOf l)
-  capped-only f = step (answered l)
+  -- the settings stay
+  pub promoted-settings : promoteWithin limit l p .log .settings ≡ l .settings
+  promoted-settings = either-log (λ (o : Log). o .settings ≡ l .settings) (λ e. refl) refl
+
+  -- promoted, the place is refined
+  pub promoted-log : promoteWithin limit l p .outcome ≡ promoted → promoteWithin limit l p .log ≡ refinedLog l p
+  promoted-log f = step (answered limit l p)
     where
-      step : Answered l → (pendingOf (l .entries) ≤ t) × (t < errorsOf l)
-      step (is-met e h) = differ (sym f ∙ ap (λ x. x .outcome) e) (λ z. omega (arith, z))
-      step (is-capped e h k) = (h, k)
-      step (is-refined e h) = refined-else l capped e f (omega arith)
+      step : Answered limit l p → promoteWithin limit l p .log ≡ refinedLog l p
+      step (is-promoted e h) = ap (λ (x : Promotion). x .log) e
+      step (is-spent e h) = spent-not (ap (λ (x : Promotion). x .outcome) e) f
 
-  pub met-if : errorsOf l ≤ t → promote l ≡ record { outcome = met; log = l }
-  met-if h = step (answered l)
+  -- any other answer leaves the log
+  pub same-log : (promoteWithin limit l p .outcome ≡ promoted → ⊥) → promoteWithin limit l p .log ≡ l
+  same-log n = step (answered limit l p)
     where
-      step : Answered l → promote l ≡ record { outcome = met; log = l }
-      step (is-met e g) = e
-      step (is-capped e g k) = absurd (omega (arith, h, k))
-      step (is-refined e g) = absurd (omega (arith, h, g))
-
-  pub capped-if : pendingOf (l .entries) ≤ t → t < errorsOf l → promote l ≡ record { outcome = capped; log = l }
-  capped-if h k = step (answered l)
-    where
-      step : Answered l → promote l ≡ record { outcome = capped; log = l }
-      step (is-met e g) = absurd (omega (arith, k, g))
-      step (is-capped e g f) = e
-      step (is-refined e g) = absurd (omega (arith, h, g))
-
-  -- the selected place is refined exactly where the pending error is above the threshold
-  pub above-refined : t < pendingOf (l .entries) → promote l ≡ promoteAt l (selected (l .entries))
-  above-refined h = step (answered l)
-    where
-      step : Answered l → promote l ≡ promoteAt l (selected (l .entries))
-      step (is-met e g) = absurd (omega (arith, h, g))
-      step (is-capped e g f) = absurd (omega (arith, h, g))
-      step (is-refined e g) = e
-
-  pub refined-above : (promote l .outcome ≡ met → ⊥) → (promote l .outcome ≡ capped → ⊥) → t < pendingOf (l .entries)
-  refined-above n m = step (answered l)
-    where
-      step : Answered l → t < pendingOf (l .entries)
-      step (is-met e g) = absurd (n (ap (λ x. x .outcome) e))
-      step (is-capped e g f) = absurd (m (ap (λ x. x .outcome) e))
-      step (is-refined e g) = g
-
-  pub spent-above : promote l .outcome ≡ spent → t < pendingOf (l .entries)
-  spent-above f = refined-above (λ e. differ (sym f ∙ e) (λ z. omega (arith, z))) (λ e. differ (sym f ∙ e) (λ z. omega (arith, z)))
-
-  pub promoted-above : promote l .outcome ≡ promoted → t < pendingOf (l .entries)
-  promoted-above f = refined-above (λ e. differ (sym f ∙ e) (λ z. omega (arith, z))) (λ e. differ (sym f ∙ e) (λ z. omega (arith, z)))
+      step : Answered limit l p → promoteWithin limit l p .log ≡ l
+      step (is-promoted e h) = absurd (n (ap (λ (x : Promotion). x .outcome) e))
+      step (is-spent e h) = ap (λ (x : Promotion). x .log) e

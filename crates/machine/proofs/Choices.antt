@@ -3,14 +3,15 @@
 -- Assumes nothing.
 use mathlib.Core.Path.{_≡_, refl, sym, ap, _∙_}
 use mathlib.Core.Bool.{Bool, true, false, cond}
-use Prim.Native.Nat.{ℕ, _+_, _<_, _≤_}
+use Prim.Native.Nat.{ℕ, _<_, _≤_}
 use native.Mathlib.Omega.{arith}
 use borrow.Author.Tests.{leb-true, leb-false}
-use lib.Dec.{leb}
-use Rattle.area.specs.Entry.{pendingOf, carriedOf}
+use Rattle.area.specs.Entry.{pendingOf}
 use Rattle.area.specs.Log.{Log}
+use Rattle.machine.specs.Log.{Active}
 use Rattle.machine.specs.Choose.{Choice, met, capped, place, selected, isOver, isMet, choose}
 use Rattle.machine.specs.Facts.{errorsOf, ChooseFacts}
+use Rattle.machine.proofs.Selected.{above-selected}
 
 -- a log with its choice, and the case that it is in
 pub data Chosen (l : Log) : Type 0 where
@@ -90,6 +91,9 @@ module _ (l : Log) where
       step (caps e g f) = let z : kind (place p) ≡ kind capped = ap kind (sym c ∙ e) in absurd (omega (arith, z))
       step (goes e g) = (g, ap number (sym c ∙ e))
 
+  place-active : (p : ℕ) → choose l ≡ place p → Active (l .entries) p
+  place-active p c = let x = place-only p c in rw (x .1) (above-selected l (x .0) .is)
+
 pub choose-facts : ChooseFacts
 choose-facts =
     record {
@@ -99,6 +103,7 @@ choose-facts =
       capped-only = capped-only;
       place-if = place-if;
       place-only = place-only;
+      place-active = place-active;
       equal-met = λ l e z. met-if l (omega (arith, e, z));
       equal-met-only = λ l e c. omega (arith, e, met-only l c);
     }

@@ -3,6 +3,7 @@ pub mod FirstCause
 pub mod Wanted
 pub mod Passing
 pub mod Old
+pub mod ActivePlaces
 pub mod Selected
 pub mod Choices
 pub mod Answers
@@ -22,6 +23,5 @@ pub mod Limits
 pub mod Spent
 pub mod Refined
 pub mod Facts
-pub mod Promotes
 pub mod Means
 pub mod Largest

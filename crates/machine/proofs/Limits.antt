@@ -11,7 +11,7 @@ use Rattle.area.specs.Entry.{reservedBy}
 use Rattle.area.specs.Log.{Log, withEntries}
 use Rattle.soundness.specs.Sound.{Exactly}
 use Rattle.soundness.proofs.Exactly.{reads-le, reads-and}
-use Rattle.machine.specs.Promote.{Promotion, spent, promoted, refine, fits, promoteAt}
+use Rattle.machine.specs.Promote.{Promotion, spent, promoted, refine, fits, promoteWithin, promoteAt}
 
 -- x held and y readings reserved are too many
 abbrev pub TooMany : ℕ → ℕ → ℕ → Type 0
@@ -28,7 +28,7 @@ module _ (l : Log) (p : ℕ) where
   given t = cond t (record { outcome = promoted; log = after }) (record { outcome = spent; log = l })
 
   given-is : promoteAt l p .outcome ≡ given (fits g (after .entries)) .outcome
-  unfolding promoteAt
+  unfolding promoteWithin
   given-is = refl
 
   module _ (x y : ℕ) (held : length (refine (l .settings .axes) (l .entries) p) ≡ x) (reserved : reservedBy (refine (l .settings .axes) (l .entries) p) ≡ y) where

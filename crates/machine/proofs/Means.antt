@@ -5,7 +5,6 @@
 -- Assumes nothing.
 use mathlib.Core.Path.{_≡_, refl, sym, ap, ap₂, _∙_, subst, fun-ext}
 use mathlib.Core.Logic.{_≢_, ⊎-elim}
-use mathlib.Core.Bool.{Bool, true, false, cond}
 use mathlib.Core.List.{List, [], List·Memᴰ}
 use Prim.Native.Nat.{ℕ, _<_, _≤_}
 use native.Mathlib.Omega.{arith}
@@ -18,8 +17,8 @@ use Rattle.grid.specs.Difference.{scaledDifference, scaledMean}
 use Rattle.grid.specs.Terms.{DownSet}
 use Rattle.grid.proofs.Facts.{difference-facts, combination}
 use Rattle.area.specs.Records.{Run}
-use Rattle.area.specs.Entry.{Entry, deliveredOf, readingsOf, readingIn, pendingOf}
-use Rattle.area.specs.Log.{Log, Machine, withEntries}
+use Rattle.area.specs.Entry.{Entry, deliveredOf, readingsOf, readingIn}
+use Rattle.area.specs.Log.{Log, Machine}
 use Rattle.area.specs.Encoding.{Area, heldOf, entriesOf, machineOf}
 use Rattle.quadrature.specs.Linked.{deliveredIn}
 use Rattle.quadrature.proofs.Delivered.{delivered-sure}
@@ -32,16 +31,14 @@ use Rattle.encoding.specs.Entries.{entryAt, Has, SoundMachine}
 use Rattle.encoding.specs.Encodes.{encodedArea}
 use Rattle.encoding.proofs.Places.{state-at, has}
 use Rattle.encoding.proofs.Facts.{encoding-facts}
-use Rattle.machine.specs.Log.{wanted, firstWanted, wantedIndex}
-use Rattle.machine.specs.Choose.{selected}
-use Rattle.machine.specs.Promote.{madeOld, makeOld, admittedAxes, refine, fits, spent, promoted, Promotion, promoteAt, promote}
+use Rattle.machine.specs.Log.{wanted, firstWanted, wantedIndex, Active}
+use Rattle.machine.specs.Promote.{madeOld, makeOld, admittedAxes, refine}
 use Rattle.machine.specs.Steps.{started, delivered, deliverAt, deliver, promoteStep}
 use Rattle.machine.specs.Means.{meanOf, crossOf, MeanFacts}
 use Rattle.machine.proofs.Wanted.{first-is}
 use Rattle.machine.proofs.Readings.{Empty, readings-other, readings-set, readings-append, sum-more}
 use Rattle.machine.proofs.Refined.{ahead, ahead-at, refine-delivered}
-use Rattle.machine.proofs.Answers.{Answered, is-met, is-capped, is-refined, answered}
-use Rattle.machine.proofs.Facts.{step-facts}
+use Rattle.machine.proofs.Answers.{either-log}
 
 -- ---- the delivered of sound entries
 
@@ -155,35 +152,16 @@ module _ {m : Machine} (v : SoundMachine m) where
     refine-mean = ap₂ scaledMean (refine-delivered v p inside active) (fun-ext (λ l. ap (λ x j. getD x j (pos 0)) (refine-readings l)))
 
 -- whatever the answer
-module _ (m : Machine) (v : SoundMachine m) where
-  abbrev l : Log
-  l = m .log
-
-  abbrev Kept : Promotion → Type 0
-  Kept x = meanOf (x .log .entries) ≡ meanOf (l .entries)
-
-  promote-at : l .settings .threshold < pendingOf (l .entries) → Kept (promoteAt l (selected (l .entries)))
-  unfolding promoteAt
-  promote-at n = step (fits (l .settings .budget) (refine (l .settings .axes) (l .entries) (selected (l .entries))))
-    where
-      step : (t : Bool) → Kept (cond t (record { outcome = promoted; log = withEntries l (refine (l .settings .axes) (l .entries) (selected (l .entries))) }) (record { outcome = spent; log = l }))
-      step true = let s = step-facts .selects l n in refine-mean v (selected (l .entries)) (s .0) (s .1)
-      step false = refl
-
-  promote-mean : meanOf (promoteStep m .log .entries) ≡ meanOf (m .log .entries)
-  unfolding promoteStep
-  promote-mean = step (answered l)
-    where
-      step : Answered l → Kept (promote l)
-      step (is-met e h) = rw e refl
-      step (is-capped e h k) = rw e refl
-      step (is-refined e h) = rw e (promote-at h)
+promote-mean : (m : Machine) (p : ℕ) → SoundMachine m → Active (m .log .entries) p → meanOf (promoteStep m p .log .entries) ≡ meanOf (m .log .entries)
+unfolding promoteStep
+promote-mean m p v a =
+    either-log (m .log .settings .budget) (m .log) p (λ (l : Log). meanOf (l .entries) ≡ meanOf (m .log .entries)) (λ e. refine-mean v p (a .place) (a .active)) refl
 
 pub mean-facts : MeanFacts
 mean-facts =
     record {
       start = λ g. unfold meanOf started deliveredOf wanted scaledMean sumOf in refl;
       deliver = λ m rs i v some. unfold deliver in deliver-adds v some rs i;
-      promote = λ m v. promote-mean m v;
+      promote = promote-mean;
       cross = λ m v. cross-is v;
     }

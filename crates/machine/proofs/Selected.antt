@@ -6,24 +6,19 @@ use mathlib.Core.List.{List, [], _∷_}
 use Prim.Native.Nat.{ℕ, zero, suc, _+_, _<_, _≤_}
 use native.Mathlib.Decide.{ℕ-discrete, decLt}
 use native.Mathlib.Omega.{arith}
-use borrow.Author.Tests.{eqb-true, le-leb}
+use borrow.Author.Tests.{eqb-true}
 use lib.Dec.{leb, eqb}
-use lib.ListN.{length}
 use Rattle.area.specs.Entry.{Entry, pendingOf}
 use Rattle.area.specs.Log.{Log}
 use Rattle.soundness.specs.Sound.{Exactly}
 use Rattle.soundness.proofs.Exactly.{reads-eq, reads-le, reads-and}
 use Rattle.encoding.specs.Entries.{entryAt}
+use Rattle.machine.specs.Log.{Active}
 use Rattle.machine.specs.Choose.{largest, firstActive, selected}
 
 -- a test that says no refutes its statement
 refuted : {t : Bool} {P : Type 0} → Exactly t P → t ≡ false → P → ⊥
 refuted r e p = let y = r .back p in let z : _≡_ {A = ℕ} 0 1 = cc in omega arith
-
--- the place has an active entry
-pub record Active (es : List Entry) (p : ℕ) : Type 0 where
-  pub place : p < length es
-  pub active : entryAt es p .state ≡ 1
 
 later : (e : Entry) (es : List Entry) (p : ℕ) → Active es p → Active (e ∷ es) (suc p)
 later e es p a = record { place = omega (arith, a .place); active = a .active }

@@ -1,7 +1,7 @@
 -- The first wanted entry: nothing before it is wanted, it is wanted itself, and it is the only such place. Where wanted entries come
 -- last, all from it on are wanted.
 -- Assumes nothing.
-use mathlib.Core.Path.{_≡_, refl}
+use mathlib.Core.Path.{_≡_, refl, sym, _∙_}
 use mathlib.Core.Bool.{Bool, true, false, cond}
 use mathlib.Core.List.{List, [], _∷_}
 use Prim.Native.Nat.{ℕ, zero, suc, _<_, _≤_}
@@ -15,6 +15,7 @@ use Rattle.soundness.specs.Sound.{Exactly}
 use Rattle.soundness.proofs.Exactly.{reads-lt}
 use Rattle.encoding.specs.Entries.{entryAt}
 use Rattle.machine.specs.Log.{firstWanted, anyWanted}
+use Rattle.machine.specs.Facts.{WantedFacts}
 
 pub first-inside : (es : List Entry) → firstWanted es ≤ length es
 unfolding firstWanted
@@ -75,3 +76,22 @@ module _ (es : List Entry) where
   pub reads-wanted : Exactly (anyWanted es) (firstWanted es < length es)
   unfolding anyWanted
   reads-wanted = reads-lt (firstWanted es) (length es)
+
+  -- a wanted place is there, and the first is no later
+  first-early : (p : ℕ) → p < length es → entryAt es p .state ≡ 0 → firstWanted es ≤ p
+  first-early p h z = step (decLt p (firstWanted es))
+    where
+      step : Dec (p < firstWanted es) → firstWanted es ≤ p
+      step (yes l) = absurd (omega (arith, before-first es p l, z))
+      step (no l) = omega arith
+
+  some-wanted : (p : ℕ) → p < length es → entryAt es p .state ≡ 0 → anyWanted es ≡ true
+  some-wanted p h z = reads-wanted .back (omega (arith, h, first-early p h z))
+
+pub wanted-facts : WantedFacts
+wanted-facts =
+    record {
+      sure = λ es e. let h = reads-wanted es .sure e in (h, first-is es h);
+      back = λ es p h z. (some-wanted es p h z, first-early es p h z);
+      none = λ es e p h z. let clash : true ≡ false = sym (some-wanted es p h z) ∙ e in let y : _≡_ {A = ℕ} 0 1 = cc in omega arith;
+    }

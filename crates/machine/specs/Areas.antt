@@ -4,8 +4,8 @@ use Prim.Native.Nat.{ℕ}
 use lib.IntN.{ℤ}
 use Rattle.area.specs.declared.Settings.{Settings}
 use Rattle.area.specs.Encoding.{Area, machineOf, written}
-use Rattle.machine.specs.Promote.{Outcome, met, capped, spent, promoted, promoteAt, promote}
-use Rattle.machine.specs.Steps.{started, deliver, promoteStep}
+use Rattle.machine.specs.Promote.{Outcome, spent, promoted, promoteWithin}
+use Rattle.machine.specs.Steps.{started, deliver}
 
 unfoldable pub startOn : Area → Settings → Area
 startOn a g = written a (started g)
@@ -17,25 +17,20 @@ pub record AreaPromotion : Type 0 where
   pub outcome : Outcome
   pub area : Area
 
--- Met, capped and spent change nothing.
+-- Spent changes nothing.
 unfoldable pub changedBy : Outcome → Area → Area → Area
-changedBy met a b = a
-changedBy capped a b = a
 changedBy spent a b = a
 changedBy promoted a b = b
 
--- Refining the place p.
-unfoldable pub refineOn : Area → ℕ → AreaPromotion
-refineOn a p =
+-- Refining the place p, with a limit on the reserved readings.
+unfoldable pub refineOn : (limit : ℕ) → Area → ℕ → AreaPromotion
+refineOn limit a p =
     record {
-      outcome = promoteAt (machineOf a .log) p .outcome;
-      area = changedBy (promoteAt (machineOf a .log) p .outcome) a (written a (record { log = promoteAt (machineOf a .log) p .log; mean = a .job .mean }));
+      outcome = promoteWithin limit (machineOf a .log) p .outcome;
+      area = changedBy (promoteWithin limit (machineOf a .log) p .outcome) a
+          (written a (record { log = promoteWithin limit (machineOf a .log) p .log; mean = a .job .mean }));
     }
 
--- Promote: the rule worked on what the area holds.
-unfoldable pub promoteOn : Area → AreaPromotion
-promoteOn a =
-    record {
-      outcome = promote (machineOf a .log) .outcome;
-      area = changedBy (promote (machineOf a .log) .outcome) a (written a (promoteStep (machineOf a)));
-    }
+-- Promote of the place p: the limit is the recorded budget.
+abbrev pub promoteOn : Area → ℕ → AreaPromotion
+promoteOn a p = refineOn (a .job .settings .budget) a p

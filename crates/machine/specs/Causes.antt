@@ -10,7 +10,7 @@ use Rattle.grid.specs.Block.{blockSize}
 use Rattle.area.specs.declared.Settings.{Settings}
 use Rattle.area.specs.Settings.{axesFit, budgetFit, readingCount, leastStore}
 use Rattle.area.specs.Log.{Log}
-use Rattle.machine.specs.Log.{anyWanted, wantedIndex}
+use Rattle.machine.specs.Log.{anyWanted, wantedIndex, activeAt}
 
 -- A cause: a test that refuses, and its number, which is never 0.
 pub record Cause : Type 0 where
@@ -71,12 +71,19 @@ deliverOwnCauses l readings =
 unfoldable pub deliverCauses : Lengths → Bool → Log → List ℤ → List Cause
 deliverCauses z sound l readings = jobCauses z sound (l .settings) false (deliverOwnCauses l readings)
 
--- Promote's: a block wanted.
-abbrev pub promoteOwnCauses : Log → List Cause
-promoteOwnCauses l = cause (anyWanted (l .entries)) 6 ∷ []
+-- Choose's: a block wanted.
+abbrev pub chooseOwnCauses : Log → List Cause
+chooseOwnCauses l = cause (anyWanted (l .entries)) 6 ∷ []
 
-unfoldable pub promoteCauses : Lengths → Bool → Log → List Cause
-promoteCauses z sound l = jobCauses z sound (l .settings) false (promoteOwnCauses l)
+unfoldable pub chooseCauses : Lengths → Bool → Log → List Cause
+chooseCauses z sound l = jobCauses z sound (l .settings) false (chooseOwnCauses l)
+
+-- Promote's, of the place p, which is any number: a block wanted; p is not the place of an active index.
+abbrev pub promoteOwnCauses : Log → (p : ℕ) → List Cause
+promoteOwnCauses l p = cause (anyWanted (l .entries)) 6 ∷ cause (not (activeAt (l .entries) p)) 11 ∷ []
+
+unfoldable pub promoteCauses : Lengths → Bool → Log → (p : ℕ) → List Cause
+promoteCauses z sound l p = jobCauses z sound (l .settings) false (promoteOwnCauses l p)
 
 -- Result, doubles and cross total have none of their own.
 unfoldable pub resultCauses : Lengths → Bool → Log → List Cause

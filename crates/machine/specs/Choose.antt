@@ -1,5 +1,5 @@
--- Choosing ("Old, active and wanted", with request No. 3): whether to go on, and with which index. It goes on while the pending error is above
--- the threshold, whatever is carried, as Fig. 1's loop does.
+-- **Choose** ("Old, active and wanted", with requests No. 3 and 4): met, capped, or the place that the rule selects. It answers a place while the
+-- pending error is above the threshold, whatever is carried, as Fig. 1's loop then goes on. In Fig. 1 it is the loop's test and the selection.
 use mathlib.Core.Bool.{Bool, cond, _&&_}
 use mathlib.Core.List.{List, [], _∷_}
 use Prim.Native.Nat.{ℕ, suc, _+_}

@@ -12,8 +12,8 @@ use Rattle.area.specs.Settings.{SettingsFit, readingCount}
 use Rattle.area.specs.Entry.{Entry, pendingOf, carriedOf}
 use Rattle.area.specs.Log.{Log, Machine, machineWithEntries}
 use Rattle.encoding.specs.Entries.{entryAt, SoundMachine}
-use Rattle.machine.specs.Log.{firstWanted, wantedIndex}
-use Rattle.machine.specs.Choose.{Choice, met, capped, place, selected, choose}
+use Rattle.machine.specs.Log.{firstWanted, anyWanted, wantedIndex, Active, activeAt}
+use Rattle.machine.specs.Choose.{met, capped, place, selected, choose}
 use Rattle.machine.specs.Promote.{refine, fits}
 use Rattle.machine.specs.Steps.{started, deliverAt, deliver, promoteStep}
 use Rattle.machine.specs.Causes.{Cause, cause, firstCause}
@@ -34,8 +34,8 @@ pub record StepFacts : Type 0 where
       → entryAt (l .entries) q .indicator ≤ entryAt (l .entries) (selected (l .entries)) .indicator
   pub lowest : (l : Log) → l .settings .threshold < pendingOf (l .entries) → (q : ℕ) → q < length (l .entries) → entryAt (l .entries) q .state ≡ 1
       → entryAt (l .entries) q .indicator ≡ entryAt (l .entries) (selected (l .entries)) .indicator → selected (l .entries) ≤ q
-  -- so a promotion with nothing wanted keeps the clauses, whatever its answer
-  pub promote : (m : Machine) → SoundMachine m → length (m .log .entries) ≤ firstWanted (m .log .entries) → SoundMachine (promoteStep m)
+  -- a promotion of any active place keeps the clauses, whatever its answer
+  pub promote : (m : Machine) (p : ℕ) → SoundMachine m → Active (m .log .entries) p → SoundMachine (promoteStep m p)
 
 -- ---- the carried error
 
@@ -66,9 +66,27 @@ pub record ChooseFacts : Type 0 where
   -- and the selected place where the pending error is above it, whatever is carried
   pub place-if : (l : Log) → l .settings .threshold < pendingOf (l .entries) → choose l ≡ place (selected (l .entries))
   pub place-only : (l : Log) (p : ℕ) → choose l ≡ place p → (l .settings .threshold < pendingOf (l .entries)) × (p ≡ selected (l .entries))
+  -- which is that of an active index
+  pub place-active : (l : Log) (p : ℕ) → choose l ≡ place p → Active (l .entries) p
   -- a threshold equal to the pending error is met exactly if the carried error is 0
   pub equal-met : (l : Log) → pendingOf (l .entries) ≡ l .settings .threshold → carriedOf (l .settings .axes) (l .entries) ≡ 0 → choose l ≡ met
   pub equal-met-only : (l : Log) → pendingOf (l .entries) ≡ l .settings .threshold → choose l ≡ met → carriedOf (l .settings .axes) (l .entries) ≡ 0
+
+-- ---- what is wanted, and the place of a promotion
+
+-- A block is wanted exactly if some entry is in that state, and the first wanted place is the lowest of these.
+pub record WantedFacts : Type 0 where
+  pub sure : (es : List Entry) → anyWanted es ≡ true → (firstWanted es < length es) × (entryAt es (firstWanted es) .state ≡ 0)
+  pub back : (es : List Entry) (p : ℕ) → p < length es → entryAt es p .state ≡ 0 → (anyWanted es ≡ true) × (firstWanted es ≤ p)
+  pub none : (es : List Entry) → anyWanted es ≡ false → (p : ℕ) → p < length es → entryAt es p .state ≡ 0 → ⊥
+
+-- The test is the statement: true exactly at the place of an active index.
+pub record PlaceFacts : Type 0 where
+  pub sure : (es : List Entry) (p : ℕ) → activeAt es p ≡ true → Active es p
+  pub back : (es : List Entry) (p : ℕ) → Active es p → activeAt es p ≡ true
+  -- false at the number held and above, and where the entry is not active
+  pub past : (es : List Entry) (p : ℕ) → length es ≤ p → activeAt es p ≡ false
+  pub other : (es : List Entry) (p : ℕ) → (entryAt es p .state ≡ 1 → ⊥) → activeAt es p ≡ false
 
 -- ---- causes
 

@@ -10,7 +10,7 @@ use Rattle.area.specs.declared.Settings.{Settings}
 use Rattle.area.specs.Entry.{Entry, deliveredOf, readingIn}
 use Rattle.area.specs.Log.{Machine}
 use Rattle.encoding.specs.Entries.{SoundMachine}
-use Rattle.machine.specs.Log.{firstWanted, wantedIndex}
+use Rattle.machine.specs.Log.{firstWanted, wantedIndex, Active}
 use Rattle.machine.specs.Steps.{started, deliver, promoteStep}
 
 -- The *scaled mean*: the sum of the delivered indices' differences, times 2^20.
@@ -27,7 +27,7 @@ pub record MeanFacts : Type 0 where
   -- a delivery adds the delivered index's difference: that of every index delivered before stays
   pub deliver : (m : Machine) (rs : List ℤ) (i : ℕ) → SoundMachine m → firstWanted (m .log .entries) < length (m .log .entries)
       → meanOf (deliver m rs i .log .entries) ≡ meanOf (m .log .entries) +ℤ scaledDifference (wantedIndex (m .log .entries)) (readingIn (deliver m rs i .log .entries))
-  -- a promotion adds none
-  pub promote : (m : Machine) → SoundMachine m → meanOf (promoteStep m .log .entries) ≡ meanOf (m .log .entries)
+  -- a promotion of any active place adds none
+  pub promote : (m : Machine) (p : ℕ) → SoundMachine m → Active (m .log .entries) p → meanOf (promoteStep m p .log .entries) ≡ meanOf (m .log .entries)
   -- and the two ways come to the same
   pub cross : (m : Machine) → SoundMachine m → meanOf (m .log .entries) ≡ crossOf (m .log .entries)

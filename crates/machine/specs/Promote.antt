@@ -1,5 +1,5 @@
--- Promote ("Old, active and wanted"): choosing, which ends or selects an active index, and refining it. In Fig. 1 of the source these are the
--- loop's test, the selection of the index with the largest indicator, its move to the old set, and the loop over its forward neighbours.
+-- **Promote** ("Old, active and wanted", with request No. 4): an active place is refined, whatever selected it and whatever the threshold. In
+-- Fig. 1 of the source this is the index's move to the old set, and the loop over its forward neighbours.
 use mathlib.Core.Bool.{Bool, true, false, cond, _&&_}
 use mathlib.Core.List.{List, [], _∷_, _++_, map}
 use Prim.Native.Nat.{ℕ, zero, suc, _+_}
@@ -12,11 +12,9 @@ use Rattle.area.specs.Log.{Log, withEntries}
 use Rattle.soundness.specs.Test.{allFrom}
 use Rattle.encoding.specs.Entries.{entryAt}
 use Rattle.machine.specs.Log.{wanted}
-use Rattle.machine.specs.Choose as choice
-use Rattle.machine.specs.Choose.{Choice, choose}
 
--- ---- refining: the selected index becomes old; a forward neighbour within the ceilings is admitted if all its own backward
--- neighbours are old, the selected one now included
+-- ---- refining: the place's index becomes old; a forward neighbour within the ceilings is admitted if all its own backward
+-- neighbours are old, the place's index now included
 
 unfoldable pub madeOld : Entry → Entry
 madeOld e = record { levels = e .levels; state = 2; indicator = e .indicator; readings = e .readings }
@@ -45,19 +43,17 @@ passing (suc n) a f = cond (f a) (a ∷ passing n (a + 1) f) (passing n (a + 1) 
 unfoldable pub admittedAxes : ℕ → List Entry → List ℕ → List ℕ
 admittedAxes d es k = passing d 0 (admits d es k)
 
--- The admitted are appended in axis order, wanted. This is for any active place, whatever selected it.
+-- The admitted are appended in axis order, wanted.
 unfoldable pub refine : ℕ → List Entry → ℕ → List Entry
 refine d es p = makeOld es p ++ map (λ a. wanted (forward (entryAt es p .levels) a)) (admittedAxes d (makeOld es p) (entryAt es p .levels))
 
 -- ---- the answers
 
--- At most 512 held, and reserved at most the budget. Promote is *spent* exactly if this fails with the admitted appended.
-unfoldable pub fits : ℕ → List Entry → Bool
-fits b es = leb (length es) 512 && leb (reservedBy es) b
+-- At most 512 held, and reserved at most the limit, which is the budget. Promote is *spent* exactly if this fails with the admitted appended.
+unfoldable pub fits : (limit : ℕ) → List Entry → Bool
+fits limit es = leb (length es) 512 && leb (reservedBy es) limit
 
 pub data Outcome : Type 0 where
-  met : Outcome
-  capped : Outcome
   spent : Outcome
   promoted : Outcome
 
@@ -65,17 +61,12 @@ pub record Promotion : Type 0 where
   pub outcome : Outcome
   pub log : Log
 
--- Refining a place, unless it is spent, and then nothing changes.
-unfoldable pub promoteAt : Log → ℕ → Promotion
-promoteAt l p =
-    cond (fits (l .settings .budget) (refine (l .settings .axes) (l .entries) p)) (record { outcome = promoted; log = withEntries l (refine (l .settings .axes) (l .entries) p) })
+-- Refining a place, unless it is spent, and then nothing changes; with a limit on the reserved readings.
+unfoldable pub promoteWithin : (limit : ℕ) → Log → ℕ → Promotion
+promoteWithin limit l p =
+    cond (fits limit (refine (l .settings .axes) (l .entries) p)) (record { outcome = promoted; log = withEntries l (refine (l .settings .axes) (l .entries) p) })
     (record { outcome = spent; log = l })
 
--- What was chosen decides: met and capped change nothing, a place is refined.
-unfoldable pub promoteBy : Log → Choice → Promotion
-promoteBy l choice.met = record { outcome = met; log = l }
-promoteBy l choice.capped = record { outcome = capped; log = l }
-promoteBy l (choice.place p) = promoteAt l p
-
-unfoldable pub promote : Log → Promotion
-promote l = promoteBy l (choose l)
+-- The limit is the budget.
+abbrev pub promoteAt : Log → ℕ → Promotion
+promoteAt l p = promoteWithin (l .settings .budget) l p

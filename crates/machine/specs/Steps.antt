@@ -1,5 +1,5 @@
 -- Start, deliver and promote on the machine's state. In Fig. 1 of the source, start and the root's delivery are the lines before the
--- loop; a promotion and the deliveries of what it admitted are one turn (crate `published`, `PublishedFacts`).
+-- loop; a promotion of a place and the deliveries of what it admitted are one turn with its index (crate `published`, `PublishedFacts`).
 use mathlib.Core.List.{List, [], _∷_}
 use Prim.Native.Nat.{ℕ}
 use lib.IntN.{ℤ, pos, _+ℤ_}
@@ -11,7 +11,7 @@ use Rattle.area.specs.Entry.{Entry, readingIn}
 use Rattle.area.specs.Log.{Log, Machine, withEntries}
 use Rattle.encoding.specs.Entries.{entryAt}
 use Rattle.machine.specs.Log.{wanted, firstWanted, wantedIndex}
-use Rattle.machine.specs.Promote.{promote}
+use Rattle.machine.specs.Promote.{promoteAt}
 
 -- **Start** leaves in the log the settings (d, threshold and budget) and the root alone, wanted, so it is held at place 0. Before the
 -- first delivery the scaled mean is 0.
@@ -40,6 +40,6 @@ deliver m rs i =
       mean = m .mean +ℤ scaledDifference (wantedIndex (m .log .entries)) (readingIn (deliverAt (m .log .entries) (firstWanted (m .log .entries)) rs i));
     }
 
--- **Promote** leaves the recorded mean.
-unfoldable pub promoteStep : Machine → Machine
-promoteStep m = record { log = promote (m .log) .log; mean = m .mean }
+-- **Promote** of a place leaves the recorded mean.
+unfoldable pub promoteStep : Machine → ℕ → Machine
+promoteStep m p = record { log = promoteAt (m .log) p .log; mean = m .mean }
