@@ -5,4 +5,4 @@ pub mod Marks
 pub mod Admits
 pub mod Olds
 pub mod Refining
-pub mod Promoting
+pub mod Choosing

@@ -26,7 +26,7 @@ use Rattle.quadrature.specs.Readings.{recordAt}
 use Rattle.quadrature.proofs.Held.{held-length, held-record}
 use Rattle.soundness.specs.Held.{levelsAt, stateAt}
 use Rattle.machine.specs.Log.{firstWanted}
-use Rattle.machine.specs.Promote.{makeOld, admits, admittedAxes, refine, fits, spent, promoted, promoteAt}
+use Rattle.machine.specs.Promote.{makeOld, admits, admittedAxes, refine, fits, spent, promoted, promoteWithin}
 use Rattle.machine.specs.Areas.{changedBy, refineOn}
 use Rattle.encoding.specs.Entries.{SoundMachine}
 use Rattle.encoding.proofs.Facts.{range-facts}
@@ -72,19 +72,20 @@ module _ (job : JobRecord) (c : List ℕ) (store : List ℤ) (r : ValidArea (are
         low = λ p a h l. s .index p h .ceilings .high a (omega (arith, s .index p h .eight));
       }
 
--- ---- refining an active place, where nothing is wanted
+-- ---- refining an active place, where nothing is wanted, with a limit on the reserved
 
-pub record Refinable (job : JobRecord) (c : List ℕ) (store : List ℤ) (p : ℕ) : Type 0 where
+pub record Refinable (job : JobRecord) (c : List ℕ) (store : List ℤ) (p limit : ℕ) : Type 0 where
   pub valid : ValidArea (areaOf job c store)
   pub idle : length (entriesOf (areaOf job c store)) ≤ firstWanted (entriesOf (areaOf job c store))
   pub place : p < job .held
   pub active : stateAt (recordsOf c) p ≡ 1
+  pub limited : limit ≤ job .settings .budget
 
-pub refinable : (job : JobRecord) (c : List ℕ) (store : List ℤ) (p : ℕ)
+pub refinable : (job : JobRecord) (c : List ℕ) (store : List ℤ) (p limit : ℕ)
     → ValidArea (areaOf job c store) × (length (entriesOf (areaOf job c store)) ≤ firstWanted (entriesOf (areaOf job c store)))
-    → (p < job .held) × (stateAt (recordsOf c) p ≡ 1)
-    → Refinable job c store p
-refinable job c store p r h = record { valid = r .0; idle = r .1; place = h .0; active = h .1 }
+    → (p < job .held) × (stateAt (recordsOf c) p ≡ 1) × (limit ≤ job .settings .budget)
+    → Refinable job c store p limit
+refinable job c store p limit r h = record { valid = r .0; idle = r .1; place = h .0; active = h .1; limited = h .2 }
 
 -- its levels as they are read, and the marks that the scan answers with
 pub record Scanned (job : JobRecord) (c : List ℕ) (p : ℕ) (levels marks : List ℕ) : Type 0 where
@@ -104,7 +105,7 @@ pub record Changed (job : JobRecord) (c : List ℕ) (p : ℕ) (levels marks : Li
   pub carried-is : carried ≡ job .carried + cond (atCeiling 8 levels) indicator 0
   pub appended-is : runOf c₂ ≡ record { records = appendedAll (job .settings) (recordsOf c₁) (job .held) first levels (markedAxes (job .settings .axes) marks); rest = runOf c₁ .rest }
 
-module _ {job : JobRecord} {c : List ℕ} {store : List ℤ} {p : ℕ} (t : Refinable job c store p) where
+module _ {job : JobRecord} {c : List ℕ} {store : List ℤ} {p limit : ℕ} (t : Refinable job c store p limit) where
   abbrev area : Area
   area = areaOf job c store
 
@@ -147,12 +148,12 @@ module _ {job : JobRecord} {c : List ℕ} {store : List ℤ} {p : ℕ} (t : Refi
 
   -- ---- the answers
 
-  spent-answer : fits (job .settings .budget) refined ≡ false → refineOn area p ≡ record { outcome = spent; area = area }
-  unfolding refineOn promoteAt changedBy machineOf
+  spent-answer : fits limit refined ≡ false → refineOn limit area p ≡ record { outcome = spent; area = area }
+  unfolding refineOn promoteWithin changedBy machineOf
   spent-answer e = rw e
 
-  promoted-answer : fits (job .settings .budget) refined ≡ true → refineOn area p ≡ record { outcome = promoted; area = written area after }
-  unfolding refineOn promoteAt changedBy machineOf
+  promoted-answer : fits limit refined ≡ true → refineOn limit area p ≡ record { outcome = promoted; area = written area after }
+  unfolding refineOn promoteWithin changedBy machineOf
   promoted-answer e = rw e
 
   after-sound : fits (job .settings .budget) refined ≡ true → SoundMachine after
@@ -214,20 +215,20 @@ module _ {job : JobRecord} {c : List ℕ} {store : List ℤ} {p : ℕ} (t : Refi
 
       -- ---- spent
 
-      pub too-many : 512 < job .held + count → promotionOf (record { outcome = Spent; job = job }) c store ≡ refineOn area p
+      pub too-many : 512 < job .held + count → promotionOf (record { outcome = Spent; job = job }) c store ≡ refineOn limit area p
       unfolding fits outcomeOf
       too-many l = sym (spent-answer (rw (lt-leb (length refined) 512 (omega (arith, held-refined)))))
 
-      pub too-large : job .held + count ≤ 512 → job .settings .budget < job .reserved + sizes → promotionOf (record { outcome = Spent; job = job }) c store ≡ refineOn area p
+      pub too-large : job .held + count ≤ 512 → limit < job .reserved + sizes → promotionOf (record { outcome = Spent; job = job }) c store ≡ refineOn limit area p
       unfolding fits outcomeOf
       too-large f l =
           sym
           (spent-answer
-          (rw (le-leb (length refined) 512 (omega (arith, held-refined)), lt-leb (reservedBy refined) (job .settings .budget) (omega (arith, reserved-refined)))))
+          (rw (le-leb (length refined) 512 (omega (arith, held-refined)), lt-leb (reservedBy refined) limit (omega (arith, reserved-refined)))))
 
       -- ---- promoted
 
-      pub append-asks : (n first : ℕ) → n ≡ length c → first ≡ readingsFor (job .settings) (job .reserved) → job .held + count ≤ 512 → job .reserved + sizes ≤ job .settings .budget
+      pub append-asks : (n first : ℕ) → n ≡ length c → first ≡ readingsFor (job .settings) (job .reserved) → job .held + count ≤ 512 → job .reserved + sizes ≤ limit
           → ((job .held + length (markedAxes (job .settings .axes) marks)) * 27 ≤ n) × (job .held + length (markedAxes (job .settings .axes) marks) ≤ 512)
           × (first + readingsFor (job .settings) (sizesOf levels (markedAxes (job .settings .axes) marks)) ≤ 8192)
       append-asks n first e f few within = (
@@ -240,9 +241,9 @@ module _ {job : JobRecord} {c : List ℕ} {store : List ℤ} {p : ℕ} (t : Refi
           g = job .settings
 
           most : readingsFor g (job .reserved + sizes) ≤ readingsFor g (g .budget)
-          most = reading-facts .more g (job .reserved + sizes) (g .budget) within
+          most = reading-facts .more g (job .reserved + sizes) (g .budget) (omega (arith, within, t .limited))
 
-      module _ (few : job .held + count ≤ 512) (within : job .reserved + sizes ≤ job .settings .budget) {indicator first carried : ℕ} {c₁ c₂ : List ℕ} (w : Changed job c p levels marks indicator first carried c₁ c₂) where
+      module _ (few : job .held + count ≤ 512) (within : job .reserved + sizes ≤ limit) {indicator first carried : ℕ} {c₁ c₂ : List ℕ} (w : Changed job c p levels marks indicator first carried c₁ c₂) where
         abbrev jobAfter : JobRecord
         jobAfter =
             record {
@@ -254,9 +255,13 @@ module _ {job : JobRecord} {c : List ℕ} {store : List ℤ} {p : ℕ} (t : Refi
               mean = job .mean;
             }
 
-        fit : fits (job .settings .budget) refined ≡ true
+        -- they fit the limit, and so the budget
+        fit-within : (b : ℕ) → limit ≤ b → fits b refined ≡ true
         unfolding fits
-        fit = rw (le-leb (length refined) 512 (omega (arith, held-refined)), le-leb (reservedBy refined) (job .settings .budget) (omega (arith, reserved-refined)))
+        fit-within b h = rw (le-leb (length refined) 512 (omega (arith, held-refined)), le-leb (reservedBy refined) b (omega (arith, reserved-refined, within)))
+
+        fit : fits (job .settings .budget) refined ≡ true
+        fit = fit-within (job .settings .budget) (t .limited)
 
         run-is : runOf c₂ ≡ record {
           records = appendedAll (job .settings) (set (recordsOf c) p (withState (recordAt (recordsOf c) p) 2 (recordAt (recordsOf c) p .indicator))) (job .held)
@@ -293,9 +298,9 @@ module _ {job : JobRecord} {c : List ℕ} {store : List ℤ} {p : ℕ} (t : Refi
             })
             ∙ sym (write-facts .refine area p (t .valid) (t .idle) (t .place) (t .active) fit)
 
-        pub promoted-is : promotionOf (record { outcome = Promoted; job = jobAfter }) c₂ store ≡ refineOn area p
+        pub promoted-is : promotionOf (record { outcome = Promoted; job = jobAfter }) c₂ store ≡ refineOn limit area p
         unfolding outcomeOf
-        promoted-is = ap (λ (x : Area). record { outcome = promoted; area = x }) after-written ∙ sym (promoted-answer fit)
+        promoted-is = ap (λ (x : Area). record { outcome = promoted; area = x }) after-written ∙ sym (promoted-answer (fit-within limit (omega arith)))
 
         pub promoted-valid : ValidArea (areaOf jobAfter c₂ store)
         unfolding machineOf

@@ -3,17 +3,25 @@ use mathlib.Core.List.{List}
 use Prim.Native.Nat.{ℕ}
 use lib.IntN.{ℤ}
 use Rattle.area.specs.Encoding.{areaOf}
-use Rattle.machine.specs.Promote.{met, capped, spent, promoted}
+use Rattle.machine.specs.Choose.{met, capped, place}
+use Rattle.machine.specs.Choose as choosing
+use Rattle.machine.specs.Promote.{spent, promoted}
 use Rattle.machine.specs.Promote as machine
 use Rattle.machine.specs.Areas.{AreaPromotion}
+use Rattle.promotion.specs.declared.Choice.{Choice}
+use Rattle.promotion.specs.declared.Choice.the-variants.{Met, Capped, Place}
 use Rattle.promotion.specs.declared.Outcome.{Outcome}
-use Rattle.promotion.specs.declared.Outcome.the-variants.{Met, Capped, Spent, Promoted}
+use Rattle.promotion.specs.declared.Outcome.the-variants.{Spent, Promoted}
 use Rattle.promotion.specs.declared.Promotion.{Promotion}
 
--- The scope document's answer for each case.
+-- The scope document's answer for each case: of choose,
+unfoldable pub choiceOf : Choice → choosing.Choice
+choiceOf Met = met
+choiceOf Capped = capped
+choiceOf (Place p) = place p
+
+-- and of promote.
 unfoldable pub outcomeOf : Outcome → machine.Outcome
-outcomeOf Met = met
-outcomeOf Capped = capped
 outcomeOf Spent = spent
 outcomeOf Promoted = promoted
 

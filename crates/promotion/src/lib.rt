@@ -1,27 +1,33 @@
-// Promote on an area that is known to be sound: how it ends, selecting a place, and refining it. The public call is that of the crate `calls`.
+// Choose and promote on an area that is known to be sound: whether to go on, selecting a place, and refining any active place. The public calls
+// are those of the crate `calls`.
 ghost use mathlib.Core.Path.{_≡_};
 ghost use mathlib.Core.Bool.{cond};
 ghost use Prim.Native.Nat.{ℕ, _+_, _*_, _^_, _<_, _≤_};
 ghost use lib.Dec.{leb};
-ghost use lib.ListN.{length, getD};
+ghost use lib.ListN.{length};
 ghost use Rattle.grid.specs.Index.{level, Within, atCeiling};
 ghost use Rattle.area.specs.Settings.{readingsFor};
 ghost use Rattle.area.specs.Records.{recordsOf, runOf, heldIn};
-ghost use Rattle.area.specs.Encoding.{areaOf, entriesOf};
+ghost use Rattle.area.specs.Encoding.{areaOf, entriesOf, machineOf};
 ghost use Rattle.quadrature.specs.Readings.{recordAt};
 ghost use Rattle.machine.specs.Log.{firstWanted};
-ghost use Rattle.machine.specs.Areas.{refineOn, promoteOn};
-ghost use Rattle.machine.specs.Choose.{selected};
-ghost use Rattle.machine.specs.Promote.{met, capped, makeOld, isOld, admits};
+ghost use Rattle.machine.specs.Areas.{refineOn};
+ghost use Rattle.machine.specs.Choose.{met, capped, selected, choose};
+ghost use Rattle.machine.specs.Promote.{makeOld, isOld, admits};
 ghost use Rattle.writing.specs.Changes.{appendedAll, sizesOf};
 ghost use Rattle.writing.specs.Heads.{headsOf};
 ghost use Rattle.writing.specs.ValidArea.{ValidArea};
-ghost use Rattle.promotion.specs.Outcomes.{outcomeOf, promotionOf};
+ghost use Rattle.promotion.specs.Outcomes.{choiceOf, promotionOf};
 ghost use Rattle.promotion.specs.Marks.{marksOf, markedAxes, Searchable, MarkedWithin};
 
-pub enum Outcome {
+// What choose answers; `Place` carries the place that the rule selects.
+pub enum Choice {
     Met,
     Capped,
+    Place(usize),
+}
+
+pub enum Outcome {
     Spent,
     Promoted,
 }
@@ -173,18 +179,24 @@ fn carried_after(carried: u64, levels: [u32; 8], indicator: u32) -> u64
     }
 }
 
-// Refines an active place, unless that is spent.
-pub fn refine(job: area::JobRecord, place: usize, cells: &mut [u32], store: &[i32]) -> Promotion
+// Refines an active place, unless that is spent. At most so many readings may then be reserved; the limit is no more than the budget.
+pub fn refine(
+    job: area::JobRecord,
+    place: usize,
+    limit: u32,
+    cells: &mut [u32],
+    store: &[i32],
+) -> Promotion
     requires { ⌜ ValidArea (areaOf job (now cells) (now store)) × (length (entriesOf (areaOf job (now cells) (now store))) ≤ firstWanted (entriesOf (areaOf job (now cells) (now store)))) ⌝ }
-    requires { ⌜ (place < job .held) × (recordAt (recordsOf (now cells)) place .state ≡ 1) ⌝ }
-    ensures is { λ r. ⌜ promotionOf r (now (cells .exit)) (now (store .entry)) ≡ refineOn (areaOf job (now (cells .entry)) (now (store .entry))) place ⌝ }
+    requires { ⌜ (place < job .held) × (recordAt (recordsOf (now cells)) place .state ≡ 1) × (limit ≤ job .settings .budget) ⌝ }
+    ensures is { λ r. ⌜ promotionOf r (now (cells .exit)) (now (store .entry)) ≡ refineOn limit (areaOf job (now (cells .entry)) (now (store .entry))) place ⌝ }
     ensures valid { λ r. ⌜ ValidArea (areaOf (r .job) (now (cells .exit)) (now (store .entry))) ⌝ }
 {
     let settings = job.settings;
     let axes = settings.axes as usize;
     let held = job.held as usize;
     let reserved = job.reserved as usize;
-    let budget = settings.budget as usize;
+    let most = limit as usize;
     let levels = area::levels_at(cells, place);
     let marks = admitted(axes, held, place, cells);
     let count = marked_count(axes, marks);
@@ -195,7 +207,7 @@ pub fn refine(job: area::JobRecord, place: usize, cells: &mut [u32], store: &[i3
             job,
         };
     }
-    if budget < reserved + sizes {
+    if most < reserved + sizes {
         return Promotion {
             outcome: Outcome::Spent,
             job,
@@ -216,31 +228,26 @@ pub fn refine(job: area::JobRecord, place: usize, cells: &mut [u32], store: &[i3
     }
 }
 
-// What promote answers where the pending error is at most the threshold: met if the carried error does not bring it above, otherwise capped.
-fn ending(job: area::JobRecord) -> Outcome
-    requires { ⌜ job .pending + job .carried < 2 ^ 41 ⌝ }
-    ensures { λ r. ⌜ outcomeOf r ≡ cond (leb (job .pending + job .carried) (job .settings .threshold)) met capped ⌝ }
+// What choose answers where the pending error is at most the threshold: met if the carried error does not bring it above, otherwise capped.
+fn ending(job: area::JobRecord) -> Choice
+    requires { ⌜ job .pending ≤ job .settings .threshold ⌝ }
+    ensures { λ r. ⌜ choiceOf r ≡ cond (leb (job .pending + job .carried) (job .settings .threshold)) met capped ⌝ }
 {
-    if job.pending + job.carried <= job.settings.threshold {
-        Outcome::Met
+    if job.carried <= job.settings.threshold - job.pending {
+        Choice::Met
     } else {
-        Outcome::Capped
+        Choice::Capped
     }
 }
 
-// Promotes: met or capped, or the selected place refined, unless that is spent.
-pub fn promote(job: area::JobRecord, cells: &mut [u32], store: &[i32]) -> Promotion
-    requires { ⌜ ValidArea (areaOf job (now cells) (now store)) × (length (entriesOf (areaOf job (now cells) (now store))) ≤ firstWanted (entriesOf (areaOf job (now cells) (now store)))) ⌝ }
-    ensures is { λ r. ⌜ promotionOf r (now (cells .exit)) (now (store .entry)) ≡ promoteOn (areaOf job (now (cells .entry)) (now (store .entry))) ⌝ }
-    ensures valid { λ r. ⌜ ValidArea (areaOf (r .job) (now (cells .exit)) (now (store .entry))) ⌝ }
+// Chooses: met, capped or the place that the rule selects.
+pub fn choose(job: area::JobRecord, cells: &[u32], store: &[i32]) -> Choice
+    requires { ⌜ ValidArea (areaOf job (now cells) (now store)) ⌝ }
+    ensures { λ r. ⌜ choiceOf r ≡ choose (machineOf (areaOf job (now (cells .entry)) (now (store .entry))) .log) ⌝ }
 {
     if job.pending <= job.settings.threshold {
-        return Promotion {
-            outcome: ending(job),
-            job,
-        };
+        return ending(job);
     }
     let held = job.held as usize;
-    let place = select(held, cells);
-    refine(job, place, cells, store)
+    Choice::Place(select(held, cells))
 }

@@ -16,28 +16,25 @@ cast-held c = search needs
 cast-reserved : tie.Need-cast-reserved
 cast-reserved c = search needs
 
-cast-budget : tie.Need-cast-budget
-cast-budget c = search needs
-
 levels-at-requires : tie.Need-levels-at-requires
 levels-at-requires c κs =
-    let s = c .before .before .before .before .before .before .before in
-    place-inside (refinable (s .args .job) (now (s .args .cells)) (now (s .args .store)) (s .args .place) (s .pre .0) (s .pre .1))
+    let s = c .before .before .before .before .before .before in
+    place-inside (refinable (s .args .job) (now (s .args .cells)) (now (s .args .store)) (s .args .place) (s .args .limit) (s .pre .0) (s .pre .1))
 
 admitted-requires : tie.Need-admitted-requires
 admitted-requires c κs =
-    let s = c .before .before .before .before .before .before .before .before .before in
-    scan-asks (refinable (s .args .job) (now (s .args .cells)) (now (s .args .store)) (s .args .place) (s .pre .0) (s .pre .1))
+    let s = c .before .before .before .before .before .before .before .before in
+    scan-asks (refinable (s .args .job) (now (s .args .cells)) (now (s .args .store)) (s .args .place) (s .args .limit) (s .pre .0) (s .pre .1))
 
 marked-count-requires : tie.Need-marked-count-requires
 marked-count-requires c κs =
-    let s = c .before .before .before .before .before .before .before .before .before .before in
+    let s = c .before .before .before .before .before .before .before .before .before in
     s .pre .0 .0 .sound .settings .axes .1
 
 marked-sizes-requires : tie.Need-marked-sizes-requires
 marked-sizes-requires c κs =
-    let s = c .before .before .before .before .before .before .before .before .before .before .before in
-    let t = refinable (s .args .job) (now (s .args .cells)) (now (s .args .store)) (s .args .place) (s .pre .0) (s .pre .1) in
+    let s = c .before .before .before .before .before .before .before .before .before .before in
+    let t = refinable (s .args .job) (now (s .args .cells)) (now (s .args .store)) (s .args .place) (s .args .limit) (s .pre .0) (s .pre .1) in
     let l = c .before .before .before .levels-at in
     let m = c .before .admitted in
     let u : Scanned (s .args .job) (now (s .args .cells)) (s .args .place) (l .result) (m .result) = record { levels-are = l .ensures; marks-are = m .ensures } in
@@ -51,8 +48,8 @@ same-length c = search needs
 
 returns : tie.Need-returns
 returns c =
-    let s = c .before .before .before .before .before .before .before .before .before .before .before .before .before in
-    let t = refinable (s .args .job) (now (s .args .cells)) (now (s .args .store)) (s .args .place) (s .pre .0) (s .pre .1) in
+    let s = c .before .before .before .before .before .before .before .before .before .before .before .before in
+    let t = refinable (s .args .job) (now (s .args .cells)) (now (s .args .store)) (s .args .place) (s .args .limit) (s .pre .0) (s .pre .1) in
     let l = c .before .before .before .before .before .levels-at in
     let m = c .before .before .before .admitted in
     let u : Scanned (s .args .job) (now (s .args .cells)) (s .args .place) (l .result) (m .result) = record { levels-are = l .ensures; marks-are = m .ensures } in
@@ -69,8 +66,8 @@ same-length-2 c = search needs
 
 returns-2 : tie.Need-returns-2
 returns-2 c =
-    let s = c .before .before .before .before .before .before .before .before .before .before .before .before .before .before in
-    let t = refinable (s .args .job) (now (s .args .cells)) (now (s .args .store)) (s .args .place) (s .pre .0) (s .pre .1) in
+    let s = c .before .before .before .before .before .before .before .before .before .before .before .before .before in
+    let t = refinable (s .args .job) (now (s .args .cells)) (now (s .args .store)) (s .args .place) (s .args .limit) (s .pre .0) (s .pre .1) in
     let l = c .before .before .before .before .before .before .levels-at in
     let m = c .before .before .before .before .admitted in
     let u : Scanned (s .args .job) (now (s .args .cells)) (s .args .place) (l .result) (m .result) = record { levels-are = l .ensures; marks-are = m .ensures } in
@@ -81,21 +78,21 @@ returns-2 c =
 
 indicator-at-requires : tie.Need-indicator-at-requires
 indicator-at-requires c κs =
-    let s = c .before .before .before .before .before .before .before .before .before .before .before .before .before .before .before in
-    place-inside (refinable (s .args .job) (now (s .args .cells)) (now (s .args .store)) (s .args .place) (s .pre .0) (s .pre .1))
+    let s = c .before .before .before .before .before .before .before .before .before .before .before .before .before .before in
+    place-inside (refinable (s .args .job) (now (s .args .cells)) (now (s .args .store)) (s .args .place) (s .args .limit) (s .pre .0) (s .pre .1))
 
 set-state-requires : tie.Need-set-state-requires
 set-state-requires c κs =
-    let s = c .before .before .before .before .before .before .before .before .before .before .before .before .before .before .before .before .before in
-    place-inside (refinable (s .args .job) (now (s .args .cells)) (now (s .args .store)) (s .args .place) (s .pre .0) (s .pre .1))
+    let s = c .before .before .before .before .before .before .before .before .before .before .before .before .before .before .before .before in
+    place-inside (refinable (s .args .job) (now (s .args .cells)) (now (s .args .store)) (s .args .place) (s .args .limit) (s .pre .0) (s .pre .1))
 
 readings-for-requires : tie.Need-readings-for-requires
 readings-for-requires c κs = search needs
 
 append-marked-requires : tie.Need-append-marked-requires
 append-marked-requires c κs =
-    let s = c .before .before .before .before .before .before .before .before .before .before .before .before .before .before .before .before .before .before .before .before .before .before in
-    let t = refinable (s .args .job) (now (s .args .cells)) (now (s .args .store)) (s .args .place) (s .pre .0) (s .pre .1) in
+    let s = c .before .before .before .before .before .before .before .before .before .before .before .before .before .before .before .before .before .before .before .before .before in
+    let t = refinable (s .args .job) (now (s .args .cells)) (now (s .args .store)) (s .args .place) (s .args .limit) (s .pre .0) (s .pre .1) in
     let l = c .before .before .before .before .before .before .before .before .before .before .before .before .before .before .levels-at in
     let m = c .before .before .before .before .before .before .before .before .before .before .before .before .admitted in
     let u : Scanned (s .args .job) (now (s .args .cells)) (s .args .place) (l .result) (m .result) = record { levels-are = l .ensures; marks-are = m .ensures } in
@@ -112,33 +109,33 @@ cast-after : tie.Need-cast-after
 cast-after c = search needs
 
 add-after-2 : tie.Need-add-after-2
-add-after-2 c = let s = c .before .before .before .before .before .before .before .before .before .before .before .before .before .before .before .before .before .before .before .before .before .before .before .before .before in omega (arith, c .before .before .before .before .before .before .before .before .before .before .before .if2 .left, s .pre .0 .0 .sound .settings .budget .1)
+add-after-2 c = let s = c .before .before .before .before .before .before .before .before .before .before .before .before .before .before .before .before .before .before .before .before .before .before .before .before in omega (arith, c .before .before .before .before .before .before .before .before .before .before .before .if2 .left, s .pre .1 .2, s .pre .0 .0 .sound .settings .budget .1)
 
 cast-after-2 : tie.Need-cast-after-2
-cast-after-2 c = let s = c .before .before .before .before .before .before .before .before .before .before .before .before .before .before .before .before .before .before .before .before .before .before .before .before .before in omega (arith, c .before .before .before .before .before .before .before .before .before .before .before .if2 .left, s .pre .0 .0 .sound .settings .budget .1)
+cast-after-2 c = let s = c .before .before .before .before .before .before .before .before .before .before .before .before .before .before .before .before .before .before .before .before .before .before .before .before in omega (arith, c .before .before .before .before .before .before .before .before .before .before .before .if2 .left, s .pre .1 .2, s .pre .0 .0 .sound .settings .budget .1)
 
 cast-after-3 : tie.Need-cast-after-3
 cast-after-3 c = search needs
 
 sub-after : tie.Need-sub-after
 sub-after c =
-    let s = c .before .before .before .before .before .before .before .before .before .before .before .before .before .before .before .before .before .before .before .before .before .before .before .before .before .before in
+    let s = c .before .before .before .before .before .before .before .before .before .before .before .before .before .before .before .before .before .before .before .before .before .before .before .before .before in
     let i = c .before .before .before .before .before .before .before .before .before .before .indicator-at in
-    indicator-pending (refinable (s .args .job) (now (s .args .cells)) (now (s .args .store)) (s .args .place) (s .pre .0) (s .pre .1)) (i .result) (i .ensures)
+    indicator-pending (refinable (s .args .job) (now (s .args .cells)) (now (s .args .store)) (s .args .place) (s .args .limit) (s .pre .0) (s .pre .1)) (i .result) (i .ensures)
 
 carried-after-requires : tie.Need-carried-after-requires
 carried-after-requires c κs =
-    let s = c .before .before .before .before .before .before .before .before .before .before .before .before .before .before .before .before .before .before .before .before .before .before .before .before .before .before in
+    let s = c .before .before .before .before .before .before .before .before .before .before .before .before .before .before .before .before .before .before .before .before .before .before .before .before .before in
     let l = c .before .before .before .before .before .before .before .before .before .before .before .before .before .before .before .before .before .before .levels-at in
-    carried-asks (refinable (s .args .job) (now (s .args .cells)) (now (s .args .store)) (s .args .place) (s .pre .0) (s .pre .1)) (l .ensures) (λ n. omega (arith, c .before .before .before .before .before .before .before .before .before .before .before .before .before .before .before .before .before .before .before .before .before .before .before .before .before .slice-known .given n))
+    carried-asks (refinable (s .args .job) (now (s .args .cells)) (now (s .args .store)) (s .args .place) (s .args .limit) (s .pre .0) (s .pre .1)) (l .ensures) (λ n. omega (arith, c .before .before .before .before .before .before .before .before .before .before .before .before .before .before .before .before .before .before .before .before .before .before .before .before .slice-known .given n))
 
 same-length-3 : tie.Need-same-length-3
 same-length-3 c = search needs
 
 returns-3 : tie.Need-returns-3
 returns-3 c =
-    let s = c .before .before .before .before .before .before .before .before .before .before .before .before .before .before .before .before .before .before .before .before .before .before .before .before .before .before .before in
-    let t = refinable (s .args .job) (now (s .args .cells)) (now (s .args .store)) (s .args .place) (s .pre .0) (s .pre .1) in
+    let s = c .before .before .before .before .before .before .before .before .before .before .before .before .before .before .before .before .before .before .before .before .before .before .before .before .before .before in
+    let t = refinable (s .args .job) (now (s .args .cells)) (now (s .args .store)) (s .args .place) (s .args .limit) (s .pre .0) (s .pre .1) in
     let l = c .before .before .before .before .before .before .before .before .before .before .before .before .before .before .before .before .before .before .before .levels-at in
     let m = c .before .before .before .before .before .before .before .before .before .before .before .before .before .before .before .before .before .admitted in
     let u : Scanned (s .args .job) (now (s .args .cells)) (s .args .place) (l .result) (m .result) = record { levels-are = l .ensures; marks-are = m .ensures } in
@@ -161,7 +158,6 @@ refine-spec =
     cast-axes
     cast-held
     cast-reserved
-    cast-budget
     levels-at-requires
     admitted-requires
     marked-count-requires
