@@ -16,8 +16,9 @@ use Rattle.area.specs.Settings.{SettingsFit, axesFit, budgetFit, readingCount, 
 use Rattle.grid.specs.Block.{blockSize}
 use Rattle.soundness.proofs.Exactly.{reads-and, reads-le}
 use Rattle.area.specs.Log.{Log}
-use Rattle.machine.specs.Log.{firstWanted, anyWanted, wantedIndex}
-use Rattle.machine.specs.Causes.{Cause, Lengths, cause, firstCause, short, inRange, pointBufferShort, startCauses, pointCauses, deliverCauses, promoteCauses, resultCauses}
+use Rattle.machine.specs.Log.{firstWanted, anyWanted, wantedIndex, Active, activeAt}
+use Rattle.machine.specs.Causes.{Cause, Lengths, cause, firstCause, short, inRange, pointBufferShort, startCauses, pointCauses, deliverCauses, chooseCauses, promoteCauses, resultCauses}
+use Rattle.machine.proofs.ActivePlaces.{place-facts}
 
 -- no test of the list refuses
 pub record Missed (t : Bool) (cs : List Cause) : Type 0 where
@@ -70,17 +71,35 @@ module _ (z : Lengths) (sound : Bool) (l : Log) where
   unfolding anyWanted
   wanted-is e = ltb-true (firstWanted (l .entries)) (length (l .entries)) (not-false (ltb (firstWanted (l .entries)) (length (l .entries))) e)
 
-  pub record Promotable : Type 0 where
+  pub record Choosable : Type 0 where
     pub clear : common ≡ 0
     pub free : length (l .entries) ≤ firstWanted (l .entries)
 
-  pub promotable : firstCause (promoteCauses z sound l) ≡ 0 → Promotable
-  unfolding promoteCauses anyWanted
-  promotable e =
+  pub choosable : firstCause (chooseCauses z sound l) ≡ 0 → Choosable
+  unfolding chooseCauses anyWanted
+  choosable e =
       let one = missed _ 2 _ e in
       let two = missed _ 3 _ (one .later) in
       let three = missed _ 5 _ (two .later) in
       record { clear = first-two [] (one .here) (two .here); free = ltb-false (firstWanted (l .entries)) (length (l .entries)) (three .here) }
+
+  pub record Promotable (p : ℕ) : Type 0 where
+    pub clear : common ≡ 0
+    pub free : length (l .entries) ≤ firstWanted (l .entries)
+    pub active : Active (l .entries) p
+
+  pub promotable : (p : ℕ) → firstCause (promoteCauses z sound l p) ≡ 0 → Promotable p
+  unfolding promoteCauses anyWanted
+  promotable p e =
+      let one = missed _ 2 _ e in
+      let two = missed _ 3 _ (one .later) in
+      let three = missed _ 5 _ (two .later) in
+      let four = missed _ 10 _ (three .later) in
+      record {
+        clear = first-two [] (one .here) (two .here);
+        free = ltb-false (firstWanted (l .entries)) (length (l .entries)) (three .here);
+        active = place-facts .sure (l .entries) p (not-false (activeAt (l .entries) p) (four .here));
+      }
 
   pub record Deliverable (rs : List ℤ) : Type 0 where
     pub clear : common ≡ 0

@@ -12,9 +12,9 @@ use Rattle.area.specs.Settings.{SettingsFit, axesFit, budgetFit, readingCount}
 use Rattle.grid.specs.Block.{blockSize}
 use Rattle.area.specs.Log.{Log}
 use Rattle.soundness.proofs.Settings.{reads-axes, reads-budget}
-use Rattle.machine.specs.Log.{firstWanted, anyWanted, wantedIndex}
-use Rattle.machine.specs.Causes.{Lengths, cause, firstCause, short, inRange, jobCauses, pointOwnCauses, startCauses, pointCauses, deliverCauses, promoteCauses, resultCauses}
-use Rattle.calls.proofs.Tests.{hit, miss, end, Clear, clear, refusing, passing}
+use Rattle.machine.specs.Log.{firstWanted, anyWanted, wantedIndex, activeAt}
+use Rattle.machine.specs.Causes.{Lengths, cause, firstCause, short, inRange, jobCauses, pointOwnCauses, startCauses, pointCauses, deliverCauses, chooseCauses, promoteCauses, resultCauses}
+use Rattle.calls.proofs.Tests.{hit, miss, end, Clear, clear, refusing, passing, refusing-wanted, passing-wanted}
 
 -- ---- start
 module _ (z : Lengths) (g : Settings) where
@@ -58,19 +58,34 @@ module _ (z : Lengths) (sound : Bool) (l : Log) where
   unfolding resultCauses
   common-clear e = clear _ _ e
 
-  -- ---- promote
-  pub promote-common : (common ≡ 0 → ⊥) → firstCause (promoteCauses z sound l) ≡ common
-  unfolding promoteCauses resultCauses
-  promote-common n = refusing _ _ _ n
+  -- ---- choose
+  pub choose-common : (common ≡ 0 → ⊥) → firstCause (chooseCauses z sound l) ≡ common
+  unfolding chooseCauses resultCauses
+  choose-common n = refusing _ _ _ n
 
   module _ (none : common ≡ 0) where
-    pub promote-wanted : anyWanted (l .entries) ≡ true → firstCause (promoteCauses z sound l) ≡ 6
-    unfolding promoteCauses resultCauses
-    promote-wanted e = passing _ _ _ none ∙ hit _ 6 _ e
+    pub choose-wanted : anyWanted (l .entries) ≡ true → firstCause (chooseCauses z sound l) ≡ 6
+    unfolding chooseCauses resultCauses
+    choose-wanted e = passing _ _ _ none ∙ hit _ 6 _ e
 
-    pub promote-free : anyWanted (l .entries) ≡ false → firstCause (promoteCauses z sound l) ≡ 0
-    unfolding promoteCauses resultCauses
-    promote-free e = passing _ _ _ none ∙ (miss _ 6 _ e ∙ end)
+    pub choose-free : anyWanted (l .entries) ≡ false → firstCause (chooseCauses z sound l) ≡ 0
+    unfolding chooseCauses resultCauses
+    choose-free e = passing _ _ _ none ∙ (miss _ 6 _ e ∙ end)
+
+  -- ---- promote, which is refused as choose is, and then by its place
+  module _ (p : ℕ) where
+    pub promote-as-choose : (firstCause (chooseCauses z sound l) ≡ 0 → ⊥) → firstCause (promoteCauses z sound l p) ≡ firstCause (chooseCauses z sound l)
+    unfolding promoteCauses chooseCauses
+    promote-as-choose n = refusing-wanted _ _ _ _ n
+
+    module _ (none : firstCause (chooseCauses z sound l) ≡ 0) where
+      pub promote-not-active : activeAt (l .entries) p ≡ false → firstCause (promoteCauses z sound l p) ≡ 11
+      unfolding promoteCauses chooseCauses
+      promote-not-active e = passing-wanted _ _ _ _ none ∙ hit _ 11 _ (ap not e)
+
+      pub promote-active : activeAt (l .entries) p ≡ true → firstCause (promoteCauses z sound l p) ≡ 0
+      unfolding promoteCauses chooseCauses
+      promote-active e = passing-wanted _ _ _ _ none ∙ (miss _ 11 _ (ap not e) ∙ end)
 
   -- ---- deliver
   module _ (rs : List ℤ) where

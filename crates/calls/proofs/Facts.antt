@@ -22,7 +22,7 @@ use Rattle.machine.specs.Causes.{firstCause, startCauses, pointCauses, deliverC
 use Rattle.machine.specs.Areas.{startOn, deliverOn, promoteOn}
 use Rattle.writing.specs.ValidArea.{ValidArea}
 use Rattle.calls.specs.Replies.{refused, accepted, promotion, lengthsOf}
-use Rattle.calls.specs.Table.{Call, Answer, changed, unchanged, start, point, points, deliver, promote, result, doubles, crossTotal, check, answer, row, causesOf, effectOf, passesCheck, acceptedAnswer, refusedAnswer, refusal, stateAfter}
+use Rattle.calls.specs.Table.{Call, Answer, changed, unchanged, start, point, points, deliver, choose, promote, result, doubles, crossTotal, check, answer, row, causesOf, effectOf, passesCheck, acceptedAnswer, refusedAnswer, refusal, stateAfter}
 use Rattle.calls.specs.Calls.{CallResult, areaAfter, refusalOn, callOn}
 use Rattle.calls.specs.Facts.{PastUnchanged, numbersOf, InBlock, NotRefused, CallFacts}
 use Rattle.calls.proofs.Buffers.{laid-first, laid-length, laid-later}
@@ -32,7 +32,7 @@ use Rattle.calls.proofs.CausesApplied.{same-number, no-cause, own-case,
 use Rattle.calls.proofs.Rows.{promote-effect, point-accepts, start-accepts, start-refuses, promote-accepts}
 use Rattle.calls.proofs.Outcomes.{idle-area}
 use Rattle.calls.proofs.Next.{IsJob, Next, next-start, next-valid, allowed-there, valid-before, after-valid, after-state, after-lengths, after-past}
-use Rattle.calls.proofs.ResultValues.{met-recorded, capped-recorded, cross-mean, result-recorded, check-answer}
+use Rattle.calls.proofs.ResultValues.{met-recorded, capped-recorded, place-recorded, place-active, cross-mean, result-recorded, check-answer}
 use Rattle.calls.proofs.StepEffects.{started-store, started-same, delivered-outside, delivered-stored, promoted-store}
 use Rattle.calls.proofs.Written.{written-state}
 
@@ -128,7 +128,8 @@ module _ (a : Area) (well-formed : WellFormed (heldOf a)) where
   by-call (point n buffer) none h = job-leaves-valid (point n buffer) (unfold row in tt) none
   by-call (points n buffer) none h = job-leaves-valid (points n buffer) (unfold row in tt) none
   by-call (deliver rs i) none h = job-leaves-valid (deliver rs i) (unfold row in tt) none
-  by-call promote none h = job-leaves-valid promote (unfold row in tt) none
+  by-call choose none h = job-leaves-valid choose (unfold row in tt) none
+  by-call (promote p) none h = job-leaves-valid (promote p) (unfold row in tt) none
   by-call result none h = job-leaves-valid result (unfold row in tt) none
   by-call doubles none h = job-leaves-valid doubles (unfold row in tt) none
   by-call crossTotal none h = job-leaves-valid crossTotal (unfold row in tt) none
@@ -177,28 +178,28 @@ module _ (a : Area) (rs : List ℤ) (i : ℕ) (well-formed : WellFormed (heldOf 
 
 -- ---- promote
 
-module _ (a : Area) where
-  is-promote : refusalOn a promote ≡ 0 → callOn a promote ≡ record { answer = answer (promotion (promoteOn a .outcome)); area = promoteOn a .area }
+module _ (a : Area) (p : ℕ) where
+  is-promote : refusalOn a (promote p) ≡ 0 → callOn a (promote p) ≡ record { answer = answer (promotion (promoteOn a p .outcome)); area = promoteOn a p .area }
   unfolding refusal causesOf row promoteCauses
-  is-promote none = sym (promote-accepts a (firstCause (promoteCauses (lengthsOf a) (isSound a) (machineOf a .log))) refl none)
+  is-promote none = sym (promote-accepts a p (firstCause (promoteCauses (lengthsOf a) (isSound a) (machineOf a .log) p)) refl none)
 
-  promote-ways : (P : CallResult → Type 0) → (refusalOn a promote ≡ 0 → P (record { answer = answer (promotion (promoteOn a .outcome)); area = promoteOn a .area }))
-      → ((refusalOn a promote ≡ 0 → ⊥) → P (record { answer = answer (refused (refusalOn a promote)); area = a })) → P (callOn a promote)
+  promote-ways : (P : CallResult → Type 0) → (refusalOn a (promote p) ≡ 0 → P (record { answer = answer (promotion (promoteOn a p .outcome)); area = promoteOn a p .area }))
+      → ((refusalOn a (promote p) ≡ 0 → ⊥) → P (record { answer = answer (refused (refusalOn a (promote p))); area = a })) → P (callOn a (promote p))
   unfolding refusedAnswer row
-  promote-ways P f g = call-ways a promote P (λ none. subst P (sym (call-accepts-promote none)) (f none)) g
+  promote-ways P f g = call-ways a (promote p) P (λ none. subst P (sym (call-accepts-promote none)) (f none)) g
     where
-      call-accepts-promote : refusalOn a promote ≡ 0
-          → _≡_ {A = CallResult} (record { answer = acceptedAnswer (passesCheck (lengthsOf a) (isSound a) (machineOf a .log)) (machineOf a) (row promote); area = areaAfter a (effectOf (machineOf a) (row promote)) })
-          (record { answer = answer (promotion (promoteOn a .outcome)); area = promoteOn a .area })
-      call-accepts-promote none = call-accepts a promote (refusalOn a promote) refl none ∙ is-promote none
+      call-accepts-promote : refusalOn a (promote p) ≡ 0
+          → _≡_ {A = CallResult} (record { answer = acceptedAnswer (passesCheck (lengthsOf a) (isSound a) (machineOf a .log)) (machineOf a) (row (promote p)); area = areaAfter a (effectOf (machineOf a) (row (promote p))) })
+          (record { answer = answer (promotion (promoteOn a p .outcome)); area = promoteOn a p .area })
+      call-accepts-promote none = call-accepts a (promote p) (refusalOn a (promote p)) refl none ∙ is-promote none
 
-  promote-store : WellFormed (heldOf a) → callOn a promote .area .store ≡ a .store
+  promote-store : WellFormed (heldOf a) → callOn a (promote p) .area .store ≡ a .store
   unfolding refusal causesOf row promoteCauses
-  promote-store well-formed = promote-ways (λ (x : CallResult). x .area .store ≡ a .store) (λ none. promoted-store a well-formed none) (λ some. refl)
+  promote-store well-formed = promote-ways (λ (x : CallResult). x .area .store ≡ a .store) (λ none. promoted-store a well-formed p none) (λ some. refl)
 
-  promote-unchanged : (callOn a promote .answer .reply ≡ promotion promoted → ⊥) → callOn a promote .area ≡ a
+  promote-unchanged : (callOn a (promote p) .answer .reply ≡ promotion promoted → ⊥) → callOn a (promote p) .area ≡ a
   promote-unchanged =
-      promote-ways (λ (x : CallResult). (x .answer .reply ≡ promotion promoted → ⊥) → x .area ≡ a) (λ none n. idle-area a (λ e. n (ap promotion e))) (λ some n. refl)
+      promote-ways (λ (x : CallResult). (x .answer .reply ≡ promotion promoted → ⊥) → x .area ≡ a) (λ none n. idle-area a p (λ e. n (ap promotion e))) (λ some n. refl)
 
 -- ---- the store, whatever the call
 
@@ -225,7 +226,8 @@ module _ (a : Area) (n : ℕ) (well-formed : WellFormed (heldOf a)) where
       outside (yes h) k = inl h
       outside (no h) (yes k) = absurd (f (omega arith, k))
       outside (no h) (no k) = inr (omega arith)
-  store promote f = ap (λ (s : List ℤ). getD s n (pos 0)) (promote-store a well-formed)
+  store choose f = looked choose refl
+  store (promote p) f = ap (λ (s : List ℤ). getD s n (pos 0)) (promote-store a p well-formed)
   store result f = looked result refl
   store doubles f = looked doubles refl
   store crossTotal f = looked crossTotal refl
@@ -245,7 +247,7 @@ call-facts =
       leaves-valid = leaves-valid;
       state = state;
       deliver-state = λ a rs i well-formed f. not-refused-state a (deliver rs i) well-formed f ∙ unfold effectOf row changed in refl;
-      promote-state = λ a well-formed f. not-refused-state a promote well-formed f ∙ promote-effect (machineOf a);
+      promote-state = λ a p well-formed f. not-refused-state a (promote p) well-formed f ∙ promote-effect (machineOf a) p;
       start-lengths = start-lengths;
       lengths = lengths;
       past = past;
@@ -254,6 +256,7 @@ call-facts =
       promote-store = promote-store;
       deliver-store = λ a rs i n well-formed. deliver-store a rs i well-formed n;
       deliver-stored = λ a rs i n well-formed. deliver-stored a rs i well-formed n;
+      choose-unchanged = λ a. looks-only a choose (unfold effectOf row in refl);
       promote-unchanged = promote-unchanged;
       point-written = point-written;
       point-length = point-length;
@@ -261,6 +264,8 @@ call-facts =
       result-recorded = result-recorded;
       met-recorded = met-recorded;
       capped-recorded = capped-recorded;
+      place-recorded = place-recorded;
+      place-active = place-active;
       cross-mean = cross-mean;
       check-answer = check-answer;
       start-answer = start-answer;

@@ -3,6 +3,7 @@ pub mod Tests
 pub mod Causes
 pub mod Validity
 pub mod Accepted
+pub mod PromotedPlace
 pub mod Pointing
 pub mod Ranges
 pub mod Outcomes

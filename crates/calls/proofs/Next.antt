@@ -16,16 +16,16 @@ use Rattle.encoding.specs.Entries.{SoundMachine}
 use Rattle.machine.specs.Promote as rule
 use Rattle.machine.specs.Steps as steps
 use Rattle.machine.specs.Causes.{Lengths, firstCause, short, startCauses, deliverCauses, promoteCauses, resultCauses}
+use Rattle.machine.proofs.Answers.{promoted-settings}
 use Rattle.machine.proofs.Facts.{step-facts}
 use Rattle.writing.specs.ValidArea.{ValidArea}
 use Rattle.writing.proofs.After.{machine-sound}
 use Rattle.calls.specs.Replies.{lengthsOf}
-use Rattle.calls.specs.Table.{Call, start, point, points, deliver, promote, result, doubles, crossTotal, check, Effect, unchanged, becomes, promotionEffect, row, causesOf, effectOf, refusal, changed, Row, anyArea, onJob}
+use Rattle.calls.specs.Table.{Call, start, point, points, deliver, choose, promote, result, doubles, crossTotal, check, Effect, unchanged, becomes, promotionEffect, row, causesOf, effectOf, refusal, changed, Row, anyArea, onJob}
 use Rattle.calls.specs.Calls.{areaAfter, refusalOn}
 use Rattle.calls.specs.Facts.{PastUnchanged}
 use Rattle.calls.proofs.Accepted.{missed, neither, startable, first-two, long-enough, promotable, deliverable}
 use Rattle.calls.proofs.Ranges.{readings-range}
-use Rattle.calls.proofs.Outcomes.{promoted-settings}
 use Rattle.calls.proofs.Validity.{sound-there, long-there}
 use Rattle.calls.proofs.Written.{written-past, written-valid, written-state, written-lengths}
 
@@ -71,21 +71,19 @@ module _ (z : Lengths) (sound : Bool) (m : Machine) (known : firstCause (resultC
       let long = long-enough z sound (m .log) (d .clear) in
       record { sound = step-facts .deliver m rs i (known (d .clear)) (d .wanted) (d .whole) (readings-range rs (d .range)); records = long .0; readings = long .1 }
 
-  next-promote : firstCause (promoteCauses z sound (m .log)) ≡ 0 → Next z (steps.promoteStep m)
+  next-promote : (p : ℕ) → firstCause (promoteCauses z sound (m .log) p) ≡ 0 → Next z (steps.promoteStep m p)
   unfolding steps.promoteStep
-  next-promote none =
-      let p = promotable z sound (m .log) none in
-      let long = long-enough z sound (m .log) (p .clear) in
+  next-promote p none =
+      let t = promotable z sound (m .log) p none in
+      let long = long-enough z sound (m .log) (t .clear) in
       record {
-        sound = step-facts .promote m (known (p .clear)) (p .free);
+        sound = step-facts .promote m p (known (t .clear)) (t .active);
         records = long .0;
-        readings = subst (λ g. leastStore g ≤ z .readings) (sym (promoted-settings (m .log))) (long .1);
+        readings = subst (λ g. leastStore g ≤ z .readings) (sym (promoted-settings (m .log .settings .budget) (m .log) p)) (long .1);
       }
 
   by-outcome : (o : rule.Outcome) (n : Machine) → Next z n → Allowed z (promotionEffect o n)
   unfolding promotionEffect
-  by-outcome rule.met n x = tt
-  by-outcome rule.capped n x = tt
   by-outcome rule.spent n x = tt
   by-outcome rule.promoted n x = x
 
@@ -95,7 +93,8 @@ module _ (z : Lengths) (sound : Bool) (m : Machine) (known : firstCause (resultC
   allowed (point n buffer) none = tt
   allowed (points n buffer) none = tt
   allowed (deliver rs i) none = next-deliver rs i none
-  allowed promote none = by-outcome (rule.promote (m .log) .outcome) (steps.promoteStep m) (next-promote none)
+  allowed choose none = tt
+  allowed (promote p) none = by-outcome (rule.promoteAt (m .log) p .outcome) (steps.promoteStep m p) (next-promote p none)
   allowed result none = tt
   allowed doubles none = tt
   allowed crossTotal none = tt

@@ -9,7 +9,7 @@ use native.Mathlib.Omega.{arith}
 use Rattle.area.specs.Log.{Log, Machine}
 use Rattle.machine.specs.Causes.{Cause, Lengths, firstCause, startCauses}
 use Rattle.calls.specs.Replies.{refused}
-use Rattle.calls.specs.Table.{Call, start, point, points, deliver, promote, result, doubles, crossTotal, check, row, causesOf, acceptedAnswer, refusal}
+use Rattle.calls.specs.Table.{Call, start, point, points, deliver, choose, promote, result, doubles, crossTotal, check, row, causesOf, acceptedAnswer, refusal}
 use Rattle.calls.specs.Facts.{numbersOf}
 
 abbrev numbers : List Cause → List ℕ
@@ -33,7 +33,8 @@ row-numbers z sound l (start g) = refl
 row-numbers z sound l (point n buffer) = refl
 row-numbers z sound l (points n buffer) = refl
 row-numbers z sound l (deliver rs i) = refl
-row-numbers z sound l promote = refl
+row-numbers z sound l choose = refl
+row-numbers z sound l (promote p) = refl
 row-numbers z sound l result = refl
 row-numbers z sound l doubles = refl
 row-numbers z sound l crossTotal = refl
@@ -63,7 +64,8 @@ positive (start g) = (omega arith, (omega arith, (omega arith, tt)))
 positive (point n buffer) = (omega arith, (omega arith, (omega arith, (omega arith, tt))))
 positive (points n buffer) = (omega arith, (omega arith, (omega arith, (omega arith, tt))))
 positive (deliver rs i) = (omega arith, (omega arith, (omega arith, (omega arith, (omega arith, tt)))))
-positive promote = (omega arith, (omega arith, (omega arith, tt)))
+positive choose = (omega arith, (omega arith, (omega arith, tt)))
+positive (promote p) = (omega arith, (omega arith, (omega arith, (omega arith, tt))))
 positive result = (omega arith, (omega arith, tt))
 positive doubles = (omega arith, (omega arith, tt))
 positive crossTotal = (omega arith, (omega arith, tt))
@@ -81,7 +83,8 @@ accepted-reply fit m (start g) n e = let y : _≡_ {A = ℕ} 0 1 = cc in omega a
 accepted-reply fit m (point k buffer) n e = let y : _≡_ {A = ℕ} 0 1 = cc in omega arith
 accepted-reply fit m (points k buffer) n e = let y : _≡_ {A = ℕ} 0 1 = cc in omega arith
 accepted-reply fit m (deliver rs i) n e = let y : _≡_ {A = ℕ} 0 1 = cc in omega arith
-accepted-reply fit m promote n e = let y : _≡_ {A = ℕ} 0 1 = cc in omega arith
+accepted-reply fit m choose n e = let y : _≡_ {A = ℕ} 0 1 = cc in omega arith
+accepted-reply fit m (promote p) n e = let y : _≡_ {A = ℕ} 0 1 = cc in omega arith
 accepted-reply fit m result n e = let y : _≡_ {A = ℕ} 0 1 = cc in omega arith
 accepted-reply fit m doubles n e = let y : _≡_ {A = ℕ} 0 1 = cc in omega arith
 accepted-reply fit m crossTotal n e = let y : _≡_ {A = ℕ} 0 1 = cc in omega arith

@@ -1,31 +1,34 @@
 -- Each row of the table of causes in its own case.
 -- The idea: the law of the row's list of causes, test by test, and then the answer of a call that has a cause.
 -- Assumes nothing.
-use mathlib.Core.Path.{_≡_, refl, sym, ap, _∙_}
+use mathlib.Core.Path.{_≡_, refl, ap, _∙_}
 use mathlib.Core.Logic.{_⊎_, inl, inr}
 use mathlib.Core.Bool.{Bool, true, false, not, cond}
 use mathlib.Core.List.{List}
 use Prim.Native.Nat.{ℕ, suc, _<_, _≤_}
 use native.Mathlib.Omega.{arith}
 use native.Mathlib.Decide.{decLt}
-use borrow.Author.Tests.{le-leb, lt-leb}
-use lib.Dec.{leb}
+use borrow.Author.Tests.{le-leb}
 use lib.IntN.{ℤ}
 use lib.ListN.{length}
+use lib.Seq.{length-take-le}
 use Rattle.grid.specs.Block.{blockSize}
 use Rattle.area.specs.declared.Settings.{Settings}
 use Rattle.area.specs.Settings.{SettingsFit, readingCount, leastStore}
 use Rattle.area.specs.Log.{Log}
-use Rattle.area.specs.Encoding.{Area, entriesOf, machineOf}
+use Rattle.area.specs.Encoding.{Area, heldOf, entriesOf, machineOf}
+use Rattle.quadrature.specs.Readings.{recordAt}
 use Rattle.soundness.specs.Sound.{Sound, LongEnough}
 use Rattle.soundness.specs.Clauses.{isSound}
 use Rattle.soundness.proofs.Exactly.{refuted}
 use Rattle.soundness.proofs.Settings.{reads-axes}
 use Rattle.soundness.proofs.Clauses.{clause-facts}
-use Rattle.machine.specs.Log.{anyWanted, wantedIndex}
-use Rattle.machine.specs.Causes.{Lengths, firstCause, short, inRange, resultCauses, pointCauses, deliverCauses, promoteCauses}
+use Rattle.encoding.proofs.Places.{entries-length, state-at}
+use Rattle.machine.specs.Log.{anyWanted, wantedIndex, Active, activeAt}
+use Rattle.machine.specs.Causes.{Lengths, firstCause, short, inRange, resultCauses, pointCauses, deliverCauses, chooseCauses, promoteCauses}
+use Rattle.machine.proofs.ActivePlaces.{reads-active}
 use Rattle.calls.specs.Replies.{lengthsOf}
-use Rattle.calls.specs.Table.{Call, JobRow, onJob, start, point, points, deliver, promote, result, doubles, crossTotal, check, row, causesOf, refusal}
+use Rattle.calls.specs.Table.{Call, JobRow, onJob, start, point, points, deliver, choose, promote, result, doubles, crossTotal, check, row, causesOf, refusal}
 use Rattle.calls.specs.Calls.{refusalOn}
 use Rattle.calls.specs.OwnCases.{RefusedBy, OnJob, BufferFits, Short, OwnCases}
 use Rattle.calls.proofs.Tests.{hit, miss, axes-out, budget-out, few-records, few-readings, enough}
@@ -78,7 +81,8 @@ module _ (a : Area) where
   storage (point n buffer) j h = storage-by (point n buffer) _ refl h
   storage (points n buffer) j h = storage-by (points n buffer) _ refl h
   storage (deliver rs i) j h = storage-by (deliver rs i) _ refl h
-  storage promote j h = storage-by promote _ refl h
+  storage choose j h = storage-by choose _ refl h
+  storage (promote p) j h = storage-by (promote p) _ refl h
   storage result j h = storage-by result _ refl h
   storage doubles j h = storage-by doubles _ refl h
   storage crossTotal j h = storage-by crossTotal _ refl h
@@ -99,7 +103,8 @@ module _ (a : Area) where
     not-sound (point k buffer) j b n = unsound-by (point k buffer) _ refl (ap not (le-leb (a .job .settings .axes) (length buffer) b)) n
     not-sound (points k buffer) j b n = unsound-by (points k buffer) _ refl (ap not (le-leb (a .job .settings .axes) (length buffer) b)) n
     not-sound (deliver rs i) j b n = unsound-by (deliver rs i) _ refl refl n
-    not-sound promote j b n = unsound-by promote _ refl refl n
+    not-sound choose j b n = unsound-by choose _ refl refl n
+    not-sound (promote p) j b n = unsound-by (promote p) _ refl refl n
     not-sound result j b n = unsound-by result _ refl refl n
     not-sound doubles j b n = unsound-by doubles _ refl refl n
     not-sound crossTotal j b n = unsound-by crossTotal _ refl refl n
@@ -116,9 +121,35 @@ module _ (a : Area) where
       unfolding refusal causesOf row deliverCauses machineOf
       deliver-none rs i w = by (deliver rs i) 4 (causes.deliver-nothing z (isSound a) l rs clear w)
 
-      promote-wanted : anyWanted (entriesOf a) ≡ true → RefusedBy a promote 6
-      unfolding refusal causesOf row promoteCauses machineOf
-      promote-wanted w = by promote 5 (causes.promote-wanted z (isSound a) l clear w)
+      wanted-six : anyWanted (entriesOf a) ≡ true → firstCause (chooseCauses z (isSound a) l) ≡ 6
+      unfolding machineOf
+      wanted-six w = causes.choose-wanted z (isSound a) l clear w
+
+      choose-wanted : anyWanted (entriesOf a) ≡ true → RefusedBy a choose 6
+      unfolding refusal causesOf row chooseCauses machineOf
+      choose-wanted w = by choose 5 (wanted-six w)
+
+      module _ (p : ℕ) where
+        promote-wanted : anyWanted (entriesOf a) ≡ true → RefusedBy a (promote p) 6
+        unfolding refusal causesOf row promoteCauses machineOf
+        promote-wanted w = by (promote p) 5 (causes.promote-as-choose z (isSound a) l p (λ e. omega (arith, e, wanted-six w)) ∙ wanted-six w)
+
+        module _ (w : anyWanted (entriesOf a) ≡ false) where
+          by-place : activeAt (entriesOf a) p ≡ false → RefusedBy a (promote p) 11
+          unfolding refusal causesOf row promoteCauses machineOf
+          by-place e = by (promote p) 10 (causes.promote-not-active z (isSound a) l p (causes.choose-free z (isSound a) l clear w) e)
+
+          not-active : (Active (entriesOf a) p → ⊥) → RefusedBy a (promote p) 11
+          not-active n = by-place (refuted (activeAt (entriesOf a) p) (reads-active (entriesOf a) p) n)
+
+          past-held : a .job .held ≤ p → RefusedBy a (promote p) 11
+          unfolding entriesOf
+          past-held h =
+              not-active (λ t. omega (arith, t .place, entries-length (a .job .settings) (a .store) (heldOf a), length-take-le (a .job .held) (a .run .records) (sound .held-lent)))
+
+          old-place : recordAt (heldOf a) p .state ≡ 2 → RefusedBy a (promote p) 11
+          unfolding entriesOf
+          old-place e = not-active (λ t. omega (arith, t .active, e, state-at (a .job .settings) (a .store) (heldOf a) p))
 
       count : (rs : List ℤ) (i : ℕ) → anyWanted (entriesOf a) ≡ true → (length rs ≡ readingCount (a .job .settings) (wantedIndex (entriesOf a)) → ⊥) → RefusedBy a (deliver rs i) 7
       unfolding refusal causesOf row deliverCauses machineOf
@@ -167,8 +198,12 @@ own-cases =
       not-sound = λ a c j long b n. not-sound a long c j b n;
       point-none = λ a n buffer long sound room w. point-none a long sound n buffer room w;
       deliver-none = λ a rs i long sound w. deliver-none a long sound rs i w;
-      promote-wanted = promote-wanted;
+      choose-wanted = choose-wanted;
+      promote-wanted = λ a p long sound. promote-wanted a long sound p;
       count = λ a rs i long sound w n. count a long sound rs i w n;
       range = λ a rs i long sound w whole out. range a long sound rs i w whole out;
       past-block = λ a n buffer long sound room w h. past-block a long sound n buffer room w h;
+      not-active = λ a p long sound. not-active a long sound p;
+      past-held = λ a p long sound. past-held a long sound p;
+      old-place = λ a p long sound. old-place a long sound p;
     }

@@ -1,4 +1,4 @@
--- What result, cross total and promote's ending tell of an area that no cause refuses, and what check does.
+-- What result, cross total and choose tell of an area that no cause refuses, and what check does.
 -- The idea: it is sound, so its recorded figures are those of its entries, and the combination identity holds of them.
 -- Assumes nothing.
 use mathlib.Core.Path.{_≡_, refl, ap, sym, _∙_, subst}
@@ -8,22 +8,25 @@ use native.Mathlib.Omega.{arith}
 use lib.Dec.{leb}
 use lib.IntN.{ℤ}
 use lib.ListN.{length}
+use lib.Seq.{length-take-le}
 use Rattle.area.specs.Settings.{leastStore}
-use Rattle.area.specs.Encoding.{Area, entriesOf, machineOf}
+use Rattle.area.specs.Encoding.{Area, heldOf, entriesOf, machineOf}
+use Rattle.quadrature.specs.Readings.{recordAt}
 use Rattle.soundness.specs.Sound.{Sound}
 use Rattle.soundness.specs.Clauses.{isSound, checked}
+use Rattle.encoding.proofs.Places.{entries-length, state-at}
 use Rattle.encoding.proofs.Facts.{encoding-facts}
-use Rattle.machine.specs.Promote as rule
-use Rattle.machine.specs.Causes.{firstCause, short, promoteCauses, resultCauses}
+use Rattle.machine.specs.Choose as choice
+use Rattle.machine.specs.Causes.{firstCause, short, chooseCauses, resultCauses}
 use Rattle.machine.specs.Counts.{Counts, countsOf}
 use Rattle.encoding.specs.Entries.{SoundMachine}
 use Rattle.machine.specs.Means.{meanOf, crossOf}
-use Rattle.machine.proofs.Answers.{met-only, capped-only}
+use Rattle.machine.proofs.Choices.{choose-facts}
 use Rattle.machine.proofs.Means.{mean-facts}
-use Rattle.calls.specs.Replies.{promotion, counts, total, verdict, lengthsOf}
-use Rattle.calls.specs.Table.{promote, result, crossTotal, check, answer, row, causesOf, effectOf, passesCheck, acceptedAnswer, refusedAnswer, refusal}
+use Rattle.calls.specs.Replies.{chosen, counts, total, verdict, lengthsOf}
+use Rattle.calls.specs.Table.{choose, result, crossTotal, check, answer, row, causesOf, effectOf, passesCheck, acceptedAnswer, refusedAnswer, refusal}
 use Rattle.calls.specs.Calls.{CallResult, areaAfter, callOn}
-use Rattle.calls.proofs.Accepted.{promotable}
+use Rattle.calls.proofs.Accepted.{choosable}
 use Rattle.calls.proofs.Validity.{sound-there, long-there}
 use Rattle.calls.proofs.CauseCases.{call-accepts, call-ways}
 
@@ -57,28 +60,44 @@ module _ (a : Area) where
       (λ none e. let same : countsOf (machineOf a) ≡ c = cc in subst Recorded same (recorded (sound-there a none)))
       (λ some e. let z : _≡_ {A = ℕ} 0 1 = cc in absurd (omega arith))
 
-  -- promote's answer is that of the entries, whose errors the recorded ones are
-  module _ (o : rule.Outcome) (e : callOn a promote .answer .reply ≡ promotion o) where
-    answered-so : Sound a × (rule.promote (machineOf a .log) .outcome ≡ o)
-    unfolding row causesOf refusal acceptedAnswer refusedAnswer promoteCauses
-    answered-so =
-        call-ways a promote (λ (r : CallResult). r .answer .reply ≡ promotion o → Sound a × (rule.promote (machineOf a .log) .outcome ≡ o))
-        (λ none f. (sound-there a (promotable (lengthsOf a) (isSound a) (machineOf a .log) none .clear), cc))
+  -- choose's answer is that of the entries, whose errors the recorded ones are
+  module _ (o : choice.Choice) (e : callOn a choose .answer .reply ≡ chosen o) where
+    chosen-so : Sound a × (choice.choose (machineOf a .log) ≡ o)
+    unfolding row causesOf refusal acceptedAnswer refusedAnswer chooseCauses
+    chosen-so =
+        call-ways a choose (λ (r : CallResult). r .answer .reply ≡ chosen o → Sound a × (choice.choose (machineOf a .log) ≡ o))
+        (λ none f. (sound-there a (choosable (lengthsOf a) (isSound a) (machineOf a .log) none .clear), cc))
         (λ some f. let z : _≡_ {A = ℕ} 0 1 = cc in absurd (omega arith)) e
 
-  pub met-recorded : callOn a promote .answer .reply ≡ promotion rule.met → a .job .pending + a .job .carried ≤ a .job .settings .threshold
+  pub met-recorded : callOn a choose .answer .reply ≡ chosen choice.met → a .job .pending + a .job .carried ≤ a .job .settings .threshold
   unfolding machineOf
   met-recorded e =
-      let x = answered-so rule.met e in
-      omega (arith, x .0 .numbers .pending, x .0 .numbers .carried, met-only (machineOf a .log) (x .1))
+      let x = chosen-so choice.met e in
+      omega (arith, x .0 .numbers .pending, x .0 .numbers .carried, choose-facts .met-only (machineOf a .log) (x .1))
 
-  pub capped-recorded : callOn a promote .answer .reply ≡ promotion rule.capped
+  pub capped-recorded : callOn a choose .answer .reply ≡ chosen choice.capped
       → (a .job .pending ≤ a .job .settings .threshold) × (a .job .settings .threshold < a .job .pending + a .job .carried)
   unfolding machineOf
   capped-recorded e =
-      let x = answered-so rule.capped e in
-      let y = capped-only (machineOf a .log) (x .1) in
+      let x = chosen-so choice.capped e in
+      let y = choose-facts .capped-only (machineOf a .log) (x .1) in
       (omega (arith, x .0 .numbers .pending, y .0), omega (arith, x .0 .numbers .pending, x .0 .numbers .carried, y .1))
+
+  pub place-recorded : (p : ℕ) → callOn a choose .answer .reply ≡ chosen (choice.place p) → a .job .settings .threshold < a .job .pending
+  unfolding machineOf
+  place-recorded p e =
+      let x = chosen-so (choice.place p) e in
+      omega (arith, x .0 .numbers .pending, choose-facts .place-only (machineOf a .log) p (x .1) .0)
+
+  pub place-active : (p : ℕ) → callOn a choose .answer .reply ≡ chosen (choice.place p) → (p < a .job .held) × (recordAt (heldOf a) p .state ≡ 1) × (p < 512)
+  unfolding machineOf entriesOf
+  place-active p e =
+      let x = chosen-so (choice.place p) e in
+      let s = choose-facts .place-active (machineOf a .log) p (x .1) in (
+        omega (arith, s .place, entries-length (a .job .settings) (a .store) (heldOf a), length-take-le (a .job .held) (a .run .records) (x .0 .held-lent)),
+        sym (state-at (a .job .settings) (a .store) (heldOf a) p) ∙ s .active,
+        omega (arith, s .place, entries-length (a .job .settings) (a .store) (heldOf a), x .0 .structure .count .1),
+      )
 
   -- check is never refused, and its verdict is the storage test and the clauses
   passes-checked : passesCheck (lengthsOf a) (isSound a) (machineOf a .log) ≡ checked a

@@ -3,7 +3,6 @@
 use mathlib.Core.Path.{_≡_, refl, ap, sym, _∙_}
 use mathlib.Core.List.{List, _++_}
 use Prim.Native.Nat.{ℕ}
-use native.Mathlib.Omega.{arith}
 use lib.IntN.{ℤ}
 use lib.ListN.{length, take, drop}
 use Rattle.area.specs.declared.Settings.{Settings}
@@ -12,19 +11,20 @@ use Rattle.area.specs.Log.{Machine}
 use Rattle.area.specs.Encoding.{Area, entriesOf, machineOf, written}
 use Rattle.soundness.specs.Clauses.{isSound}
 use Rattle.machine.specs.Log.{wantedIndex}
+use Rattle.machine.specs.Choose as choice
 use Rattle.machine.specs.Promote as rule
-use Rattle.machine.specs.Promote.{Outcome, met, capped, spent, promoted}
+use Rattle.machine.specs.Promote.{Outcome, spent, promoted}
 use Rattle.machine.specs.Steps.{promoteStep}
 use Rattle.machine.specs.Points.{pointsFitting, positionsOf, writtenOver}
-use Rattle.machine.specs.Causes.{firstCause, startCauses, pointCauses, deliverCauses, promoteCauses, resultCauses}
-use Rattle.machine.specs.Areas.{startOn, deliverOn, changedBy, promoteOn}
+use Rattle.machine.specs.Causes.{firstCause, startCauses, pointCauses, deliverCauses, chooseCauses, promoteCauses, resultCauses}
+use Rattle.machine.specs.Areas.{startOn, deliverOn, changedBy, refineOn, promoteOn}
+use Rattle.machine.proofs.Answers.{spent-not, same-log}
 use Rattle.machine.specs.Counts.{countsOf}
 use Rattle.machine.specs.Means.{crossOf}
 use Rattle.counting.specs.Doubles.{doublesOf}
-use Rattle.calls.specs.Replies.{refused, accepted, wrote, promotion, counts, doubled, total, lengthsOf}
-use Rattle.calls.specs.Table.{start, point, points, deliver, promote, result, doubles, crossTotal, answer, promotionEffect, row, causesOf, effectOf, acceptedAnswer, refusedAnswer, refusal, changed}
+use Rattle.calls.specs.Replies.{refused, accepted, wrote, chosen, promotion, counts, doubled, total, lengthsOf}
+use Rattle.calls.specs.Table.{start, point, points, deliver, choose, promote, result, doubles, crossTotal, answer, promotionEffect, row, causesOf, effectOf, acceptedAnswer, refusedAnswer, refusal, changed}
 use Rattle.calls.specs.Calls.{CallResult, areaAfter, callOn}
-use Rattle.calls.proofs.Outcomes.{same-log}
 use Rattle.calls.proofs.CauseCases.{call-accepts, call-refuses}
 
 module _ (a : Area) (g : Settings) (n : ℕ) (is : n ≡ firstCause (startCauses (lengthsOf a) g)) where
@@ -45,40 +45,45 @@ module _ (a : Area) (rs : List ℤ) (i n : ℕ) (is : n ≡ firstCause (deliverC
   unfolding row causesOf effectOf refusal acceptedAnswer areaAfter deliverOn deliverCauses
   deliver-accepts e = call-accepts a (deliver rs i) n is e
 
+module _ (a : Area) (n : ℕ) (is : n ≡ firstCause (chooseCauses (lengthsOf a) (isSound a) (machineOf a .log))) where
+  pub choose-refuses : (n ≡ 0 → ⊥) → answer (refused n) ≡ callOn a choose .answer
+  unfolding row causesOf refusal refusedAnswer chooseCauses
+  choose-refuses f = ap (λ (x : CallResult). x .answer) (call-refuses a choose n is f)
+
+  pub choose-accepts : n ≡ 0 → answer (chosen (choice.choose (machineOf a .log))) ≡ callOn a choose .answer
+  unfolding row causesOf refusal acceptedAnswer chooseCauses
+  choose-accepts e = ap (λ (x : CallResult). x .answer) (call-accepts a choose n is e)
+
 -- the area after a promotion, by its outcome
 pub outcome-area : (a : Area) (o : Outcome) (m : Machine) → areaAfter a (promotionEffect o m) ≡ changedBy o a (written a m)
 unfolding areaAfter promotionEffect changedBy
-outcome-area a met m = refl
-outcome-area a capped m = refl
 outcome-area a spent m = refl
 outcome-area a promoted m = refl
 
 -- whatever its outcome, a promotion leaves the state of the machine's promotion
-pub promote-effect : (m : Machine) → changed m (effectOf m (row promote)) ≡ promoteStep m
+pub promote-effect : (m : Machine) (p : ℕ) → changed m (effectOf m (row (promote p))) ≡ promoteStep m p
 unfolding effectOf row changed promotionEffect
-promote-effect m = split (rule.promote (m .log) .outcome) stays
+promote-effect m p = split (rule.promoteAt (m .log) p .outcome) stays
   where
-    stays : (rule.promote (m .log) .outcome ≡ promoted → ⊥) → m ≡ promoteStep m
-    stays n = unfold promoteStep in sym (ap {B = Machine} (λ l. record { log = l; mean = m .mean }) (same-log (m .log) n))
+    stays : (rule.promoteAt (m .log) p .outcome ≡ promoted → ⊥) → m ≡ promoteStep m p
+    stays n = unfold promoteStep in sym (ap {B = Machine} (λ l. record { log = l; mean = m .mean }) (same-log (m .log .settings .budget) (m .log) p n))
 
-    split : (o : Outcome) → ((o ≡ promoted → ⊥) → m ≡ promoteStep m) → changed m (promotionEffect o (promoteStep m)) ≡ promoteStep m
-    split met f = f (λ e. let y : _≡_ {A = ℕ} 0 1 = cc in absurd (omega arith))
-    split capped f = f (λ e. let y : _≡_ {A = ℕ} 0 1 = cc in absurd (omega arith))
-    split spent f = f (λ e. let y : _≡_ {A = ℕ} 0 1 = cc in absurd (omega arith))
+    split : (o : Outcome) → ((o ≡ promoted → ⊥) → m ≡ promoteStep m p) → changed m (promotionEffect o (promoteStep m p)) ≡ promoteStep m p
+    split spent f = f (λ e. spent-not refl e)
     split promoted f = refl
 
-module _ (a : Area) (n : ℕ) (is : n ≡ firstCause (promoteCauses (lengthsOf a) (isSound a) (machineOf a .log))) where
-  pub promote-refuses : (n ≡ 0 → ⊥) → record { answer = answer (refused n); area = a } ≡ callOn a promote
+module _ (a : Area) (p n : ℕ) (is : n ≡ firstCause (promoteCauses (lengthsOf a) (isSound a) (machineOf a .log) p)) where
+  pub promote-refuses : (n ≡ 0 → ⊥) → record { answer = answer (refused n); area = a } ≡ callOn a (promote p)
   unfolding row causesOf refusal refusedAnswer promoteCauses
-  promote-refuses f = call-refuses a promote n is f
+  promote-refuses f = call-refuses a (promote p) n is f
 
-  pub promote-accepts : n ≡ 0 → record { answer = answer (promotion (promoteOn a .outcome)); area = promoteOn a .area } ≡ callOn a promote
-  unfolding row causesOf effectOf refusal acceptedAnswer promoteOn promoteCauses
+  pub promote-accepts : n ≡ 0 → record { answer = answer (promotion (promoteOn a p .outcome)); area = promoteOn a p .area } ≡ callOn a (promote p)
+  unfolding row causesOf effectOf refusal acceptedAnswer refineOn promoteCauses machineOf
   promote-accepts e =
-      (λ i. record { answer = answer (promotion (promoteOn a .outcome)); area = same i }) ∙ call-accepts a promote n is e
+      (λ i. record { answer = answer (promotion (promoteOn a p .outcome)); area = same i }) ∙ call-accepts a (promote p) n is e
     where
-      same : promoteOn a .area ≡ areaAfter a (promotionEffect (promoteOn a .outcome) (promoteStep (machineOf a)))
-      same = sym (outcome-area a (promoteOn a .outcome) (promoteStep (machineOf a)))
+      same : promoteOn a p .area ≡ areaAfter a (promotionEffect (promoteOn a p .outcome) (promoteStep (machineOf a) p))
+      same = unfold promoteStep in sym (outcome-area a (promoteOn a p .outcome) (promoteStep (machineOf a) p))
 
 module _ (a : Area) (n : ℕ) (buffer : List ℕ) (m : ℕ) (is : m ≡ firstCause (pointCauses (lengthsOf a) (isSound a) (machineOf a .log) n (length buffer))) where
   pub point-refuses : (m ≡ 0 → ⊥) → record { reply = refused m; buffer = buffer } ≡ callOn a (point n buffer) .answer

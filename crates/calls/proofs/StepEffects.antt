@@ -12,7 +12,6 @@ use lib.ListN.{length, getD, set, take, drop, length-append, List·getD-append}
 use lib.Seq.{sets, sets-eq, length-take-le, getD-set-other, getD-append-add}
 use Rattle.area.specs.Settings.{readingCount}
 use Rattle.area.specs.declared.Settings.{Settings}
-use Rattle.area.specs.Entry.{pendingOf}
 use Rattle.area.specs.Encoding.{Area, heldOf, entriesOf, recordsFor, encodedFrom, runWith, machineOf, written}
 use Rattle.quadrature.specs.Readings.{recordAt}
 use Rattle.soundness.specs.Clauses.{isSound}
@@ -20,18 +19,16 @@ use Rattle.encoding.specs.Encodes.{WellFormed}
 use Rattle.encoding.proofs.Places.{entries-length, levels-at}
 use Rattle.encoding.proofs.Facts.{range-facts}
 use Rattle.machine.specs.Log.{firstWanted}
-use Rattle.machine.specs.Choose.{selected}
 use Rattle.machine.specs.Promote.{fits, refine}
 use Rattle.machine.specs.Steps.{started, deliver}
 use Rattle.machine.specs.Causes.{firstCause, deliverCauses, promoteCauses}
 use Rattle.machine.specs.Areas.{startOn, deliverOn, promoteOn}
-use Rattle.machine.proofs.Facts.{step-facts}
 use Rattle.writing.specs.ValidArea.{ValidArea}
 use Rattle.writing.proofs.Areas.{held-is, state-is, held-record}
 use Rattle.writing.proofs.Facts.{write-facts}
 use Rattle.writing.proofs.Start.{root-store}
 use Rattle.calls.specs.Replies.{lengthsOf}
-use Rattle.calls.proofs.Accepted.{Deliverable, deliverable, promotable}
+use Rattle.calls.proofs.Accepted.{Deliverable, deliverable, Promotable, promotable}
 use Rattle.calls.proofs.Next.{valid}
 use Rattle.calls.proofs.Outcomes.{grown, outcome-ways}
 
@@ -112,23 +109,19 @@ module _ (a : Area) (well-formed : WellFormed (heldOf a)) where
         ap (λ s. getD s (recordAt (heldOf a) w .first + n) (pos 0)) stored-is ∙ stored-at (a .store) rs (recordAt (heldOf a) w .first) n room h
 
   -- ---- promote
-  module _ (none : firstCause (promoteCauses (lengthsOf a) (isSound a) (machineOf a .log)) ≡ 0) where
-    abbrev p : ℕ
-    p = selected (entriesOf a)
+  module _ (p : ℕ) (none : firstCause (promoteCauses (lengthsOf a) (isSound a) (machineOf a .log) p) ≡ 0) where
+    open-to : Promotable (lengthsOf a) (isSound a) (machineOf a .log) p
+    open-to = promotable (lengthsOf a) (isSound a) (machineOf a .log) p none
 
     abbrev ready : ValidArea a
-    ready = valid a well-formed (promotable (lengthsOf a) (isSound a) (machineOf a .log) none .clear)
+    ready = valid a well-formed (open-to .clear)
 
-    free : length (entriesOf a) ≤ firstWanted (entriesOf a)
+    grown-store : fits (a .job .settings .budget) (refine (a .job .settings .axes) (entriesOf a) p) ≡ true → grown a p .store ≡ a .store
     unfolding machineOf
-    free = promotable (lengthsOf a) (isSound a) (machineOf a .log) none .free
+    grown-store fit =
+        let s = open-to .active in
+        ap (λ (x : Area). x .store)
+        (write-facts .refine a p ready (open-to .free) (omega (arith, held-is a ready, s .place)) (sym (state-is a ready p (s .place)) ∙ s .active) fit)
 
-    module _ (above : a .job .settings .threshold < pendingOf (entriesOf a)) (fit : fits (a .job .settings .budget) (refine (a .job .settings .axes) (entriesOf a) p) ≡ true) where
-      grown-store : grown a p .store ≡ a .store
-      unfolding machineOf
-      grown-store =
-          let s = step-facts .selects (machineOf a .log) above in
-          ap (λ (x : Area). x .store) (write-facts .refine a p ready free (omega (arith, held-is a ready, s .0)) (sym (state-is a ready p (s .0)) ∙ s .1) fit)
-
-    pub promoted-store : promoteOn a .area .store ≡ a .store
-    promoted-store = outcome-ways a (λ x. x .store ≡ a .store) refl grown-store
+    pub promoted-store : promoteOn a p .area .store ≡ a .store
+    promoted-store = outcome-ways a p (λ x. x .store ≡ a .store) refl grown-store

@@ -48,6 +48,23 @@ passing true u rest e = absurd (omega (arith, e))
 passing false true rest e = absurd (omega (arith, e))
 passing false false rest e = refl
 
+-- storage, area and a wanted block first, and then the rest
+pub refusing-wanted : (t u v : Bool) (rest : List Cause) → (firstCause (cause t 3 ∷ cause u 4 ∷ cause v 6 ∷ []) ≡ 0 → ⊥)
+    → firstCause (cause t 3 ∷ cause u 4 ∷ cause v 6 ∷ rest) ≡ firstCause (cause t 3 ∷ cause u 4 ∷ cause v 6 ∷ [])
+unfolding firstCause
+refusing-wanted true u v rest n = refl
+refusing-wanted false true v rest n = refl
+refusing-wanted false false true rest n = refl
+refusing-wanted false false false rest n = absurd (n refl)
+
+pub passing-wanted : (t u v : Bool) (rest : List Cause) → firstCause (cause t 3 ∷ cause u 4 ∷ cause v 6 ∷ []) ≡ 0
+    → firstCause (cause t 3 ∷ cause u 4 ∷ cause v 6 ∷ rest) ≡ firstCause rest
+unfolding firstCause
+passing-wanted true u v rest e = absurd (omega (arith, e))
+passing-wanted false true v rest e = absurd (omega (arith, e))
+passing-wanted false false true rest e = absurd (omega (arith, e))
+passing-wanted false false false rest e = refl
+
 -- a number out of its range
 pub axes-out : (g : Settings) → (1 ≤ g .axes → g .axes ≤ 8 → ⊥) → axesFit g ≡ false
 axes-out g n = refuted (axesFit g) (reads-axes g) (λ x. n (x .0) (x .1))

@@ -8,7 +8,7 @@ use lib.Dec.{eqb}
 use lib.IntN.{ℤ}
 use Rattle.area.specs.Encoding.{Area, areaOf, machineOf, written}
 use Rattle.soundness.specs.Clauses.{isSound}
-use Rattle.machine.specs.Causes.{firstCause, pointCauses, deliverCauses, promoteCauses, resultCauses}
+use Rattle.machine.specs.Causes.{firstCause, pointCauses, deliverCauses, chooseCauses, promoteCauses, resultCauses}
 use Rattle.calls.specs.declared.CallOutput.{CallOutput}
 use Rattle.calls.specs.Replies.{replyOf, lengthsOf}
 use Rattle.calls.specs.Table.{Call, Effect, unchanged, becomes, Answer, answer, row, effectOf, refusal, answerOf}
@@ -46,8 +46,11 @@ pointCause a n w = firstCause (pointCauses (lengthsOf a) (isSound a) (machineOf 
 abbrev pub deliverCause : Area → List ℤ → ℕ
 deliverCause a rs = firstCause (deliverCauses (lengthsOf a) (isSound a) (machineOf a .log) rs)
 
-abbrev pub promoteCause : Area → ℕ
-promoteCause a = firstCause (promoteCauses (lengthsOf a) (isSound a) (machineOf a .log))
+abbrev pub chooseCause : Area → ℕ
+chooseCause a = firstCause (chooseCauses (lengthsOf a) (isSound a) (machineOf a .log))
+
+abbrev pub promoteCause : Area → (p : ℕ) → ℕ
+promoteCause a p = firstCause (promoteCauses (lengthsOf a) (isSound a) (machineOf a .log) p)
 
 -- Result, doubles and cross total ask for storage and area alone.
 abbrev pub areaCause : Area → ℕ

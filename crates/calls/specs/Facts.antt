@@ -14,7 +14,8 @@ use Rattle.soundness.specs.Clauses.{isSound, checked}
 use Rattle.encoding.specs.Encodes.{WellFormed}
 use Rattle.grid.specs.Block.{block}
 use Rattle.machine.specs.Log.{firstWanted, wantedIndex}
-use Rattle.machine.specs.Promote.{met, capped, promoted}
+use Rattle.machine.specs.Choose.{met, capped, place}
+use Rattle.machine.specs.Promote.{promoted}
 use Rattle.machine.specs.Steps as steps
 use Rattle.machine.specs.Steps.{started}
 use Rattle.machine.specs.Causes.{Cause}
@@ -22,8 +23,8 @@ use Rattle.machine.specs.Facts.{FirstToApply}
 use Rattle.machine.specs.Counts.{Counts}
 use Rattle.machine.specs.Means.{meanOf}
 use Rattle.writing.specs.ValidArea.{ValidArea}
-use Rattle.calls.specs.Replies.{refused, accepted, promotion, counts, total, verdict, lengthsOf}
-use Rattle.calls.specs.Table.{Call, start, point, points, deliver, promote, result, doubles, crossTotal, check, answer, row, causesOf, refusedAnswer, stateAfter}
+use Rattle.calls.specs.Replies.{refused, accepted, chosen, promotion, counts, total, verdict, lengthsOf}
+use Rattle.calls.specs.Table.{Call, start, point, points, deliver, choose, promote, result, doubles, crossTotal, check, answer, row, causesOf, refusedAnswer, stateAfter}
 use Rattle.calls.specs.Calls.{callOn}
 
 -- Records past the last then held, and the cells past the last record, are as they were.
@@ -31,13 +32,14 @@ pub record PastUnchanged (a b : Area) : Type 0 where
   pub records : drop (b .job .held) (b .run .records) ≡ drop (b .job .held) (a .run .records)
   pub rest : b .run .rest ≡ a .run .rest
 
--- The numbers by which a call can be refused: the rows of "Causes and numbers" that name it.
+-- The numbers by which a call can be refused: the rows of "Causes and numbers" that name it, and 11 (request No. 4).
 unfoldable pub numbersOf : Call → List ℕ
 numbersOf (start g) = 1 ∷ 2 ∷ 3 ∷ []
 numbersOf (point n buffer) = 3 ∷ 4 ∷ 5 ∷ 9 ∷ []
 numbersOf (points n buffer) = 3 ∷ 4 ∷ 5 ∷ 9 ∷ []
 numbersOf (deliver rs i) = 3 ∷ 4 ∷ 5 ∷ 7 ∷ 8 ∷ []
-numbersOf promote = 3 ∷ 4 ∷ 6 ∷ []
+numbersOf choose = 3 ∷ 4 ∷ 6 ∷ []
+numbersOf (promote p) = 3 ∷ 4 ∷ 6 ∷ 11 ∷ []
 numbersOf result = 3 ∷ 4 ∷ []
 numbersOf doubles = 3 ∷ 4 ∷ []
 numbersOf crossTotal = 3 ∷ 4 ∷ []
@@ -53,7 +55,8 @@ InBlock a (start g) n = ⊥
 InBlock a (point k buffer) n = ⊥
 InBlock a (points k buffer) n = ⊥
 InBlock a (deliver rs i) n = (recordAt (heldOf a) (firstWanted (entriesOf a)) .first ≤ n) × (n < recordAt (heldOf a) (firstWanted (entriesOf a)) .first + length rs)
-InBlock a promote n = ⊥
+InBlock a choose n = ⊥
+InBlock a (promote p) n = ⊥
 InBlock a result n = ⊥
 InBlock a doubles n = ⊥
 InBlock a crossTotal n = ⊥
@@ -83,7 +86,7 @@ pub record CallFacts : Type 0 where
       → machineOf (callOn a c .area) ≡ stateAfter (lengthsOf a) (isSound a) (machineOf a) c
   -- which is, of deliver and of promote, the machine's step
   pub deliver-state : (a : Area) (rs : List ℤ) (i : ℕ) → WellFormed (heldOf a) → NotRefused a (deliver rs i) → machineOf (callOn a (deliver rs i) .area) ≡ steps.deliver (machineOf a) rs i
-  pub promote-state : (a : Area) → WellFormed (heldOf a) → NotRefused a promote → machineOf (callOn a promote .area) ≡ steps.promoteStep (machineOf a)
+  pub promote-state : (a : Area) (p : ℕ) → WellFormed (heldOf a) → NotRefused a (promote p) → machineOf (callOn a (promote p) .area) ≡ steps.promoteStep (machineOf a) p
   -- the lengths of the lent storage stay
   pub start-lengths : (a : Area) (g : Settings) → lengthsOf (callOn a (start g) .area) ≡ lengthsOf a
   pub lengths : (a : Area) (c : Call) → WellFormed (heldOf a) → lengthsOf (callOn a c .area) ≡ lengthsOf a
@@ -93,15 +96,17 @@ pub record CallFacts : Type 0 where
   pub store : (a : Area) (c : Call) (n : ℕ) → WellFormed (heldOf a) → (InBlock a c n → ⊥) → getD (callOn a c .area .store) n (pos 0) ≡ getD (a .store) n (pos 0)
   -- so start and promote write none
   pub start-store : (a : Area) (g : Settings) → callOn a (start g) .area .store ≡ a .store
-  pub promote-store : (a : Area) → WellFormed (heldOf a) → callOn a promote .area .store ≡ a .store
+  pub promote-store : (a : Area) (p : ℕ) → WellFormed (heldOf a) → callOn a (promote p) .area .store ≡ a .store
   pub deliver-store : (a : Area) (rs : List ℤ) (i n : ℕ) → WellFormed (heldOf a)
       → (n < recordAt (heldOf a) (firstWanted (entriesOf a)) .first) ⊎ (recordAt (heldOf a) (firstWanted (entriesOf a)) .first + length rs ≤ n)
       → getD (callOn a (deliver rs i) .area .store) n (pos 0) ≡ getD (a .store) n (pos 0)
   -- the readings are stored from the block's first reading on
   pub deliver-stored : (a : Area) (rs : List ℤ) (i n : ℕ) → WellFormed (heldOf a) → callOn a (deliver rs i) .answer .reply ≡ accepted → n < length rs
       → getD (callOn a (deliver rs i) .area .store) (recordAt (heldOf a) (firstWanted (entriesOf a)) .first + n) (pos 0) ≡ getD rs n (pos 0)
-  -- whatever is not promoted changes nothing: met, capped, spent or a refusal
-  pub promote-unchanged : (a : Area) → (callOn a promote .answer .reply ≡ promotion promoted → ⊥) → callOn a promote .area ≡ a
+  -- choose changes nothing, whatever it answers
+  pub choose-unchanged : (a : Area) → callOn a choose .area ≡ a
+  -- whatever is not promoted changes nothing: spent or a refusal
+  pub promote-unchanged : (a : Area) (p : ℕ) → (callOn a (promote p) .answer .reply ≡ promotion promoted → ⊥) → callOn a (promote p) .area ≡ a
   -- point writes the first d positions of the block's n-th point; the buffer stays as long, and its later bytes are untouched
   pub point-written : (a : Area) (n : ℕ) (buffer : List ℕ) → NotRefused a (point n buffer)
       → take (a .job .settings .axes) (callOn a (point n buffer) .answer .buffer) ≡ take (a .job .settings .axes) (getD (block (wantedIndex (entriesOf a))) n [])
@@ -110,10 +115,14 @@ pub record CallFacts : Type 0 where
   -- result's reserved, pending and carried error and mean are the recorded ones
   pub result-recorded : (a : Area) (c : Counts) → callOn a result .answer .reply ≡ counts c
       → (c .reserved ≡ a .job .reserved) × (c .pending ≡ a .job .pending) × (c .carried ≡ a .job .carried) × (c .mean ≡ a .job .mean)
-  -- by which promote goes: it is met only where the recorded errors together are at most the threshold, capped only where the pending error alone is
-  pub met-recorded : (a : Area) → callOn a promote .answer .reply ≡ promotion met → a .job .pending + a .job .carried ≤ a .job .settings .threshold
-  pub capped-recorded : (a : Area) → callOn a promote .answer .reply ≡ promotion capped
+  -- by which choose goes: it is met only where the recorded errors together are at most the threshold, capped only where the pending error alone
+  -- is, and a place only where not even that is
+  pub met-recorded : (a : Area) → callOn a choose .answer .reply ≡ chosen met → a .job .pending + a .job .carried ≤ a .job .settings .threshold
+  pub capped-recorded : (a : Area) → callOn a choose .answer .reply ≡ chosen capped
       → (a .job .pending ≤ a .job .settings .threshold) × (a .job .settings .threshold < a .job .pending + a .job .carried)
+  pub place-recorded : (a : Area) (p : ℕ) → callOn a choose .answer .reply ≡ chosen (place p) → a .job .settings .threshold < a .job .pending
+  -- and a place that it answers is that of an active record, one of at most 512
+  pub place-active : (a : Area) (p : ℕ) → callOn a choose .answer .reply ≡ chosen (place p) → (p < a .job .held) × (recordAt (heldOf a) p .state ≡ 1) × (p < 512)
   -- in any sound area the cross total, worked out from the readings, is the sum of the delivered indices' differences
   pub cross-mean : (a : Area) (x : ℤ) → callOn a crossTotal .answer .reply ≡ total x → x ≡ meanOf (entriesOf a)
   -- check answers by the clauses and the storage test, and changes nothing

@@ -11,14 +11,15 @@ use Rattle.grid.specs.Block.{blockSize, pointOf}
 use Rattle.area.specs.declared.Settings.{Settings}
 use Rattle.area.specs.Log.{Log, Machine}
 use Rattle.machine.specs.Log.{wantedIndex}
+use Rattle.machine.specs.Choose as choice
 use Rattle.machine.specs.Promote as rule
 use Rattle.machine.specs.Steps as steps
 use Rattle.machine.specs.Points.{pointsFitting, positionsOf, writtenOver}
-use Rattle.machine.specs.Causes.{Cause, Lengths, firstCause, short, jobCauses, startCauses, pointOwnCauses, pointBufferShort, deliverOwnCauses, promoteOwnCauses}
+use Rattle.machine.specs.Causes.{Cause, Lengths, firstCause, short, jobCauses, startCauses, pointOwnCauses, pointBufferShort, deliverOwnCauses, chooseOwnCauses, promoteOwnCauses}
 use Rattle.machine.specs.Counts.{countsOf}
 use Rattle.machine.specs.Means.{crossOf}
 use Rattle.counting.specs.Doubles.{doublesOf}
-use Rattle.calls.specs.Replies.{Reply, refused, accepted, wrote, promotion, counts, doubled, total, verdict}
+use Rattle.calls.specs.Replies.{Reply, refused, accepted, wrote, chosen, promotion, counts, doubled, total, verdict}
 
 -- A call with its arguments. A call that is added later joins these.
 pub data Call : Type 0 where
@@ -26,7 +27,8 @@ pub data Call : Type 0 where
   point : (n : ℕ) (buffer : List ℕ) → Call
   points : (n : ℕ) (buffer : List ℕ) → Call
   deliver : (readings : List ℤ) (indicator : ℕ) → Call
-  promote : Call
+  choose : Call
+  promote : (place : ℕ) → Call
   result : Call
   doubles : Call
   crossTotal : Call
@@ -37,10 +39,8 @@ pub data Effect : Type 0 where
   unchanged : Effect
   becomes : Machine → Effect
 
--- A promotion changes the state if it is *promoted*; met, capped and spent change nothing.
+-- A promotion changes the state if it is *promoted*; spent changes nothing.
 unfoldable pub promotionEffect : rule.Outcome → Machine → Effect
-promotionEffect rule.met m = unchanged
-promotionEffect rule.capped m = unchanged
 promotionEffect rule.spent m = unchanged
 promotionEffect rule.promoted m = becomes m
 
@@ -105,8 +105,12 @@ row (points n buffer) =
     })
 -- **Deliver** takes the first wanted block's readings and an indicator.
 row (deliver rs i) = withoutBuffer (λ l. deliverOwnCauses l rs) (λ m. becomes (steps.deliver m rs i)) (λ m. accepted)
--- **Promote** answers met, capped, spent or promoted; only promoted changes anything.
-row promote = withoutBuffer (λ l. promoteOwnCauses l) (λ m. promotionEffect (rule.promote (m .log) .outcome) (steps.promoteStep m)) (λ m. promotion (rule.promote (m .log) .outcome))
+-- **Choose** answers met, capped or the place that the rule selects, and changes nothing.
+row choose = withoutBuffer (λ l. chooseOwnCauses l) (λ m. unchanged) (λ m. chosen (choice.choose (m .log)))
+-- **Promote** takes a place, any number. It answers spent or promoted, whatever the threshold; promoted makes that active index old and appends
+-- the admitted.
+row (promote p) =
+    withoutBuffer (λ l. promoteOwnCauses l p) (λ m. promotionEffect (rule.promoteAt (m .log) p .outcome) (steps.promoteStep m p)) (λ m. promotion (rule.promoteAt (m .log) p .outcome))
 -- **Result** gives the counts.
 row result = withoutBuffer (λ l. []) (λ m. unchanged) (λ m. counts (countsOf m))
 -- **Doubles** gives mean, pending error and largest delivered difference as doubles; it is refused as result is.

@@ -1,19 +1,17 @@
-// The calls start, point, points, deliver, promote, result, doubles and cross total. Each first looks for a cause to refuse; a refused call
-// changes nothing.
+// The calls start, point, points, deliver, choose, promote, result, doubles and cross total. Each first looks for a cause to refuse; a refused
+// call changes nothing.
 ghost use mathlib.Core.Path.{_≡_};
 ghost use Rattle.area.specs.Encoding.{areaOf};
 ghost use Rattle.machine.specs.Causes.{firstCause, inRange, startCauses};
-ghost use Rattle.promotion.specs.Outcomes.{outcomeOf};
-ghost use Rattle.calls.specs.Replies.{promotion as outcomeReply, replyOf, replyOfPoints, replyOfResult, replyOfDoubles, replyOfTotal};
-ghost use Rattle.calls.specs.Table.{start, point, points, deliver, promote, result, doubles, crossTotal, answer};
-ghost use Rattle.calls.specs.Calls.{callOn, callResultOf, pointCause, deliverCause, promoteCause, areaCause};
+ghost use Rattle.promotion.specs.Outcomes.{choiceOf, outcomeOf};
+ghost use Rattle.calls.specs.Replies.{chosen, promotion as outcomeReply, replyOf, replyOfPoints, replyOfChoose, replyOfResult, replyOfDoubles, replyOfTotal};
+ghost use Rattle.calls.specs.Table.{start, point, points, deliver, choose, promote, result, doubles, crossTotal, answer};
+ghost use Rattle.calls.specs.Calls.{callOn, callResultOf, pointCause, deliverCause, chooseCause, promoteCause, areaCause};
 
 // What a call answers; `Refused` carries the number of the cause.
 pub enum Answer {
     Refused(u32),
     Accepted,
-    Met,
-    Capped,
     Spent,
     Promoted,
 }
@@ -28,6 +26,14 @@ pub struct CallOutput {
 pub enum PointsAnswer {
     Refused(u32),
     Wrote(delivery::PointCounts),
+}
+
+// The answer of choose; `Chosen` carries the place that the rule selects.
+pub enum ChooseAnswer {
+    Refused(u32),
+    Met,
+    Capped,
+    Chosen(usize),
 }
 
 // Result's answer.
@@ -145,9 +151,9 @@ fn deliver_cause(job: area::JobRecord, readings: &[i32], cells: &[u32], store: &
     0
 }
 
-// Why promote is refused.
-fn promote_cause(job: area::JobRecord, cells: &[u32], store: &[i32]) -> u32
-    ensures { λ r. ⌜ r ≡ promoteCause (areaOf job (now (cells .entry)) (now (store .entry))) ⌝ }
+// Why choose is refused.
+fn choose_cause(job: area::JobRecord, cells: &[u32], store: &[i32]) -> u32
+    ensures { λ r. ⌜ r ≡ chooseCause (areaOf job (now (cells .entry)) (now (store .entry))) ⌝ }
 {
     let cause = area_cause(job, cells, store);
     if cause != 0 {
@@ -156,6 +162,24 @@ fn promote_cause(job: area::JobRecord, cells: &[u32], store: &[i32]) -> u32
     let held = job.held as usize;
     if delivery::first_wanted(held, cells) < held {
         return 6;
+    }
+    0
+}
+
+// Why promote is refused: as choose is, and then if the place is not that of an active index.
+fn promote_cause(job: area::JobRecord, place: usize, cells: &[u32], store: &[i32]) -> u32
+    ensures { λ r. ⌜ r ≡ promoteCause (areaOf job (now (cells .entry)) (now (store .entry))) place ⌝ }
+{
+    let cause = choose_cause(job, cells, store);
+    if cause != 0 {
+        return cause;
+    }
+    let held = job.held as usize;
+    if held <= place {
+        return 11;
+    }
+    if area::state_at(cells, place) != area::ACTIVE {
+        return 11;
     }
     0
 }
@@ -247,18 +271,42 @@ pub fn deliver(
     }
 }
 
-// Promotes: met or capped, or the selected index refined, unless that is spent.
-pub fn promote(job: area::JobRecord, cells: &mut [u32], store: &[i32]) -> CallOutput
-    ensures { λ r. ⌜ callResultOf r (now (cells .exit)) (now (store .entry)) ≡ callOn (areaOf job (now (cells .entry)) (now (store .entry))) promote ⌝ }
+// Chooses: met, capped or the place that the rule selects.
+pub fn choose(job: area::JobRecord, cells: &[u32], store: &[i32]) -> ChooseAnswer
+    ensures { λ r. ⌜ answer (replyOfChoose r) ≡ callOn (areaOf job (now (cells .entry)) (now (store .entry))) choose .answer ⌝ }
 {
-    let cause = promote_cause(job, cells, store);
+    let cause = choose_cause(job, cells, store);
+    if cause != 0 {
+        return ChooseAnswer::Refused(cause);
+    }
+    let choice = promotion::choose(job, cells, store);
+    as_chosen(choice)
+}
+
+// A choice as an answer.
+fn as_chosen(choice: promotion::Choice) -> ChooseAnswer
+    ensures { λ r. ⌜ replyOfChoose r ≡ chosen (choiceOf choice) ⌝ }
+{
+    match choice {
+        promotion::Choice::Met => ChooseAnswer::Met,
+        promotion::Choice::Capped => ChooseAnswer::Capped,
+        promotion::Choice::Place(place) => ChooseAnswer::Chosen(place),
+    }
+}
+
+// Promotes: the active index at the place is refined, unless that is spent.
+pub fn promote(job: area::JobRecord, place: usize, cells: &mut [u32], store: &[i32]) -> CallOutput
+    ensures { λ r. ⌜ callResultOf r (now (cells .exit)) (now (store .entry)) ≡ callOn (areaOf job (now (cells .entry)) (now (store .entry))) (promote place) ⌝ }
+{
+    let cause = promote_cause(job, place, cells, store);
     if cause != 0 {
         return CallOutput {
             answer: Answer::Refused(cause),
             job,
         };
     }
-    let promotion = promotion::promote(job, cells, store);
+    let budget = job.settings.budget;
+    let promotion = promotion::refine(job, place, budget, cells, store);
     as_answer(promotion)
 }
 
@@ -269,14 +317,6 @@ fn as_answer(promotion: promotion::Promotion) -> CallOutput
     let outcome = promotion.outcome;
     let job = promotion.job;
     match outcome {
-        promotion::Outcome::Met => CallOutput {
-            answer: Answer::Met,
-            job,
-        },
-        promotion::Outcome::Capped => CallOutput {
-            answer: Answer::Capped,
-            job,
-        },
         promotion::Outcome::Spent => CallOutput {
             answer: Answer::Spent,
             job,

@@ -13,12 +13,6 @@ enum-told c = search needs
 enum-told-2 : tie.Need-enum-told-2
 enum-told-2 c = search needs
 
-enum-told-3 : tie.Need-enum-told-3
-enum-told-3 c = search needs
-
-enum-told-4 : tie.Need-enum-told-4
-enum-told-4 c = search needs
-
 returns : tie.Need-returns
 unfolding replyOf outcomeOf
 returns c = (ap (λ o. promotion (outcomeOf o)) (sym (c .enum-told .given .1)), refl)
@@ -27,13 +21,5 @@ returns-2 : tie.Need-returns-2
 unfolding replyOf outcomeOf
 returns-2 c = (ap (λ o. promotion (outcomeOf o)) (sym (c .enum-told2 .given .1)), refl)
 
-returns-3 : tie.Need-returns-3
-unfolding replyOf outcomeOf
-returns-3 c = (ap (λ o. promotion (outcomeOf o)) (sym (c .enum-told3 .given .1)), refl)
-
-returns-4 : tie.Need-returns-4
-unfolding replyOf outcomeOf
-returns-4 c = (ap (λ o. promotion (outcomeOf o)) (sym (c .enum-told4 .given .1)), refl)
-
 pub as-answer-spec : {M : Type 1} → statement M
-as-answer-spec = tie.close (tie.spec enum-told enum-told-2 enum-told-3 enum-told-4 returns returns-2 returns-3 returns-4)
+as-answer-spec = tie.close (tie.spec enum-told enum-told-2 returns returns-2)

@@ -1,44 +1,56 @@
--- `calls::promote_cause` meets its contract: the tests in the table's order. Assumes nothing.
+-- `calls::promote_cause` meets its contract: choose's causes, and then the place's record. Assumes nothing.
 use borrow.Author.Needs.{needs}
-use mathlib.Core.Path.{sym, _∙_}
-use Prim.Native.Nat.{_-_}
 use denote.Ref.{now}
-use Rattle.area.specs.Encoding.{areaOf, machineOf}
-use Rattle.soundness.specs.Clauses.{isSound}
-use Rattle.calls.specs.Replies.{lengthsOf}
-use Rattle.calls.proofs.Validity.{held-there, st, nothing, something}
-use Rattle.calls.proofs.Causes.{promote-common, promote-wanted, promote-free}
+use Rattle.calls.proofs.PromotedPlace.{as-choose, room, past, other, active}
 use Rattle.calls.proofs.promote_cause.Statement.{statement}
 use Rattle.calls.proofs.promote_cause.Tie as tie
 
-area-cause-requires : tie.Need-area-cause-requires
-area-cause-requires c κs = search needs
+choose-cause-requires : tie.Need-choose-cause-requires
+choose-cause-requires c κs = search needs
 
 returns : tie.Need-returns
 returns c =
     let s = c .before .before .before in
-    let a = areaOf (s .args .job) (now (s .args .cells)) (now (s .args .store)) in
-    c .before .area-cause .ensures ∙ sym (promote-common (lengthsOf a) (isSound a) (machineOf a .log) (λ e. c .if1 .taken (c .before .area-cause .ensures ∙ e)))
+    let n = c .before .choose-cause in
+    as-choose (s .args .job) (now (s .args .cells)) (now (s .args .store)) (s .args .place) (n .result) (n .ensures) (c .if1 .taken)
 
 cast-held : tie.Need-cast-held
 cast-held c = search needs
 
-first-wanted-requires : tie.Need-first-wanted-requires
-first-wanted-requires c κs = let s = c .before .before .before .before in held-there (s .args .job) (now (s .args .cells)) (now (s .args .store)) (st (s .args .job) (now (s .args .cells)) (now (s .args .store)) (c .before .before .area-cause .result) (c .before .before .area-cause .ensures) (c .before .if1 .left))
-
 returns-2 : tie.Need-returns-2
 returns-2 c =
-    let s = c .before .before .before .before .before .before in
-    let a = areaOf (s .args .job) (now (s .args .cells)) (now (s .args .store)) in
-    sym (promote-wanted (lengthsOf a) (isSound a) (machineOf a .log) (sym (c .before .before .before .before .area-cause .ensures) ∙ c .before .before .before .if1 .left) (something (s .args .job) (now (s .args .cells)) (now (s .args .store)) (c .before .before .before .before .area-cause .result) (c .before .before .before .before .area-cause .ensures) (c .before .before .before .if1 .left) (c .before .first-wanted .result) (c .before .first-wanted .ensures) (c .if2 .taken)))
+    let s = c .before .before .before .before .before in
+    let n = c .before .before .before .choose-cause in
+    past (s .args .job) (now (s .args .cells)) (now (s .args .store)) (s .args .place) (n .result) (n .ensures) (c .before .before .if1 .left) (c .if2 .taken)
+
+state-at-requires : tie.Need-state-at-requires
+state-at-requires c κs =
+    let s = c .before .before .before .before .before in
+    let n = c .before .before .before .choose-cause in
+    room (s .args .job) (now (s .args .cells)) (now (s .args .store)) (s .args .place) (n .result) (n .ensures) (c .before .before .if1 .left) (c .if2 .left)
 
 returns-3 : tie.Need-returns-3
 returns-3 c =
-    let s = c .before .before .before .before .before .before in
-    let a = areaOf (s .args .job) (now (s .args .cells)) (now (s .args .store)) in
-    sym (promote-free (lengthsOf a) (isSound a) (machineOf a .log) (sym (c .before .before .before .before .area-cause .ensures) ∙ c .before .before .before .if1 .left) (nothing (s .args .job) (now (s .args .cells)) (now (s .args .store)) (c .before .before .before .before .area-cause .result) (c .before .before .before .before .area-cause .ensures) (c .before .before .before .if1 .left) (c .before .first-wanted .result) (c .before .first-wanted .ensures) (c .if2 .left)))
+    let s = c .before .before .before .before .before .before .before in
+    let n = c .before .before .before .before .before .choose-cause in
+    let x = c .before .state-at in
+    other (s .args .job) (now (s .args .cells)) (now (s .args .store)) (s .args .place) (n .result) (n .ensures) (c .before .before .before .before .if1 .left) (c .before .before .if2 .left) (x .result) (x .ensures) (c .if3 .taken)
+
+returns-4 : tie.Need-returns-4
+returns-4 c =
+    let s = c .before .before .before .before .before .before .before in
+    let n = c .before .before .before .before .before .choose-cause in
+    let x = c .before .state-at in
+    active (s .args .job) (now (s .args .cells)) (now (s .args .store)) (s .args .place) (n .result) (n .ensures) (c .before .before .before .before .if1 .left) (c .before .before .if2 .left) (x .result) (x .ensures) (c .if3 .left)
 
 pub promote-cause-spec : {M : Type 1} → statement M
 promote-cause-spec =
     tie.close
-    (tie.spec area-cause-requires returns cast-held first-wanted-requires returns-2 returns-3)
+    (tie.spec
+    choose-cause-requires
+    returns
+    cast-held
+    returns-2
+    state-at-requires
+    returns-3
+    returns-4)
