@@ -19,13 +19,12 @@ use Rattle.area.specs.Encoding.{Area, machineOf}
 use Rattle.soundness.specs.Clauses.{isSound, checked}
 use Rattle.encoding.specs.Entries.{entryAt}
 use Rattle.machine.specs.Log.{firstWanted}
-use Rattle.machine.specs.Choose.{selected}
 use Rattle.machine.specs.Promote as rule
-use Rattle.machine.proofs.Answers.{Answered, is-met, is-capped, is-refined, answered}
+use Rattle.machine.proofs.Answers.{either-log}
 use Rattle.machine.specs.Steps as steps
 use Rattle.machine.specs.Causes.{Lengths, firstCause, short, startCauses}
 use Rattle.calls.specs.Replies.{verdict, lengthsOf}
-use Rattle.calls.specs.Table.{Call, start, point, points, deliver, promote, result, doubles, crossTotal, check, Effect, unchanged, becomes, promotionEffect, JobRow, onJob, answer, row, causesOf, effectOf, passesCheck, acceptedAnswer, refusal}
+use Rattle.calls.specs.Table.{Call, start, point, points, deliver, choose, promote, result, doubles, crossTotal, check, Effect, unchanged, becomes, promotionEffect, JobRow, onJob, answer, row, causesOf, effectOf, passesCheck, acceptedAnswer, refusal}
 use Rattle.calls.specs.Calls.{CallResult, areaAfter, refusalOn, callOn}
 use Rattle.calls.proofs.CauseCases.{acceptedCall, refusedCall, either, call-refuses}
 use Rattle.calls.proofs.ResultValues.{check-answer}
@@ -66,36 +65,18 @@ within-limit b es e = go (leb (length es) 512) refl
     go true q = leb-true (length es) 512 q
     go false q = let z : _≡_ {A = Bool} false true = rw q at e in absurd (false-not-true z)
 
-refine-few : (l : Log) (p : ℕ) → length (l .entries) ≤ 512 → length (rule.promoteAt l p .log .entries) ≤ 512
-unfolding rule.promoteAt
-refine-few l p h = go (rule.fits (l .settings .budget) refined) (within-limit (l .settings .budget) refined)
-  where
-    refined : List Entry
-    refined = rule.refine (l .settings .axes) (l .entries) p
-
-    go : (u : Bool) → (u ≡ true → length refined ≤ 512)
-        → length (cond {A = rule.Promotion} u (record { outcome = rule.promoted; log = record { settings = l .settings; entries = refined } }) (record { outcome = rule.spent; log = l }) .log .entries) ≤ 512
-    go true k = k refl
-    go false k = h
-
-promote-few : (l : Log) → length (l .entries) ≤ 512 → length (rule.promote l .log .entries) ≤ 512
-promote-few l h = step (answered l)
-  where
-    step : Answered l → length (rule.promote l .log .entries) ≤ 512
-    step (is-met e k) = rw e h
-    step (is-capped e k g) = rw e h
-    step (is-refined e k) = rw e (refine-few l (selected (l .entries)) h)
+promote-few : (l : Log) (p : ℕ) → length (l .entries) ≤ 512 → length (rule.promoteAt l p .log .entries) ≤ 512
+promote-few l p h =
+    either-log (l .settings .budget) l p (λ (o : Log). length (o .entries) ≤ 512) (within-limit (l .settings .budget) (rule.refine (l .settings .axes) (l .entries) p)) h
 
 abbrev Few : Effect → Type 0
 Few unchanged = Unit {0}
 Few (becomes n) = length (n .log .entries) ≤ 512
 
-outcome-few : (m : Machine) → length (m .log .entries) ≤ 512 → (o : rule.Outcome) → Few (promotionEffect o (steps.promoteStep m))
+outcome-few : (m : Machine) (p : ℕ) → length (m .log .entries) ≤ 512 → (o : rule.Outcome) → Few (promotionEffect o (steps.promoteStep m p))
 unfolding promotionEffect steps.promoteStep
-outcome-few m h rule.met = tt
-outcome-few m h rule.capped = tt
-outcome-few m h rule.spent = tt
-outcome-few m h rule.promoted = promote-few (m .log) h
+outcome-few m p h rule.spent = tt
+outcome-few m p h rule.promoted = promote-few (m .log) p h
 
 effect-few : (m : Machine) → length (m .log .entries) ≤ 512 → (c : Call) → Few (effectOf m (row c))
 unfolding effectOf row
@@ -105,7 +86,8 @@ effect-few m h (points n buffer) = tt
 effect-few m h (deliver rs i) =
     unfold steps.deliver steps.deliverAt in
     omega (arith, h, length-set (m .log .entries) (firstWanted (m .log .entries)) (steps.delivered (entryAt (m .log .entries) (firstWanted (m .log .entries))) rs i))
-effect-few m h promote = outcome-few m h (rule.promote (m .log) .outcome)
+effect-few m h choose = tt
+effect-few m h (promote p) = outcome-few m p h (rule.promoteAt (m .log) p .outcome)
 effect-few m h result = tt
 effect-few m h doubles = tt
 effect-few m h crossTotal = tt
@@ -208,7 +190,8 @@ module _ (a : Area) (more : List IndexRecord) (room : 512 ≤ length (a .run .re
   call-longer (point n buffer) = job-longer (point n buffer) _ refl
   call-longer (points n buffer) = job-longer (points n buffer) _ refl
   call-longer (deliver rs i) = job-longer (deliver rs i) _ refl
-  call-longer promote = job-longer promote _ refl
+  call-longer choose = job-longer choose _ refl
+  call-longer (promote p) = job-longer (promote p) _ refl
   call-longer result = job-longer result _ refl
   call-longer doubles = job-longer doubles _ refl
   call-longer crossTotal = job-longer crossTotal _ refl

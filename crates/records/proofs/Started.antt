@@ -23,7 +23,7 @@ use Rattle.machine.specs.Steps.{started}
 use Rattle.calls.specs.declared.Answer as code
 use Rattle.calls.specs.declared.Answer.the-variants as answers
 use Rattle.calls.specs.declared.CallOutput.{CallOutput}
-use Rattle.calls.specs.Replies.{Reply, refused, accepted, wrote, promotion, counts, doubled, total, verdict, replyOf}
+use Rattle.calls.specs.Replies.{Reply, refused, accepted, wrote, chosen, promotion, counts, doubled, total, verdict, replyOf}
 use Rattle.calls.specs.Table.{start, answer, row, causesOf, effectOf, acceptedAnswer, refusedAnswer, refusal}
 use Rattle.calls.specs.Calls.{CallResult, areaAfter, refusalOn, callOn}
 use Rattle.calls.proofs.CauseCases.{acceptedCall, refusedCall, either}
@@ -40,6 +40,7 @@ way : Reply → ℕ
 way (refused n) = 0
 way accepted = 1
 way (wrote w n) = 2
+way (chosen c) = 2
 way (promotion o) = 2
 way (counts c) = 2
 way (doubled r) = 2
@@ -50,8 +51,6 @@ refused-none : (q : code.Answer) (m k : ℕ) → replyOf q ≡ refused m → sto
 unfolding replyOf storedBy way
 refused-none (answers.Refused n) m k e = refl
 refused-none answers.Accepted m k e = absurd (omega (arith, ap way e))
-refused-none answers.Met m k e = refl
-refused-none answers.Capped m k e = refl
 refused-none answers.Spent m k e = refl
 refused-none answers.Promoted m k e = absurd (omega (arith, ap way e))
 
@@ -59,8 +58,6 @@ accepted-all : (q : code.Answer) (k : ℕ) → replyOf q ≡ accepted → stored
 unfolding replyOf storedBy way
 accepted-all (answers.Refused n) k e = absurd (omega (arith, ap way e))
 accepted-all answers.Accepted k e = refl
-accepted-all answers.Met k e = absurd (omega (arith, ap way e))
-accepted-all answers.Capped k e = absurd (omega (arith, ap way e))
 accepted-all answers.Spent k e = absurd (omega (arith, ap way e))
 accepted-all answers.Promoted k e = refl
 

@@ -13,11 +13,11 @@ use lib.Seq.{take-length, drop-length}
 use Rattle.area.specs.declared.IndexRecord.{IndexRecord}
 use Rattle.area.specs.Records.{recordsOf}
 use Rattle.area.specs.Encoding.{Area}
-use Rattle.machine.specs.Promote.{Outcome, met, capped, spent, promoted}
+use Rattle.machine.specs.Promote.{Outcome, spent, promoted}
 use Rattle.calls.specs.declared.Answer as code
 use Rattle.calls.specs.declared.Answer.the-variants as answers
 use Rattle.calls.specs.declared.CallOutput.{CallOutput}
-use Rattle.calls.specs.Replies.{Reply, refused, accepted, wrote, promotion, counts, doubled, total, verdict, replyOf}
+use Rattle.calls.specs.Replies.{Reply, refused, accepted, wrote, chosen, promotion, counts, doubled, total, verdict, replyOf}
 use Rattle.calls.specs.Table.{Call, deliver, promote, Row, anyArea, onJob, row, acceptedAnswer, refusedAnswer}
 use Rattle.calls.specs.Calls.{CallResult, refusalOn, callOn}
 use Rattle.calls.proofs.CauseCases.{acceptedCall, call-ways}
@@ -31,8 +31,6 @@ pub stored-within : (q : code.Answer) (n : ℕ) → storedBy q n ≤ n
 unfolding storedBy
 stored-within (answers.Refused m) n = zero-le
 stored-within answers.Accepted n = le-refl n
-stored-within answers.Met n = zero-le
-stored-within answers.Capped n = zero-le
 stored-within answers.Spent n = zero-le
 stored-within answers.Promoted n = le-refl n
 
@@ -40,8 +38,8 @@ stored-within answers.Promoted n = le-refl n
 abbrev pub Idle : Area → Call → Type 0
 Idle a c = (o : Outcome) → (o ≡ promoted → ⊥) → callOn a c .answer .reply ≡ promotion o → callOn a c .area ≡ a
 
-pub promote-idle : (a : Area) → Idle a promote
-promote-idle a o n e = call-facts .promote-unchanged a (λ f. n (same o (sym e ∙ f)))
+pub promote-idle : (a : Area) (p : ℕ) → Idle a (promote p)
+promote-idle a p o n e = call-facts .promote-unchanged a p (λ f. n (same o (sym e ∙ f)))
   where
     same : (o : Outcome) → promotion o ≡ promotion promoted → o ≡ promoted
     same o g = cc
@@ -77,8 +75,6 @@ module _ (a : Area) (c : Call) (o : CallOutput) (t : List ℤ) (x : List IndexRe
   unfolding storedBy replyOf
   by-answer (answers.Refused m) e = none-stored (call-facts .refused-keeps a c m (replied (answers.Refused m) e) .0)
   by-answer answers.Accepted e = held-stored
-  by-answer answers.Met e = none-stored (idle met (λ q. let z : _≡_ {A = ℕ} 0 1 = cc in omega arith) (replied answers.Met e))
-  by-answer answers.Capped e = none-stored (idle capped (λ q. let z : _≡_ {A = ℕ} 0 1 = cc in omega arith) (replied answers.Capped e))
   by-answer answers.Spent e = none-stored (idle spent (λ q. let z : _≡_ {A = ℕ} 0 1 = cc in omega arith) (replied answers.Spent e))
   by-answer answers.Promoted e = held-stored
 
@@ -107,6 +103,7 @@ outcomes : Reply → ℕ
 outcomes (refused n) = 0
 outcomes accepted = 0
 outcomes (wrote w n) = 0
+outcomes (chosen c) = 0
 outcomes (promotion o) = 1
 outcomes (counts c) = 0
 outcomes (doubled r) = 0

@@ -43,12 +43,10 @@ overRun n rs u = record { records = over n rs (u .records); rest = u .rest }
 unfoldable pub front : ℕ → List ℕ → List IndexRecord
 front n c = take n (recordsOf c)
 
--- How many records a call stores back, of n that it may: all where it changed the area, none where it was refused, met, capped or spent.
+-- How many records a call stores back, of n that it may: all where it changed the area, none where it was refused or spent.
 unfoldable pub storedBy : code.Answer → ℕ → ℕ
 storedBy (answers.Refused m) n = 0
 storedBy answers.Accepted n = n
-storedBy answers.Met n = 0
-storedBy answers.Capped n = 0
 storedBy answers.Spent n = 0
 storedBy answers.Promoted n = n
 

@@ -6,8 +6,8 @@ ghost use Prim.Native.Nat.{_*_, _<_, _≤_};
 ghost use lib.ListN.{length, getD, set, take};
 ghost use Rattle.area.specs.Records.{recordsOf, runOf, blank};
 ghost use Rattle.soundness.specs.Clauses.{checked};
-ghost use Rattle.calls.specs.Replies.{replyOf, replyOfPoints, replyOfResult, replyOfDoubles, replyOfTotal};
-ghost use Rattle.calls.specs.Table.{start, point, points, deliver, promote, result, doubles, crossTotal, answer};
+ghost use Rattle.calls.specs.Replies.{replyOf, replyOfPoints, replyOfChoose, replyOfResult, replyOfDoubles, replyOfTotal};
+ghost use Rattle.calls.specs.Table.{start, point, points, deliver, choose, promote, result, doubles, crossTotal, answer};
 ghost use Rattle.calls.specs.Calls.{callOn};
 ghost use Rattle.records.specs.Lent.{areaOn, callResultOn, min, over, overRun, front, storedBy, StartedOver};
 
@@ -95,8 +95,6 @@ fn to_store(output: calls::CallOutput, count: usize) -> usize
     match answer {
         calls::Answer::Refused(_) => 0,
         calls::Answer::Accepted => held,
-        calls::Answer::Met => 0,
-        calls::Answer::Capped => 0,
         calls::Answer::Spent => 0,
         calls::Answer::Promoted => held,
     }
@@ -200,12 +198,20 @@ fn flat_deliver(
     }
 }
 
-fn flat_promote(job: area::JobRecord, flat: Flat, store: &[i32]) -> FlatOutput
+fn flat_choose(job: area::JobRecord, flat: Flat, store: &[i32]) -> calls::ChooseAnswer
     requires { ⌜ flat .count ≤ 512 ⌝ }
-    ensures { λ r. ⌜ (r .stored ≤ flat .count) × (callResultOn (r .answer) (over (r .stored) (recordsOf (r .words)) (front (flat .count) (flat .words))) (now (store .entry)) ≡ callOn (areaOn job (front (flat .count) (flat .words)) (now (store .entry))) promote) ⌝ }
+    ensures { λ r. ⌜ answer (replyOfChoose r) ≡ callOn (areaOn job (front (flat .count) (flat .words)) (now (store .entry))) choose .answer ⌝ }
+{
+    let words = flat.words;
+    calls::choose(job, &words[..flat.count * 27], store)
+}
+
+fn flat_promote(job: area::JobRecord, place: usize, flat: Flat, store: &[i32]) -> FlatOutput
+    requires { ⌜ flat .count ≤ 512 ⌝ }
+    ensures { λ r. ⌜ (r .stored ≤ flat .count) × (callResultOn (r .answer) (over (r .stored) (recordsOf (r .words)) (front (flat .count) (flat .words))) (now (store .entry)) ≡ callOn (areaOn job (front (flat .count) (flat .words)) (now (store .entry))) (promote place)) ⌝ }
 {
     let mut words = flat.words;
-    let answer = calls::promote(job, &mut words[..flat.count * 27], store);
+    let answer = calls::promote(job, place, &mut words[..flat.count * 27], store);
     let stored = to_store(answer, flat.count);
     FlatOutput {
         answer,
@@ -307,16 +313,29 @@ pub fn deliver(
     done.answer
 }
 
-// Promotes: met or capped, or the selected index refined, unless that is spent.
+// Chooses: met, capped or the place that the rule selects.
+pub fn choose(
+    job: area::JobRecord,
+    records: &[area::IndexRecord],
+    store: &[i32],
+) -> calls::ChooseAnswer
+    ensures { λ r. ⌜ answer (replyOfChoose r) ≡ callOn (areaOn job (now (records .entry)) (now (store .entry))) choose .answer ⌝ }
+{
+    let flat = flatten(records);
+    flat_choose(job, flat, store)
+}
+
+// Promotes: the active index at the place is refined, unless that is spent.
 pub fn promote(
     job: area::JobRecord,
+    place: usize,
     records: &mut [area::IndexRecord],
     store: &[i32],
 ) -> calls::CallOutput
-    ensures { λ r. ⌜ callResultOn r (now (records .exit)) (now (store .entry)) ≡ callOn (areaOn job (now (records .entry)) (now (store .entry))) promote ⌝ }
+    ensures { λ r. ⌜ callResultOn r (now (records .exit)) (now (store .entry)) ≡ callOn (areaOn job (now (records .entry)) (now (store .entry))) (promote place) ⌝ }
 {
     let flat = flatten(records);
-    let done = flat_promote(job, flat, store);
+    let done = flat_promote(job, place, flat, store);
     put_back(records, done.stored, done.words);
     done.answer
 }

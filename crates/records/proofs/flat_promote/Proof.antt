@@ -43,15 +43,15 @@ returns c =
     let r = c .before .before .promote .result in
     let flat = s .args .flat in
     let n = flat .count in
-    let count : length (flat .words) ≡ 13824 = words-count flat _ (s .good .1 .0) in
-    let after = c .before .before .promote .last .1 .0 in
-    let same = c .before .before .promote .kept .1 .0 in
-    stores (areaOn (s .args .job) (front n (flat .words)) (now (s .args .store))) table.promote r (now (s .args .store)) (after ++ drop (n * 27) (flat .words)) n (c .to-store .result)
+    let count : length (flat .words) ≡ 13824 = words-count flat _ (s .good .1 .1 .0) in
+    let after = c .before .before .promote .last .1 .1 .0 in
+    let same = c .before .before .promote .kept .1 .1 .0 in
+    stores (areaOn (s .args .job) (front n (flat .words)) (now (s .args .store))) (table.promote (s .args .place)) r (now (s .args .store)) (after ++ drop (n * 27) (flat .words)) n (c .to-store .result)
     (front-length n (flat .words) (s .pre) count) (front-length n (after ++ drop (n * 27) (flat .words)) (s .pre) (cut-whole n (flat .words) (s .pre) count after same))
-    (promote-idle (areaOn (s .args .job) (front n (flat .words)) (now (s .args .store)))) (c .to-store .ensures)
+    (promote-idle (areaOn (s .args .job) (front n (flat .words)) (now (s .args .store))) (s .args .place)) (c .to-store .ensures)
     (ap (λ (u : Run). record { answer = table.answer (replyOf (r .answer)); area = record { job = r .job; run = u; store = now (s .args .store) } }) (cut-after n (flat .words) (s .pre) count after same)
     ∙ c .before .before .promote .ensures
-    ∙ ap (λ (u : Run). callOn (record { job = s .args .job; run = u; store = now (s .args .store) }) table.promote) (cut-run n (flat .words) (s .pre) count))
+    ∙ ap (λ (u : Run). callOn (record { job = s .args .job; run = u; store = now (s .args .store) }) (table.promote (s .args .place))) (cut-run n (flat .words) (s .pre) count))
 
 pub flat-promote-spec : {M : Type 1} → statement M
 flat-promote-spec =

@@ -23,12 +23,6 @@ enum-told-3 c = search needs
 enum-told-4 : tie.Need-enum-told-4
 enum-told-4 c = search needs
 
-enum-told-5 : tie.Need-enum-told-5
-enum-told-5 c = search needs
-
-enum-told-6 : tie.Need-enum-told-6
-enum-told-6 c = search needs
-
 returns : tie.Need-returns
 unfolding storedBy
 returns c = let s = c .before .before .before .before in ap (λ x. storedBy x (min (s .args .output .job .held) (s .args .count))) (sym (c .enum-told .given .1))
@@ -43,15 +37,7 @@ returns-3 c = let s = c .before .before .before .before in ap (λ x. storedBy x 
 
 returns-4 : tie.Need-returns-4
 unfolding storedBy
-returns-4 c = let s = c .before .before .before .before in ap (λ x. storedBy x (min (s .args .output .job .held) (s .args .count))) (sym (c .enum-told4 .given .1))
-
-returns-5 : tie.Need-returns-5
-unfolding storedBy
-returns-5 c = let s = c .before .before .before .before in ap (λ x. storedBy x (min (s .args .output .job .held) (s .args .count))) (sym (c .enum-told5 .given .1))
-
-returns-6 : tie.Need-returns-6
-unfolding storedBy
-returns-6 c = let s = c .before .before .before .before in c .before .before .lesser .ensures ∙ ap (λ x. storedBy x (min (s .args .output .job .held) (s .args .count))) (sym (c .enum-told6 .given .1))
+returns-4 c = let s = c .before .before .before .before in c .before .before .lesser .ensures ∙ ap (λ x. storedBy x (min (s .args .output .job .held) (s .args .count))) (sym (c .enum-told4 .given .1))
 
 pub to-store-spec : {M : Type 1} → statement M
 to-store-spec =
@@ -63,11 +49,7 @@ to-store-spec =
     enum-told-2
     enum-told-3
     enum-told-4
-    enum-told-5
-    enum-told-6
     returns
     returns-2
     returns-3
-    returns-4
-    returns-5
-    returns-6)
+    returns-4)
