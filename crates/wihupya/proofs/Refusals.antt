@@ -8,7 +8,7 @@ use Rattle.area.specs.Encoding.{Area, areaOf}
 use Rattle.calls.specs.declared.Answer as code
 use Rattle.calls.specs.declared.Answer.the-variants as answers
 use Rattle.calls.specs.declared.CallOutput.{CallOutput}
-use Rattle.calls.specs.Replies.{Reply, refused, accepted, wrote, promotion, counts, doubled, total, verdict, replyOf}
+use Rattle.calls.specs.Replies.{Reply, refused, accepted, wrote, chosen, promotion, counts, doubled, total, verdict, replyOf}
 use Rattle.calls.specs.Table.{Call}
 use Rattle.calls.specs.Calls.{CallResult, callOn, callResultOf}
 use Rattle.calls.proofs.Facts.{call-facts}
@@ -27,8 +27,6 @@ module _ (w : List ℕ) (cells : List ℕ) (store : List ℤ) (c : Call) (r : Ca
   unfolding replyOf numberOf
   by-answer (answers.Refused n) e = kept (call-facts .refused-keeps a c n (sym (ap (λ (y : CallResult). y .answer .reply) is) ∙ ap replyOf e) .0)
   by-answer answers.Accepted e = absurd (refusing (number-is ∙ ap (λ (x : code.Answer). numberOf (replyOf x)) e))
-  by-answer answers.Met e = absurd (refusing (number-is ∙ ap (λ (x : code.Answer). numberOf (replyOf x)) e))
-  by-answer answers.Capped e = absurd (refusing (number-is ∙ ap (λ (x : code.Answer). numberOf (replyOf x)) e))
   by-answer answers.Spent e = absurd (refusing (number-is ∙ ap (λ (x : code.Answer). numberOf (replyOf x)) e))
   by-answer answers.Promoted e = absurd (refusing (number-is ∙ ap (λ (x : code.Answer). numberOf (replyOf x)) e))
 
@@ -39,8 +37,6 @@ pub refused-outcome : (q : code.Answer) (number : ℕ) (w : List ℕ) → number
 unfolding replyOf numberOf outcomeAfter
 refused-outcome (answers.Refused n) number w e f = refl
 refused-outcome answers.Accepted number w e f = refl
-refused-outcome answers.Met number w e f = absurd (f e)
-refused-outcome answers.Capped number w e f = absurd (f e)
 refused-outcome answers.Spent number w e f = absurd (f e)
 refused-outcome answers.Promoted number w e f = absurd (f e)
 
@@ -49,6 +45,7 @@ unfolding numberOf
 refused-number (refused n) f = refl
 refused-number accepted f = absurd (f refl)
 refused-number (wrote n size) f = absurd (f refl)
+refused-number (chosen c) f = absurd (f refl)
 refused-number (promotion o) f = absurd (f refl)
 refused-number (counts c) f = absurd (f refl)
 refused-number (doubled r) f = absurd (f refl)

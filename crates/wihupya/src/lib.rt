@@ -2,7 +2,7 @@
 // (specs/Words.antt). The length of cells counts words, 27 to a record; that of the store counts readings. A call but check returns 0
 // if it was not refused, else the number of the cause. include/wihupya.h says it for C, and bindings/ for Rust.
 ghost use mathlib.Core.Path.{_≡_};
-ghost use mathlib.Core.List.{[]};
+ghost use mathlib.Core.List.{[], _∷_};
 ghost use Prim.Native.Nat.{_+_, _*_, _^_};
 ghost use mir.Syntax.{w64};
 ghost use mir.Val.{toZ, ofZ};
@@ -13,10 +13,10 @@ ghost use Rattle.area.specs.Records.{runOf};
 ghost use Rattle.doubles.specs.Exact.{NoneNan};
 ghost use Rattle.counting.specs.Answer.{countsIn};
 ghost use Rattle.calls.specs.Replies.{wrote, counts as countsReply, doubled as doubledReply, total as totalReply, replyOf};
-ghost use Rattle.calls.specs.Table.{start, point, points, deliver, promote, result, doubles, crossTotal};
+ghost use Rattle.calls.specs.Table.{start, point, points, deliver, choose, promote, result, doubles, crossTotal};
 ghost use Rattle.calls.specs.Calls.{callOn};
 ghost use Rattle.wihupya.specs.Words.{jobOf, lowWord, highWord, wordsOf};
-ghost use Rattle.wihupya.specs.Exports.{numberOf, exported, pointsAfter, outcomeAfter, countsAfter, totalAfter, doublesAfter};
+ghost use Rattle.wihupya.specs.Exports.{numberOf, exported, pointsAfter, choiceAfter, outcomeAfter, countsAfter, totalAfter, doublesAfter};
 
 // Two words as a 64-bit number.
 fn wide(low: u32, high: u32) -> u64
@@ -115,8 +115,6 @@ fn number_of(answer: calls::Answer) -> u32
     match answer {
         calls::Answer::Refused(number) => number,
         calls::Answer::Accepted => 0,
-        calls::Answer::Met => 0,
-        calls::Answer::Capped => 0,
         calls::Answer::Spent => 0,
         calls::Answer::Promoted => 0,
     }
@@ -129,11 +127,19 @@ fn outcome_word(answer: calls::Answer, before: [u32; 1]) -> [u32; 1]
     match answer {
         calls::Answer::Refused(_) => before,
         calls::Answer::Accepted => before,
-        calls::Answer::Met => [0u32; 1],
-        calls::Answer::Capped => [3u32; 1],
         calls::Answer::Spent => [1u32; 1],
         calls::Answer::Promoted => [2u32; 1],
     }
+}
+
+// A choice as two words: its number, and the place.
+fn choice_words(number: u32, place: u32) -> [u32; 2]
+    ensures { λ r. ⌜ r ≡ number ∷ place ∷ [] ⌝ }
+{
+    let mut words = [0u32; 2];
+    words[0] = number;
+    words[1] = place;
+    words
 }
 
 // How many points were written and how many the block has, as two words.
@@ -287,20 +293,49 @@ pub extern "C" fn wihupya_deliver(
     number
 }
 
-// Promotes, and writes the outcome: 0 met, 1 spent, 2 promoted, 3 capped.
+// Chooses, and writes 0 met, 3 capped or 4 chosen, and then the place that the rule selects, else 0.
+#[no_mangle]
+pub extern "C" fn wihupya_choose(
+    job: &[u32; 12],
+    choice: &mut [u32; 2],
+    cells: &[u32],
+    store: &[i32],
+) -> u32
+    ensures { λ r. ⌜ (r ≡ numberOf (callOn (areaOf (jobOf (now (job .entry))) (now (cells .entry)) (now (store .entry))) choose .answer .reply)) × (now (choice .exit) ≡ choiceAfter (callOn (areaOf (jobOf (now (job .entry))) (now (cells .entry)) (now (store .entry))) choose .answer .reply) (now (choice .entry))) ⌝ }
+{
+    let answered = calls::choose(job_of(job), cells, store);
+    match answered {
+        calls::ChooseAnswer::Refused(number) => number,
+        calls::ChooseAnswer::Met => {
+            *choice = choice_words(0, 0);
+            0
+        }
+        calls::ChooseAnswer::Capped => {
+            *choice = choice_words(3, 0);
+            0
+        }
+        calls::ChooseAnswer::Chosen(place) => {
+            *choice = choice_words(4, place as u32);
+            0
+        }
+    }
+}
+
+// Promotes the active index at a place, and writes the outcome: 1 spent, 2 promoted.
 #[no_mangle]
 pub extern "C" fn wihupya_promote(
     job: &mut [u32; 12],
+    place: usize,
     outcome: &mut [u32; 1],
     cells: &mut [u32],
     store: &[i32],
 ) -> u32
-    ensures is { λ r. ⌜ record { number = r; job = now (job .exit); run = runOf (now (cells .exit)); store = now (store .entry) } ≡ exported (callOn (areaOf (jobOf (now (job .entry))) (now (cells .entry)) (now (store .entry))) promote) ⌝ }
-    ensures outcome { λ r. ⌜ now (outcome .exit) ≡ outcomeAfter (callOn (areaOf (jobOf (now (job .entry))) (now (cells .entry)) (now (store .entry))) promote .answer .reply) (now (outcome .entry)) ⌝ }
+    ensures is { λ r. ⌜ record { number = r; job = now (job .exit); run = runOf (now (cells .exit)); store = now (store .entry) } ≡ exported (callOn (areaOf (jobOf (now (job .entry))) (now (cells .entry)) (now (store .entry))) (promote place)) ⌝ }
+    ensures outcome { λ r. ⌜ now (outcome .exit) ≡ outcomeAfter (callOn (areaOf (jobOf (now (job .entry))) (now (cells .entry)) (now (store .entry))) (promote place) .answer .reply) (now (outcome .entry)) ⌝ }
     ensures refused { λ r. ⌜ ((r ≡ 0 → ⊥) → now (job .exit) ≡ now (job .entry)) ⌝ }
 {
     let before = *job;
-    let answered = calls::promote(job_in(before), cells, store);
+    let answered = calls::promote(job_in(before), place, cells, store);
     let after = answered.job;
     let answer = answered.answer;
     let number = number_of(answer);

@@ -19,12 +19,6 @@ enum-told-2 c = search needs
 enum-told-3 : tie.Need-enum-told-3
 enum-told-3 c = search needs
 
-enum-told-4 : tie.Need-enum-told-4
-enum-told-4 c = search needs
-
-enum-told-5 : tie.Need-enum-told-5
-enum-told-5 c = search needs
-
 returns : tie.Need-returns
 unfolding replyOf numberOf
 returns c = ap (λ x. numberOf (replyOf x)) (sym (c .before .answer .given .1))
@@ -41,14 +35,6 @@ returns-4 : tie.Need-returns-4
 unfolding replyOf numberOf
 returns-4 c = ap (λ x. numberOf (replyOf x)) (sym (c .enum-told3 .given .1))
 
-returns-5 : tie.Need-returns-5
-unfolding replyOf numberOf
-returns-5 c = ap (λ x. numberOf (replyOf x)) (sym (c .enum-told4 .given .1))
-
-returns-6 : tie.Need-returns-6
-unfolding replyOf numberOf
-returns-6 c = ap (λ x. numberOf (replyOf x)) (sym (c .enum-told5 .given .1))
-
 pub number-of-spec : {M : Type 1} → statement M
 number-of-spec =
     tie.close
@@ -57,11 +43,7 @@ number-of-spec =
     enum-told
     enum-told-2
     enum-told-3
-    enum-told-4
-    enum-told-5
     returns
     returns-2
     returns-3
-    returns-4
-    returns-5
-    returns-6)
+    returns-4)

@@ -19,12 +19,6 @@ enum-told-3 c = search needs
 enum-told-4 : tie.Need-enum-told-4
 enum-told-4 c = search needs
 
-enum-told-5 : tie.Need-enum-told-5
-enum-told-5 c = search needs
-
-enum-told-6 : tie.Need-enum-told-6
-enum-told-6 c = search needs
-
 returns : tie.Need-returns
 unfolding replyOf outcomeAfter outcomeWord
 returns c = ap (λ x. outcomeAfter (replyOf x) (c .before .before .args .before)) (sym (c .enum-told .given .1))
@@ -41,14 +35,6 @@ returns-4 : tie.Need-returns-4
 unfolding replyOf outcomeAfter outcomeWord
 returns-4 c = ap (λ x. outcomeAfter (replyOf x) (c .before .before .args .before)) (sym (c .enum-told4 .given .1))
 
-returns-5 : tie.Need-returns-5
-unfolding replyOf outcomeAfter outcomeWord
-returns-5 c = ap (λ x. outcomeAfter (replyOf x) (c .before .before .args .before)) (sym (c .enum-told5 .given .1))
-
-returns-6 : tie.Need-returns-6
-unfolding replyOf outcomeAfter outcomeWord
-returns-6 c = ap (λ x. outcomeAfter (replyOf x) (c .before .before .args .before)) (sym (c .enum-told6 .given .1))
-
 pub outcome-word-spec : {M : Type 1} → statement M
 outcome-word-spec =
     tie.close
@@ -57,11 +43,7 @@ outcome-word-spec =
     enum-told-2
     enum-told-3
     enum-told-4
-    enum-told-5
-    enum-told-6
     returns
     returns-2
     returns-3
-    returns-4
-    returns-5
-    returns-6)
+    returns-4)
