@@ -10,19 +10,22 @@ use Rattle.grid.specs.Index.{root}
 use Rattle.area.specs.declared.Settings.{Settings}
 use Rattle.area.specs.Settings.{SettingsFit}
 use Rattle.area.specs.Entry.{reservedBy, pendingOf, carriedOf}
+use Rattle.area.specs.Log.{Machine}
 use Rattle.encoding.specs.Entries.{SoundMachine}
-use Rattle.machine.specs.Promote.{promoted, promote}
+use Rattle.machine.specs.Choose.{selected}
 use Rattle.machine.specs.Steps.{started}
 use Rattle.machine.specs.Admitted.{totalOf}
 use Rattle.machine.proofs.Facts.{step-facts}
-use Rattle.published.specs.Figure.{Problem, Figure, increment, initial, joined, turns}
-use Rattle.published.specs.Turns.{supply, supplies, turnsOn, activeOf, SettingsMatch, ReadingValued, Simulates}
+use Rattle.published.specs.Figure.{Problem, Figure, increment, initial, joined, turnAt, turn, turns}
+use Rattle.published.specs.Turns.{supply, supplies, turnOn, turnsOn, TurnMade, activeOf, SettingsMatch, ReadingValued, Simulates}
 use Rattle.published.specs.Facts.{PublishedFacts}
 use Rattle.published.proofs.Scans.{joinedAll}
 use Rattle.published.proofs.Joins.{Agrees, Waiting}
 use Rattle.published.proofs.Supplies.{supplies-join}
 use Rattle.published.proofs.Outcomes as Outcomes
 use Rattle.published.proofs.OneTurn as OneTurn
+use Rattle.published.proofs.Led.{led-more, led-old, led-itself}
+use Rattle.published.proofs.Standing.{some-state}
 
 -- ---- the lines before the loop: nothing yet, and then the root is joined
 
@@ -54,6 +57,16 @@ module _ (P : Problem) where
   unfolding joinedAll joined nothing initial
   root-joined = ap₂ {C = Figure} (λ r n. record { old = []; active = root ∷ []; result = r; estimate = n; carried = 0 }) (+ℤ-idl (increment P root)) (zero-add (P .indicator root))
 
+  -- the turn at the place that the rule selects
+  pub next-turn : ReadingValued P → (m : Machine) (s : Figure) → SoundMachine m → Simulates P m s → TurnMade (m .log)
+      → SoundMachine (turnOn P m (selected (m .log .entries))) × Simulates P (turnOn P m (selected (m .log .entries))) (turn P s)
+  unfolding turn
+  next-turn measured m s v at made =
+      let p = selected (m .log .entries) in
+      let a = Outcomes.place-only P m s at p (made .0) in
+      subst (λ i. SoundMachine (turnOn P m p) × Simulates P (turnOn P m p) (turnAt P i s)) (a .2)
+      (OneTurn.one-turn P m s v at p (a .1 .place) (a .1 .active) (made .1) measured)
+
   module _ (g : Settings) (measured : ReadingValued P) (fit : SettingsFit g) (posed : SettingsMatch g P) where
     begins-both : SoundMachine (turnsOn P g 0) × Simulates P (turnsOn P g 0) (initial P)
     unfolding turnsOn supplies
@@ -61,25 +74,33 @@ module _ (P : Problem) where
         subst (λ s. SoundMachine (supply P (started g)) × Simulates P (supply P (started g)) s) root-joined
         (supplies-join P measured (root ∷ []) (started g) [] nothing (step-facts .start g fit) (started-waits g posed))
 
-    any-turns : (n : ℕ) → ((i : ℕ) → i < n → promote (turnsOn P g i .log) .outcome ≡ promoted) → SoundMachine (turnsOn P g n) × Simulates P (turnsOn P g n) (turns P n)
+    any-turns : (n : ℕ) → ((i : ℕ) → i < n → TurnMade (turnsOn P g i .log)) → SoundMachine (turnsOn P g n) × Simulates P (turnsOn P g n) (turns P n)
     unfolding turnsOn turns
     any-turns zero all = begins-both
     any-turns (suc n) all =
         let x = any-turns n (λ i h. all i (omega arith)) in
-        OneTurn.one-turn P (turnsOn P g n) (turns P n) (x .0) (x .1) (all n (omega arith)) measured
+        next-turn measured (turnsOn P g n) (turns P n) (x .0) (x .1) (all n (omega arith))
 
 pub published-facts : PublishedFacts
 published-facts =
     record {
+      some = some-state;
       begins = λ P g measured fit posed. begins-both P g measured fit posed .1;
       over-met = Outcomes.over-met;
       over-capped = Outcomes.over-capped;
       goes-on = Outcomes.goes-on;
-      selects = OneTurn.selects-same;
+      selects = Outcomes.selects-same;
+      met-only = Outcomes.met-only;
+      capped-only = Outcomes.capped-only;
+      place-only = λ P m s p at. Outcomes.place-only P m s at p;
       refines = λ P m s p v at h a. OneTurn.refines P m s v at p h a;
       once-after = λ P m s p v at h a. OneTurn.once-after P m s v at p h a;
       spent-at = λ P m s p v at h a. OneTurn.spent-at P m s v at p h a;
       promoted-at = λ P m s p v at h a. OneTurn.promoted-at P m s v at p h a;
-      one-turn = λ P m s measured v at e. OneTurn.one-turn P m s v at e measured;
+      spent-at-only = λ P m s p v at h a. OneTurn.spent-at-only P m s v at p h a;
+      one-turn = λ P m s p measured v at h a e. OneTurn.one-turn P m s v at p h a e measured;
+      led-more = led-more;
+      led-old = led-old;
+      led-by-itself = led-itself;
       any-turns = λ P g n measured fit posed. any-turns P g measured fit posed n;
     }

@@ -20,7 +20,6 @@ use Rattle.machine.proofs.Totals.{total-append}
 use Rattle.machine.proofs.Appends.{Split, append-left, append-right, append-split, append-each, old-left}
 use Rattle.published.specs.Figure.{Problem, Figure, joined}
 use Rattle.published.specs.Turns.{activeOf, SettingsMatch, Supplied, Simulates}
-use Rattle.published.proofs.Scans.{joinedAll}
 
 -- the delivered entry of an index
 unfoldable pub entryFor : Problem → List ℕ → Entry
@@ -44,14 +43,6 @@ pub record Waiting (P : Problem) (m : Machine) (es : List Entry) (ks : List (Lis
   pub entries : m .log .entries ≡ es ++ map wanted ks
   pub agrees : Agrees P es s
   pub result : m .mean ≡ s .result
-
--- with these joined, it is s
-pub record Joining (P : Problem) (m : Machine) (s : Figure) : Type 0 where
-  pub given : List Entry
-  pub awaited : List (List ℕ)
-  pub figure : Figure
-  pub waits : Waiting P m given awaited figure
-  pub joins : joinedAll P awaited figure ≡ s
 
 -- where none is wanted, the machine stands there
 pub waiting-none : (P : Problem) (m : Machine) (es : List Entry) (s : Figure) → Waiting P m es [] s → Simulates P m s

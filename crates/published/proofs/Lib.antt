@@ -12,6 +12,9 @@ pub mod OneTurn
 pub mod Sampling
 pub mod Problems
 pub mod Sums
+pub mod Led
+pub mod HeldSets
+pub mod Course
+pub mod Standing
+pub mod ByRule
 pub mod Facts
-pub mod Moments
-pub mod Underway

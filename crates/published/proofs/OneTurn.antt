@@ -1,10 +1,9 @@
--- Refining an active place is the move of its index and the scan, a promotion that is promoted besides the selection, and with the deliveries
--- of all that it admitted it is one turn.
--- The idea: the promotion selects and makes old what Fig. 1 selects and moves, and appends as wanted what the scan joins; the deliveries join
--- these in order.
+-- Refining an active place is the move of its index and the scan, and with the deliveries of all that it admitted it is the loop's body with
+-- that index.
+-- The idea: the promotion makes old what Fig. 1 moves, and appends as wanted what the scan joins; the deliveries join these in order.
 -- Assumes nothing.
 use mathlib.Core.Path.{_≡_, refl, sym, ap, _∙_, subst}
-use mathlib.Core.Bool.{true, cond}
+use mathlib.Core.Bool.{cond}
 use mathlib.Core.Logic.{_≢_}
 use mathlib.Core.List.{List, [], _∷_, _++_, map, List·Memᴰ, List·Memᴰ·not-nil, List·Memᴰ·eq-of-singleton, Memᴰ·cast}
 use Prim.Native.Nat.{ℕ, suc, _+_, _<_, _≤_}
@@ -20,29 +19,25 @@ use Rattle.area.specs.Log.{Log, Machine}
 use Rattle.encoding.specs.Entries.{entryAt, Has, EnteredOld, SoundMachine}
 use Rattle.machine.specs.Log.{wanted}
 use Rattle.machine.specs.Counts.{countOf}
-use Rattle.machine.specs.Choose.{selected}
-use Rattle.machine.specs.Promote.{Promotion, spent, promoted, madeOld, makeOld, admittedAxes, refine, promoteAt, promote}
+use Rattle.machine.specs.Promote.{spent, promoted, madeOld, makeOld, admittedAxes, refine, promoteAt}
 use Rattle.machine.specs.Admitted.{totalOf}
 use Rattle.machine.specs.Steps.{promoteStep}
-use Rattle.machine.proofs.Wanted.{first-none}
 use Rattle.machine.proofs.Sets.{set-each, reserved-set}
 use Rattle.machine.proofs.Appends.{old-left, old-before}
 use Rattle.machine.proofs.Admitted.{makeOld-length, not-old}
 use Rattle.machine.proofs.Refined.{refine-different}
 use Rattle.machine.proofs.Totals.{total-append, total-length}
 use Rattle.machine.proofs.Limits.{limits-spent, limits-only, limits-promoted}
-use Rattle.machine.proofs.Answers.{above-refined, promoted-above}
+use Rattle.machine.proofs.Answers.{refinedLog, promoted-log}
 use Rattle.machine.proofs.CarriedError.{carried-before, carried-makeOld}
 use Rattle.machine.proofs.Facts.{step-facts}
-use Rattle.published.specs.Figure.{Problem, Figure, select, without, moved, turnAt, turn}
+use Rattle.published.specs.Figure.{Problem, Figure, without, moved, turnAt}
 use Rattle.published.specs.Turns.{supplies, turnOn, activeOf, notOldOf, SettingsMatch, ReadingValued, Simulates, ExceedsLimits, PromotionFollows}
-use Rattle.published.proofs.Selects.{select-same}
 use Rattle.published.proofs.MakesOld.{active-makeOld, total-makeOld, pending-makeOld, makeOld-there, makeOld-here, makeOld-supplied}
 use Rattle.published.proofs.Scans.{joinedAll, scan-admits}
-use Rattle.published.proofs.Joins.{Agrees, Waiting, Joining}
+use Rattle.published.proofs.Joins.{Agrees, Waiting}
 use Rattle.published.proofs.Awaited.{joins-old, joins-active, joins-carried, EachDelivered, active-before, pending-before, reserved-both, not-old-both, not-old-sure, not-old-once}
 use Rattle.published.proofs.Supplies.{all-wanted, supplies-join}
-use Rattle.published.proofs.Outcomes.{promoted-log}
 
 -- ---- how many are wanted
 
@@ -61,10 +56,6 @@ count-after (e ∷ es) ks f =
 wanted-map : (k axes : List ℕ) → map (λ a. wanted (forward k a)) axes ≡ map wanted (map (forward k) axes)
 wanted-map k [] = refl
 wanted-map k (a ∷ axes) = ap (λ es. wanted (forward k a) ∷ es) (wanted-map k axes)
-
--- Fig. 1 selects the index of the selected place
-pub selects-same : (P : Problem) (m : Machine) (s : Figure) → Simulates P m s → select P s ≡ entryAt (m .log .entries) (selected (m .log .entries)) .levels
-selects-same P m s at = select-same P (m .log .entries) s (at .supplied .indicators) (at .active)
 
 module _ (P : Problem) (m : Machine) (s : Figure) (v : SoundMachine m) (at : Simulates P m s) where
   abbrev es : List Entry
@@ -207,87 +198,33 @@ module _ (P : Problem) (m : Machine) (s : Figure) (v : SoundMachine m) (at : Sim
     promoted-at =
         limits-promoted (m .log) p (length (next .old) + length (next .active)) (totalOf blockSize (next .old) + totalOf blockSize (next .active)) held-next reserved-next
 
-  -- ---- the selected place, where the pending error is above the threshold
+    -- ---- promoted, and the deliveries
 
-  abbrev chosen : ℕ
-  chosen = selected es
+    module _ (e : promoteAt (m .log) p .outcome ≡ promoted) where
+      log-is : promoteAt (m .log) p .log ≡ refinedLog (m .log) p
+      log-is = promoted-log (m .log .settings .budget) (m .log) p e
 
-  turn-is : turn P s ≡ turnAt P (entryAt es chosen .levels) s
-  unfolding turn
-  turn-is = ap (λ i. turnAt P i s) (selects-same P m s at)
+      step-entries : promoteStep m p .log .entries ≡ makeOld es p ++ map wanted ks
+      unfolding promoteStep
+      step-entries = ap (λ (l : Log). l .entries) log-is ∙ after-is
 
-  module _ (above : m .log .settings .threshold < pendingOf (m .log .entries)) where
-    abbrev here : chosen < length es
-    here = step-facts .selects (m .log) above .0
+      waits : Waiting P (promoteStep m p) (makeOld es p) ks (moved P k s)
+      unfolding promoteStep moved
+      waits =
+          record {
+            posed = subst (λ (l : Log). SettingsMatch (l .settings) P) (sym log-is) (at .posed);
+            entries = step-entries;
+            agrees = agrees;
+            result = at .result;
+          }
 
-    abbrev active-here : entryAt es chosen .state ≡ 1
-    active-here = step-facts .selects (m .log) above .1
+      sound : SoundMachine (promoteStep m p)
+      sound = step-facts .promote m p v (record { place = inside; active = is-active })
 
-    refined-here : promote (m .log) .outcome ≡ promoteAt (m .log) chosen .outcome
-    refined-here = ap (λ (x : Promotion). x .outcome) (above-refined (m .log) above)
-
-    pub next-spent : ExceedsLimits (m .log .settings .budget) (turn P s) → promote (m .log) .outcome ≡ spent
-    next-spent x = refined-here ∙ spent-at chosen here active-here (subst (ExceedsLimits (m .log .settings .budget)) turn-is x)
-
-    pub next-spent-only : promote (m .log) .outcome ≡ spent → ExceedsLimits (m .log .settings .budget) (turn P s)
-    next-spent-only e =
-        subst (ExceedsLimits (m .log .settings .budget)) (sym turn-is) (spent-at-only chosen here active-here (sym refined-here ∙ e))
-
-    pub next-once : NoDup (turn P s .old ++ turn P s .active)
-    next-once = subst (λ (r : Figure). NoDup (r .old ++ r .active)) (sym turn-is) (once-after chosen here active-here)
-
-    pub next-promoted : (ExceedsLimits (m .log .settings .budget) (turn P s) → ⊥) → promote (m .log) .outcome ≡ promoted
-    next-promoted n =
-        refined-here ∙ promoted-at chosen here active-here (λ x. n (subst (ExceedsLimits (m .log .settings .budget)) (sym turn-is) x))
-
-  -- ---- a promotion that is promoted, and the deliveries
-
-  module _ (e : promote (m .log) .outcome ≡ promoted) where
-    is-inside : chosen < length es
-    is-inside = step-facts .selects (m .log) (promoted-above (m .log) e) .0
-
-    active-there : entryAt es chosen .state ≡ 1
-    active-there = step-facts .selects (m .log) (promoted-above (m .log) e) .1
-
-    abbrev i : List ℕ
-    i = entryAt es chosen .levels
-
-    abbrev admitted : List (List ℕ)
-    admitted = map (forward i) (admittedAxes (P .axes) (makeOld es chosen) i)
-
-    step-entries : promoteStep m .log .entries ≡ makeOld es chosen ++ map wanted admitted
-    unfolding promoteStep
-    step-entries = ap (λ (l : Log). l .entries) (promoted-log (m .log) e) ∙ after-is chosen is-inside active-there
-
-    -- on 𝒪 and 𝒜 the promotion is the selection, the move and the scan
-    pub promotion-follows : PromotionFollows P s (select P s) (m .log .entries) (promote (m .log) .log .entries)
-    promotion-follows =
-        subst (λ j. PromotionFollows P s j es (promote (m .log) .log .entries)) (sym (selects-same P m s at))
-        (subst (PromotionFollows P s i es) (sym (ap (λ (l : Log). l .entries) (promoted-log (m .log) e))) (refines chosen is-inside active-there))
-
-    waits : Waiting P (promoteStep m) (makeOld es chosen) admitted (moved P i s)
-    unfolding promoteStep moved
-    waits =
-        record {
-          posed = subst (λ (l : Log). SettingsMatch (l .settings) P) (sym (promoted-log (m .log) e)) (at .posed);
-          entries = step-entries;
-          agrees = agrees chosen is-inside active-there;
-          result = at .result;
-        }
-
-    sound : SoundMachine (promoteStep m)
-    sound = step-facts .promote m v (omega (arith, first-none es (at .supplied .delivered)))
-
-    joins-turn : turn P s ≡ joinedAll P admitted (moved P i s)
-    joins-turn = turn-is ∙ turn-joins chosen is-inside active-there
-
-    pub turn-joining : Joining P (promoteStep m) (turn P s)
-    turn-joining = record { given = makeOld es chosen; awaited = admitted; figure = moved P i s; waits = waits; joins = sym joins-turn }
-
-    pub one-turn : ReadingValued P → SoundMachine (turnOn P m) × Simulates P (turnOn P m) (turn P s)
-    unfolding turnOn
-    one-turn measured =
-        subst (λ n. SoundMachine (supplies P n (promoteStep m)) × Simulates P (supplies P n (promoteStep m)) (turn P s))
-        (sym (ap (countOf 0) step-entries ∙ count-after (makeOld es chosen) admitted (agrees chosen is-inside active-there .supplied .delivered)))
-        (subst (λ r. SoundMachine (supplies P (length admitted) (promoteStep m)) × Simulates P (supplies P (length admitted) (promoteStep m)) r) (sym joins-turn)
-        (supplies-join P measured admitted (promoteStep m) (makeOld es chosen) (moved P i s) sound waits))
+      pub one-turn : ReadingValued P → SoundMachine (turnOn P m p) × Simulates P (turnOn P m p) (turnAt P (entryAt (m .log .entries) p .levels) s)
+      unfolding turnOn
+      one-turn measured =
+          subst (λ n. SoundMachine (supplies P n (promoteStep m p)) × Simulates P (supplies P n (promoteStep m p)) (turnAt P k s))
+          (sym (ap (countOf 0) step-entries ∙ count-after (makeOld es p) ks (agrees .supplied .delivered)))
+          (subst (λ r. SoundMachine (supplies P (length ks) (promoteStep m p)) × Simulates P (supplies P (length ks) (promoteStep m p)) r) (sym turn-joins)
+          (supplies-join P measured ks (promoteStep m p) (makeOld es p) (moved P k s) sound waits))

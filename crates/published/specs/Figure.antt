@@ -7,7 +7,7 @@
 --   carried: a variable of its own keeps the indicators of the indices of 𝒪 with a forward neighbour past a ceiling. No line of Fig. 1 reads it:
 --     the loop's test, the selection and r are those of the source, and it only decides how a run that the test ends is called, met or capped.
 -- Besides, the indicator of an index comes with its block and is not worked out from Δ, and a run may end early, *spent*: the budget bounds
--- the readings, and 512 the held.
+-- the readings, and 512 the held. And (request No. 4) the index of a turn may be given, in place of the selected one: `turnAt`, `led`.
 use mathlib.Core.Bool.{Bool, true, cond, _&&_}
 use mathlib.Core.List.{List, [], _∷_, _++_}
 use Prim.Native.Nat.{ℕ, zero, suc, _+_, _-_, _^_}
@@ -103,11 +103,11 @@ unfoldable pub scanned : Problem → List ℕ → (n k : ℕ) → Figure → Fig
 scanned P i zero k s = s
 scanned P i (suc n) k s = scanned P i n (k + 1) (cond (admissible P s (forward i k)) (joined P (forward i k) s) s)
 
--- One turn of the loop, once i is selected: the move, and then the scan.
+-- The loop's body with the index i given, whatever selected it: the move, and then the scan.
 unfoldable pub turnAt : Problem → List ℕ → Figure → Figure
 turnAt P i s = scanned P i (P .axes) 0 (moved P i s)
 
--- One turn of the loop. It has a meaning where the loop's test holds, and then 𝒜 is not empty.
+-- One turn of the loop: the body at the index that Fig. 1 selects. It has a meaning where the loop's test holds, and then 𝒜 is not empty.
 unfoldable pub turn : Problem → Figure → Figure
 turn P s = turnAt P (select P s) s
 
@@ -115,3 +115,19 @@ turn P s = turnAt P (select P s) s
 unfoldable pub turns : Problem → ℕ → Figure
 turns P zero = initial P
 turns P (suc n) = turn P (turns P n)
+
+-- ---- led by a list of indices
+
+-- The body at each index of a list in turn, in place of the selections, and whatever the loop's test says.
+unfoldable pub ledFrom : Problem → Figure → List (List ℕ) → Figure
+ledFrom P s [] = s
+ledFrom P s (i ∷ is) = ledFrom P (turnAt P i s) is
+
+-- The variables of Fig. 1 *led* by a list of indices, from the lines before the loop on.
+unfoldable pub led : Problem → List (List ℕ) → Figure
+led P is = ledFrom P (initial P) is
+
+-- What Fig. 1 itself selects in n turns. Led by this list it makes its own turns (`PublishedFacts.led-by-itself`).
+unfoldable pub selections : Problem → ℕ → List (List ℕ)
+selections P zero = []
+selections P (suc n) = selections P n ++ select P (turns P n) ∷ []

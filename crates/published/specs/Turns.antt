@@ -11,9 +11,11 @@ use Rattle.grid.specs.Block.{block, blockSize}
 use Rattle.grid.specs.Terms.{IsReading, NoDup}
 use Rattle.area.specs.declared.Settings.{Settings}
 use Rattle.area.specs.Entry.{Entry, reservedBy, pendingOf, carriedOf}
-use Rattle.area.specs.Log.{Machine}
+use Rattle.area.specs.Log.{Log, Machine}
 use Rattle.encoding.specs.Entries.{entryAt, EnteredOld}
 use Rattle.machine.specs.Log.{wantedIndex}
+use Rattle.machine.specs.Choose.{place, selected, choose}
+use Rattle.machine.specs.Promote.{promoted, promoteAt}
 use Rattle.machine.specs.Counts.{countOf}
 use Rattle.machine.specs.Admitted.{totalOf}
 use Rattle.machine.specs.Steps.{started, deliver, promoteStep}
@@ -28,15 +30,20 @@ unfoldable pub supplies : Problem → ℕ → Machine → Machine
 supplies P zero m = m
 supplies P (suc n) m = supplies P n (supply P m)
 
--- A promotion, and the deliveries of all that it admitted: nothing is wanted before it, so what is wanted after it is what it admitted. One
--- that is *met*, *capped* or *spent* changes nothing and admits nothing.
-unfoldable pub turnOn : Problem → Machine → Machine
-turnOn P m = supplies P (countOf 0 (promoteStep m .log .entries)) (promoteStep m)
+-- A promotion of the place p, and the deliveries of all that it admitted: nothing is wanted before it, so what is wanted after it is what it
+-- admitted. One that is *spent* changes nothing and admits nothing.
+unfoldable pub turnOn : Problem → Machine → (p : ℕ) → Machine
+turnOn P m p = supplies P (countOf 0 (promoteStep m p .log .entries)) (promoteStep m p)
 
--- Start and the root's delivery, and then n such turns. The settings are to match the problem (`SettingsMatch`).
+-- Start and the root's delivery, and then n such turns at the places that the rule selects. The settings are to match the problem
+-- (`SettingsMatch`).
 unfoldable pub turnsOn : Problem → Settings → ℕ → Machine
 turnsOn P g zero = supply P (started g)
-turnsOn P g (suc n) = turnOn P (turnsOn P g n)
+turnsOn P g (suc n) = turnOn P (turnsOn P g n) (selected (turnsOn P g n .log .entries))
+
+-- The next turn by the rule is made: choose answers a place, and its promotion is *promoted*.
+abbrev pub TurnMade : Log → Type 0
+TurnMade l = (choose l ≡ place (selected (l .entries))) × (promoteAt l (selected (l .entries)) .outcome ≡ promoted)
 
 -- Settings match a problem that has their number of axes, and their threshold as its tolerance.
 pub record SettingsMatch (g : Settings) (P : Problem) : Type 0 where
