@@ -1,4 +1,4 @@
--- The calls of a run are accepted: a supplied block fits, and with nothing wanted a promotion is not refused.
+-- The calls of a run are accepted: a supplied block fits, and with nothing wanted neither choose nor the promotion of an active place is refused.
 -- Assumes nothing.
 use mathlib.Core.Path.{_≡_, refl, ap, sym, _∙_}
 use mathlib.Core.Bool.{Bool, true, false, cond}
@@ -16,16 +16,18 @@ use Rattle.grid.proofs.Facts.{block-facts}
 use Rattle.area.specs.Entry.{Entry}
 use Rattle.area.proofs.Readings.{reading-facts}
 use Rattle.area.specs.Log.{Log, Machine}
-use Rattle.machine.specs.Log.{firstWanted, wantedIndex}
+use Rattle.machine.specs.Log.{firstWanted, wantedIndex, Active}
+use Rattle.machine.specs.Choose as choice
 use Rattle.machine.specs.Promote as rule
 use Rattle.machine.specs.Counts.{countOf}
 use Rattle.machine.specs.Steps as steps
-use Rattle.machine.specs.Causes.{Lengths, firstCause, short, inRange, deliverCauses, promoteCauses, resultCauses}
-use Rattle.calls.specs.Replies.{accepted, promotion}
-use Rattle.calls.proofs.Causes.{common-none, wanted-yes, wanted-no, deliver-fits, promote-free}
+use Rattle.machine.specs.Causes.{Lengths, firstCause, short, inRange, deliverCauses, chooseCauses, promoteCauses, resultCauses}
+use Rattle.machine.proofs.ActivePlaces.{place-facts}
+use Rattle.calls.specs.Replies.{accepted, chosen, promotion}
+use Rattle.calls.proofs.Causes.{common-none, wanted-yes, wanted-no, deliver-fits, choose-free, promote-active}
 use Rattle.published.specs.Figure.{Problem}
 use Rattle.published.specs.Turns.{supply, ReadingValued}
-use Rattle.calls.specs.Table.{Call, promote, answer, row, causesOf, effectOf, passesCheck, acceptedAnswer, refusal, answerOf, changed, stateAfter}
+use Rattle.calls.specs.Table.{Call, choose, promote, answer, row, causesOf, effectOf, passesCheck, acceptedAnswer, refusal, answerOf, changed, stateAfter}
 use Rattle.calls.proofs.Rows.{promote-effect}
 use Rattle.history.specs.LentCalls.{LentCall, lengthsLent}
 use Rattle.history.specs.Logged.{stateOf, refusalBy, answerBy}
@@ -92,13 +94,25 @@ module _ (z : Lengths) (l : Log) (enough : short z (l .settings) ≡ false) wher
   pub supply-answer : (P : Problem) → ReadingValued P → firstWanted (l .entries) < length (l .entries) → answerBy z l (supplyCall P l) ≡ answer accepted
   supply-answer P measured wanted = answer-clear (supplyCall P l) (supply-clear P measured wanted) ∙ unfold supplyCall acceptedAnswer row in refl
 
-  -- a promotion
-  pub promote-clear : length (l .entries) ≤ firstWanted (l .entries) → refusalBy z l promote ≡ 0
-  unfolding refusal causesOf row promoteCauses
-  promote-clear free = promote-free z true l none (wanted-no l free)
+  -- choose, and a promotion
+  module _ (free : length (l .entries) ≤ firstWanted (l .entries)) where
+    choose-none : firstCause (chooseCauses z true l) ≡ 0
+    choose-none = choose-free z true l none (wanted-no l free)
 
-  pub promote-answer : length (l .entries) ≤ firstWanted (l .entries) → answerBy z l promote ≡ answer (promotion (rule.promote l .outcome))
-  promote-answer free = answer-clear promote (promote-clear free) ∙ unfold acceptedAnswer row stateOf in refl
+    pub choose-clear : refusalBy z l choose ≡ 0
+    unfolding refusal causesOf row chooseCauses
+    choose-clear = choose-none
+
+    pub choose-answer : answerBy z l choose ≡ answer (chosen (choice.choose l))
+    choose-answer = answer-clear choose choose-clear ∙ unfold acceptedAnswer row stateOf in refl
+
+    module _ (p : ℕ) (a : Active (l .entries) p) where
+      pub promote-clear : refusalBy z l (promote p) ≡ 0
+      unfolding refusal causesOf row promoteCauses
+      promote-clear = promote-active z true l p choose-none (place-facts .back (l .entries) p a)
+
+      pub promote-answer : answerBy z l (promote p) ≡ answer (promotion (rule.promoteAt l p .outcome))
+      promote-answer = answer-clear (promote p) promote-clear ∙ unfold acceptedAnswer row stateOf in refl
 
 module _ (P : Problem) (x : LentCall) (m : Machine) (enough : short (lengthsLent (x .part)) (m .log .settings) ≡ false) where
   abbrev z : Lengths
@@ -116,6 +130,9 @@ module _ (P : Problem) (x : LentCall) (m : Machine) (enough : short (lengthsLent
   pub supply-step : ReadingValued P → firstWanted (l .entries) < length (l .entries) → x .call ≡ supplyCall P l → machineStep m x ≡ supply P m
   supply-step measured wanted is = step-clear (supplyCall P l) (supply-clear z l enough P measured wanted) is ∙ unfold supplyCall effectOf row changed supply in refl
 
-  -- a promotion
-  pub promote-step : length (l .entries) ≤ firstWanted (l .entries) → x .call ≡ promote → machineStep m x ≡ steps.promoteStep m
-  promote-step free is = step-clear promote (promote-clear z l enough free) is ∙ promote-effect m
+  -- choose leaves the state, and a promotion makes its step
+  pub choose-step : length (l .entries) ≤ firstWanted (l .entries) → x .call ≡ choose → machineStep m x ≡ m
+  choose-step free is = step-clear choose (choose-clear z l enough free) is ∙ unfold effectOf row changed in refl
+
+  pub promote-step : (p : ℕ) → length (l .entries) ≤ firstWanted (l .entries) → Active (l .entries) p → x .call ≡ promote p → machineStep m x ≡ steps.promoteStep m p
+  promote-step p free a is = step-clear (promote p) (promote-clear z l enough free p a) is ∙ promote-effect m p

@@ -8,26 +8,25 @@ use lib.ListN.{length}
 use Rattle.area.specs.declared.Settings.{Settings}
 use Rattle.area.specs.Settings.{leastStore}
 use Rattle.area.specs.Log.{Log, Machine}
-use Rattle.machine.specs.Log.{firstWanted}
+use Rattle.machine.specs.Log.{firstWanted, Active}
 use Rattle.machine.specs.Promote as rule
 use Rattle.machine.specs.Counts.{countOf}
 use Rattle.machine.specs.Steps as steps
 use Rattle.encoding.specs.Entries.{SoundMachine}
+use Rattle.machine.proofs.Answers.{promoted-settings}
+use Rattle.machine.proofs.Choices.{choose-facts}
 use Rattle.machine.proofs.Facts.{step-facts}
-use Rattle.calls.specs.Replies.{accepted, promotion}
+use Rattle.calls.specs.Replies.{chosen, promotion}
 use Rattle.published.specs.Figure.{Problem}
-use Rattle.published.specs.Turns.{supply, ReadingValued}
-use Rattle.calls.specs.Table.{Call, promote, Answer, answer}
-use Rattle.calls.proofs.Outcomes.{promoted-settings}
+use Rattle.published.specs.Turns.{supply, TurnMade, ReadingValued}
+use Rattle.calls.specs.Table.{Call, choose, promote, Answer, answer}
 use Rattle.history.specs.LentCalls.{Part, LentCall, lengthsLent}
 use Rattle.history.specs.Logged.{logStep, logAfter, answersBy}
-use Rattle.history.specs.Source.{supplyCall, suppliedLog, supplyCalls, turnCalls, lendAll}
+use Rattle.history.specs.Source.{supplyCall, suppliedLog, supplyCalls, nextPlace, turnCalls, lendAll, Taken, is-accepted, is-chosen, is-promoted}
 use Rattle.history.proofs.Moves.{step-log}
-use Rattle.history.proofs.Accepts.{some-wanted, supply-step, supply-answer, promote-step, promote-answer}
+use Rattle.history.proofs.LogSteps.{promote-accepted, log-facts}
+use Rattle.history.proofs.Accepts.{some-wanted, supply-step, supply-answer, choose-answer, promote-clear, promote-answer}
 use Rattle.history.proofs.Runs.{enough, supply-sound, supply-settings, supply-count}
-
-abbrev pub Taken : Answer → Type 0
-Taken y = (y ≡ answer accepted) ⊎ (y ≡ answer (promotion rule.promoted))
 
 abbrev pub AllTaken : List Answer → Type 0
 AllTaken [] = Unit {0}
@@ -57,7 +56,7 @@ module _ (x : Part) (P : Problem) (g : Settings) (long : 512 * 27 ≤ x .cells) 
   supplies-taken zero m v e c = tt
   supplies-taken (suc n) m v e c =
       let h = some-wanted (m .log .entries) n c in (
-        inl (supply-answer (lengthsLent x) (m .log) (enough x P g long room measured m e) P measured h),
+        is-accepted (supply-answer (lengthsLent x) (m .log) (enough x P g long room measured m e) P measured h),
         subst (λ (o : Log). AllTaken (answersBy o (lendAll x (supplyCalls P n (suppliedLog P (m .log)))))) (sym (stepped h))
             (subst (λ (o : Log). AllTaken (answersBy (supply P m .log) (lendAll x (supplyCalls P n o)))) supplied-is
             (supplies-taken n (supply P m) (supply-sound P measured m v h) (supply-settings P m ∙ e) (supply-count P measured m v h n c))),
@@ -72,15 +71,29 @@ module _ (x : Part) (P : Problem) (g : Settings) (long : 512 * 27 ≤ x .cells) 
           ∙ ap (λ (y : Machine). y .log) (supply-step P (lend (supplyCall P (m .log))) m (enough x P g long room measured m e) measured h refl)
 
   -- a turn
-  pub turn-taken : (m : Machine) → SoundMachine m → m .log .settings ≡ g → length (m .log .entries) ≤ firstWanted (m .log .entries) → rule.promote (m .log) .outcome ≡ rule.promoted
+  pub turn-taken : (m : Machine) → SoundMachine m → m .log .settings ≡ g → length (m .log .entries) ≤ firstWanted (m .log .entries) → TurnMade (m .log)
       → AllTaken (answersBy (m .log) (lendAll x (turnCalls P (m .log))))
   unfolding lendAll turnCalls answersBy steps.promoteStep
-  turn-taken m v e free is = (
-    inr (promote-answer (lengthsLent x) (m .log) (enough x P g long room measured m e) free ∙ ap (λ o. answer (promotion o)) is),
-    subst (λ (o : Log). AllTaken (answersBy o (lendAll x (supplyCalls P (countOf 0 (rule.promote (m .log) .log .entries)) (rule.promote (m .log) .log))))) (sym stepped)
-        (supplies-taken (countOf 0 (rule.promote (m .log) .log .entries)) (steps.promoteStep m) (step-facts .promote m v free) (promoted-settings (m .log) ∙ e) refl),
+  turn-taken m v e free made = (
+    is-chosen p (choose-answer (lengthsLent x) (m .log) (enough x P g long room measured m e) free ∙ ap (λ o. answer (chosen o)) (made .0)),
+    subst (λ (o : Log). AllTaken (answersBy o (lendAll x (promote p ∷ supplyCalls P (countOf 0 (after .entries)) after)))) (sym chose) (
+      is-promoted (promote-answer (lengthsLent x) (m .log) (enough x P g long room measured m e) free p a ∙ ap (λ o. answer (promotion o)) (made .1)),
+      subst (λ (o : Log). AllTaken (answersBy o (lendAll x (supplyCalls P (countOf 0 (after .entries)) after)))) (sym stepped)
+          (supplies-taken (countOf 0 (after .entries)) (steps.promoteStep m p) (step-facts .promote m p v a) (promoted-settings (m .log .settings .budget) (m .log) p ∙ e) refl),
+    ),
   )
     where
-      stepped : logStep (m .log) (lend promote) ≡ rule.promote (m .log) .log
-      stepped =
-          sym (step-log m (lend promote)) ∙ ap (λ (y : Machine). y .log) (promote-step P (lend promote) m (enough x P g long room measured m e) free refl)
+      p : ℕ
+      p = nextPlace (m .log)
+
+      after : Log
+      after = rule.promoteAt (m .log) (nextPlace (m .log)) .log
+
+      a : Active (m .log .entries) (nextPlace (m .log))
+      a = choose-facts .place-active (m .log) p (made .0)
+
+      chose : logStep (m .log) (lend choose) ≡ m .log
+      chose = log-facts .after-choose (m .log) (lend choose) refl
+
+      stepped : logStep (m .log) (lend (promote (nextPlace (m .log)))) ≡ rule.promoteAt (m .log) (nextPlace (m .log)) .log
+      stepped = promote-accepted (m .log) (lend (promote p)) p refl (promote-clear (lengthsLent x) (m .log) (enough x P g long room measured m e) free p a)

@@ -15,7 +15,6 @@ use Rattle.area.specs.Encoding.{Area, areaOf, machineOf}
 use Rattle.area.proofs.Facts.{run-facts}
 use Rattle.soundness.specs.Clauses.{checked}
 use Rattle.encoding.proofs.Cells.{cells-well-formed, held-well-formed}
-use Rattle.calls.specs.Replies.{refused, verdict}
 use Rattle.calls.specs.Table as table
 use Rattle.calls.specs.Table.{Call, row, effectOf}
 use Rattle.calls.specs.Calls.{CallResult, callOn}
@@ -26,7 +25,7 @@ use Rattle.wihupya.specs.Exports.{Exported}
 use Rattle.wihupya.proofs.Facts.{word-facts}
 use Rattle.wihupya.proofs.Refusals.{refused-number}
 use Rattle.history.specs.Storage.{areaLent, returned, callIn, storageStep}
-use Rattle.history.specs.OnExports.{ExportStorage, ExportCall, start, point, points, deliver, promote, result, doubles, crossTotal, check, callOf, LentExport, ExportAnswer, verdictNumber, exportAnswer, exported, wordsAfter, exportStep, exportsAfter, exportAnswers, ExportLeft, OnlyReads, Contract, MeetsContract, answerLeft, putBack, AllMeet, leftAfter, ContractFacts}
+use Rattle.history.specs.OnExports.{ExportStorage, ExportCall, start, point, points, deliver, choose, promote, result, doubles, crossTotal, check, callOf, LentExport, ExportAnswer, verdictNumber, exportAnswer, exported, wordsAfter, exportStep, exportsAfter, exportAnswers, ExportLeft, OnlyReads, Contract, MeetsContract, answerLeft, putBack, AllMeet, leftAfter, ContractFacts}
 use Rattle.history.proofs.WellFormed.{Leaves, call-leaves}
 
 -- ---- one call
@@ -104,8 +103,15 @@ module _ (job cells : List ℕ) (store : List ℤ) (y : ExportLeft) where
         cells = cells-are d (y .store) (m .0);
         store = store-is d (y .store) (m .0);
       }
-  agrees (promote outcome) m =
-      let d = callOn a table.promote in
+  agrees (choose given) m =
+      record {
+        answer = λ i. record { number = m .0 i; words = m .1 i; buffer = m .3 i };
+        job = m .2 .0;
+        cells = read-cells table.choose refl (m .2);
+        store = read-store table.choose refl (m .2);
+      }
+  agrees (promote p outcome) m =
+      let d = callOn a (table.promote p) in
       record {
         answer = λ i. record { number = number-is d store (m .0) i; words = m .1 i; buffer = m .4 i };
         job = words-are d store (m .0);
@@ -225,10 +231,13 @@ module _ (job cells : List ℕ) (store : List ℤ) (round : wordsOf (jobOf job) 
   met (deliver rs n) =
       let c = table.deliver rs n in
       (written c [] (callOn lent c .area .store), (written-is c (callOn lent c .area .store) refl, refused-job c, refl, refl))
-  met (promote outcome) =
-      let c = table.promote in (
+  met (choose given) =
+      let d = callOn lent table.choose in
+      (kept (exports.numberOf (d .answer .reply)) (exports.choiceAfter (d .answer .reply) given) [], (refl, refl, (refl, refl, refl), refl))
+  met (promote p outcome) =
+      let c = table.promote p in (
         written c (exports.outcomeAfter (callOn lent c .answer .reply) outcome) store,
-        (written-is c store (call-facts .promote-store lent (held-well-formed (jobOf job) cells store)), refl, refused-job c, refl, refl),
+        (written-is c store (call-facts .promote-store lent p (held-well-formed (jobOf job) cells store)), refl, refused-job c, refl, refl),
       )
   met (result given) =
       let d = callOn lent table.result in

@@ -12,6 +12,7 @@ function-contracts =
       of-point = λ κs a r s m. (m .0, m .1, (refl, refl, refl), refl);
       of-points = λ κs a r s m. (m .0, m .1, m .2, (refl, refl, refl));
       of-deliver = λ κs a r s m. (m .0, m .1, refl, refl);
+      of-choose = λ κs a r s m. (m .0, m .1, (refl, refl, refl), refl);
       of-promote = λ κs a r s m. (m .0, m .1 .0, m .1 .1, refl, refl);
       of-result = λ κs a r s m. (m .0, m .1, (refl, refl, refl), refl);
       of-doubles = λ κs a r s m. (m .0, m .1, (refl, refl, refl), refl);

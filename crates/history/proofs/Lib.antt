@@ -11,6 +11,7 @@ pub mod NeverUnsound
 pub mod Doubles
 pub mod Demand
 pub mod Accepts
+pub mod Promotions
 pub mod Runs
 pub mod Excluded
 pub mod DoublesCases

@@ -14,10 +14,10 @@ use Rattle.machine.specs.Promote as rule
 use Rattle.machine.specs.Steps as steps
 use Rattle.encoding.specs.Entries.{SoundMachine}
 use Rattle.machine.specs.Means.{meanOf, crossOf}
-use Rattle.machine.specs.Causes.{Lengths, deliverCauses}
+use Rattle.machine.specs.Causes.{Lengths, deliverCauses, promoteCauses}
 use Rattle.machine.proofs.Means.{mean-facts}
-use Rattle.calls.specs.Table.{Call, start, point, points, deliver, promote, result, doubles, crossTotal, check, Effect, unchanged, becomes, row, causesOf, effectOf, refusal, changed, stateAfter}
-use Rattle.calls.proofs.Accepted.{deliverable}
+use Rattle.calls.specs.Table.{Call, start, point, points, deliver, choose, promote, result, doubles, crossTotal, check, Effect, unchanged, becomes, row, causesOf, effectOf, refusal, changed, stateAfter}
+use Rattle.calls.proofs.Accepted.{deliverable, promotable}
 use Rattle.calls.proofs.Rows.{promote-effect}
 use Rattle.calls.proofs.Next.{Allowed, allowed}
 use Rattle.history.specs.LentCalls.{LentCall, lengthsLent}
@@ -38,10 +38,11 @@ moved-log m n e (start g) = refl
 moved-log m n e (point k buffer) = e
 moved-log m n e (points k buffer) = e
 moved-log m n e (deliver rs i) = unfold steps.deliver in ap (λ (l : Log). steps.deliverLog l rs i) e
-moved-log m n e promote =
-    ap (λ (y : Machine). y .log) (promote-effect m)
-    ∙ unfold steps.promoteStep in ap (λ (l : Log). rule.promote l .log) e
-    ∙ ap (λ (y : Machine). y .log) (sym (promote-effect n))
+moved-log m n e choose = e
+moved-log m n e (promote p) =
+    ap (λ (y : Machine). y .log) (promote-effect m p)
+    ∙ unfold steps.promoteStep in ap (λ (l : Log). rule.promoteAt l p .log) e
+    ∙ ap (λ (y : Machine). y .log) (sym (promote-effect n p))
 moved-log m n e result = e
 moved-log m n e doubles = e
 moved-log m n e crossTotal = e
@@ -82,7 +83,7 @@ module _ (m : Machine) (f : MachineInvariant m) where
 
     -- and its mean is worked from its readings
     mean-kept : (c : Call) → refusal z true (m .log) c ≡ 0 → moved m c .mean ≡ meanOf (moved m c .log .entries)
-    unfolding refusal causesOf effectOf row changed deliverCauses
+    unfolding refusal causesOf effectOf row changed deliverCauses promoteCauses
     mean-kept (start g) e = unfold steps.started in sym (mean-facts .start g)
     mean-kept (point n buffer) e = f .mean
     mean-kept (points n buffer) e = f .mean
@@ -90,7 +91,10 @@ module _ (m : Machine) (f : MachineInvariant m) where
         unfold steps.deliver in
         ap (λ y. y +ℤ scaledDifference (wantedIndex (m .log .entries)) (readingIn (steps.deliver m rs i .log .entries))) (f .mean)
         ∙ sym (mean-facts .deliver m rs i (f .sound) (deliverable z true (m .log) rs e .wanted))
-    mean-kept promote e = subst (λ (n : Machine). n .mean ≡ meanOf (n .log .entries)) (sym (promote-effect m)) (unfold steps.promoteStep in f .mean ∙ sym (mean-facts .promote m (f .sound)))
+    mean-kept choose e = f .mean
+    mean-kept (promote p) e =
+        subst (λ (n : Machine). n .mean ≡ meanOf (n .log .entries)) (sym (promote-effect m p))
+        (unfold steps.promoteStep in f .mean ∙ sym (mean-facts .promote m p (f .sound) (promotable z true (m .log) p e .active)))
     mean-kept result e = f .mean
     mean-kept doubles e = f .mean
     mean-kept crossTotal e = f .mean

@@ -12,7 +12,7 @@ use lib.Dec.{eqb}
 use Rattle.area.specs.Log.{Log}
 use Rattle.machine.specs.Causes.{Lengths, Cause, firstCause, startCauses}
 use Rattle.calls.specs.Replies.{refused}
-use Rattle.calls.specs.Table.{Call, start, point, points, deliver, promote, result, doubles, crossTotal, check, Answer, row, causesOf, passesCheck, acceptedAnswer, refusedAnswer, refusal, answerOf}
+use Rattle.calls.specs.Table.{Call, start, point, points, deliver, choose, promote, result, doubles, crossTotal, check, Answer, row, causesOf, passesCheck, acceptedAnswer, refusedAnswer, refusal, answerOf}
 use Rattle.calls.proofs.Numbers.{accepted-reply}
 use Rattle.calls.proofs.CauseCases.{refused-reply}
 use Rattle.history.specs.LentCalls.{LentCall, lengthsLent}
@@ -41,7 +41,8 @@ not-four z l (start g) = spared (startCauses z g) refl
 not-four z l (point n buffer) = spared (causesOf z true l (row (point n buffer))) refl
 not-four z l (points n buffer) = spared (causesOf z true l (row (points n buffer))) refl
 not-four z l (deliver rs i) = spared (causesOf z true l (row (deliver rs i))) refl
-not-four z l promote = spared (causesOf z true l (row promote)) refl
+not-four z l choose = spared (causesOf z true l (row choose)) refl
+not-four z l (promote p) = spared (causesOf z true l (row (promote p))) refl
 not-four z l result = spared (causesOf z true l (row result)) refl
 not-four z l doubles = spared (causesOf z true l (row doubles)) refl
 not-four z l crossTotal = spared (causesOf z true l (row crossTotal)) refl

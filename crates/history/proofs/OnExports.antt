@@ -24,7 +24,7 @@ use Rattle.machine.specs.Causes.{firstCause, startCauses}
 use Rattle.machine.specs.Counts.{countsOf}
 use Rattle.machine.specs.Means.{crossOf}
 use Rattle.counting.specs.Doubles.{doublesOf}
-use Rattle.calls.specs.Replies.{Reply, refused, accepted, wrote, promotion, counts, doubled, total, verdict}
+use Rattle.calls.specs.Replies.{Reply, refused, accepted, wrote, chosen, promotion, counts, doubled, total, verdict}
 use Rattle.calls.specs.Table as table
 use Rattle.calls.specs.Table.{Call, Answer, answer, row, effectOf, acceptedAnswer}
 use Rattle.calls.specs.Calls.{CallResult, refusalOn, callOn}
@@ -38,7 +38,7 @@ use Rattle.history.specs.LentCalls.{Part, lengthsLent}
 use Rattle.history.specs.Logged.{stateOf, logStep, logAfter, answerBy}
 use Rattle.history.specs.Storage.{Storage, areaLent, Lent, AllLent, returned, callIn, storageStep}
 use Rattle.history.specs.Found.{Found}
-use Rattle.history.specs.OnExports.{ExportStorage, readStorage, ExportCall, start, point, points, deliver, promote, result, doubles, crossTotal, check, callOf, Typed, LentExport, lentCall, AllTyped, AllLentExports, ExportAnswer, verdictNumber, exportAnswer, exported, wordsAfter, exportStep, exportsAfter, exportAnswers, exportAnswersBy, wholePart, signedAt, reported, ExportsFound, ExportsDemand, ThirdDemandOnExports}
+use Rattle.history.specs.OnExports.{ExportStorage, readStorage, ExportCall, start, point, points, deliver, choose, promote, result, doubles, crossTotal, check, callOf, Typed, LentExport, lentCall, AllTyped, AllLentExports, ExportAnswer, verdictNumber, exportAnswer, exported, wordsAfter, exportStep, exportsAfter, exportAnswers, exportAnswersBy, wholePart, signedAt, reported, ExportsFound, ExportsDemand, ThirdDemandOnExports}
 use Rattle.history.proofs.Holding.{Holds, Kept}
 use Rattle.history.proofs.Moves.{machineStep, step-log, MachineInvariant, combined, from-log}
 use Rattle.history.proofs.Steps.{call-answer, call-keeps}
@@ -47,7 +47,7 @@ use Rattle.history.proofs.NeverUnsound.{one}
 use Rattle.history.proofs.Steps.{lengths, first-holds}
 use Rattle.history.proofs.Demand.{accepted-start, found}
 use Rattle.history.proofs.Published.{means-follow}
-use Rattle.history.proofs.Moments.{steps-follow}
+use Rattle.history.proofs.Moments.{steps-follow, rule-follows}
 use Rattle.history.proofs.Spent.{spent-exactly}
 use Rattle.history.proofs.Contracts.{answers-met, storage-met}
 use Rattle.history.proofs.SmallIndicators.{small-at}
@@ -76,7 +76,8 @@ module _ (w : ExportStorage) (x : LentExport) where
       by (point n buffer) is = own ∙ ap wordsOf (same-job (table.point n buffer) (ap callOf is) refl)
       by (points n given buffer) is = own ∙ ap wordsOf (same-job (table.points n buffer) (ap callOf is) refl)
       by (deliver rs i) is = refl
-      by (promote outcome) is = refl
+      by (choose given) is = own ∙ ap wordsOf (same-job table.choose (ap callOf is) refl)
+      by (promote p outcome) is = refl
       by (result given) is = own ∙ ap wordsOf (same-job table.result (ap callOf is) refl)
       by (doubles given) is = own ∙ ap wordsOf (same-job table.doubles (ap callOf is) refl)
       by (crossTotal given) is = own ∙ ap wordsOf (same-job table.crossTotal (ap callOf is) refl)
@@ -239,6 +240,7 @@ unfolding verdictNumber
 not-verdict (refused n) e = omega (arith, e)
 not-verdict accepted e = omega (arith, e)
 not-verdict (wrote n size) e = omega (arith, e)
+not-verdict (chosen c) e = omega (arith, e)
 not-verdict (promotion o) e = omega (arith, e)
 not-verdict (counts c) e = omega (arith, e)
 not-verdict (doubled r) e = omega (arith, e)
@@ -252,7 +254,8 @@ not-four (start axes threshold budget) y f e = f (four-reply (y .reply) e)
 not-four (point n buffer) y f e = f (four-reply (y .reply) e)
 not-four (points n given buffer) y f e = f (four-reply (y .reply) e)
 not-four (deliver rs i) y f e = f (four-reply (y .reply) e)
-not-four (promote outcome) y f e = f (four-reply (y .reply) e)
+not-four (choose given) y f e = f (four-reply (y .reply) e)
+not-four (promote p outcome) y f e = f (four-reply (y .reply) e)
 not-four (result given) y f e = f (four-reply (y .reply) e)
 not-four (doubles given) y f e = f (four-reply (y .reply) e)
 not-four (crossTotal given) y f e = f (four-reply (y .reply) e)
@@ -371,6 +374,7 @@ module _ (w : ExportStorage) (first : LentExport) (later : List LentExport) (axe
         found = after;
         means = means-follow (readStorage w) (lentCall first) (map lentCall later) g all first-call taken;
         steps = steps-follow (readStorage w) (lentCall first) (map lentCall later) g all first-call taken;
+        by-rule = rule-follows (readStorage w) (lentCall first) (map lentCall later) g all first-call taken;
         admissions = spent-exactly (readStorage w) (lentCall first) (map lentCall later) g all first-call taken;
       }
 

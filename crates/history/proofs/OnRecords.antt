@@ -22,7 +22,7 @@ use Rattle.history.specs.Found.{Found, LinksAgree, Demand}
 use Rattle.history.specs.OnRecords.{RecordStorage, inCells, callInCells, recordsAfter, RecordsFound, ThirdDemandOnRecords, ThirdDemandOnTypedRecords}
 use Rattle.history.proofs.Demand.{third-demand}
 use Rattle.history.proofs.Published.{means-follow}
-use Rattle.history.proofs.Moments.{steps-follow}
+use Rattle.history.proofs.Moments.{steps-follow, rule-follows}
 use Rattle.history.proofs.Spent.{spent-exactly}
 use Rattle.history.proofs.RecordCells.{cells-run, inStorage, lent-cells, lent-area, all-lent, together}
 
@@ -69,6 +69,7 @@ third-demand-on-records w first later g f lent is taken =
           (subst (λ (v : Storage). Found v (logAfter (startLog g) (map callInCells later))) (both .after) (demand .found));
       means = means-follow (inStorage w) (callInCells first) (map callInCells later) g all is begun;
       steps = steps-follow (inStorage w) (callInCells first) (map callInCells later) g all is begun;
+      by-rule = rule-follows (inStorage w) (callInCells first) (map callInCells later) g all is begun;
       admissions = spent-exactly (inStorage w) (callInCells first) (map callInCells later) g all is begun;
     }
 

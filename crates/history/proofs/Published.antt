@@ -2,7 +2,6 @@
 -- The idea: the calls of a run make the machine's turns, which are those of Fig. 1; and the third demand says what storage holds after them.
 -- Assumes nothing.
 use mathlib.Core.Path.{_≡_, refl, ap, sym, _∙_, subst}
-use mathlib.Core.Logic.{inl}
 use mathlib.Core.Bool.{true}
 use mathlib.Core.List.{List, [], _∷_, _++_, map-append, List·Memᴰ}
 use Prim.Native.Nat.{ℕ, zero, suc, _*_, _<_, _≤_}
@@ -12,26 +11,25 @@ use Rattle.area.specs.declared.Settings.{Settings}
 use Rattle.area.specs.Settings.{SettingsFit, leastStore}
 use Rattle.area.specs.Log.{Log, Machine}
 use Rattle.machine.specs.Log.{wanted, firstWanted}
-use Rattle.machine.specs.Promote as rule
 use Rattle.machine.specs.Steps as steps
 use Rattle.machine.specs.Causes.{firstCause, startCauses}
 use Rattle.machine.proofs.Wanted.{first-none}
 use Rattle.machine.proofs.Facts.{step-facts}
 use Rattle.machine.proofs.Means.{mean-facts}
 use Rattle.calls.specs.Replies.{accepted}
-use Rattle.calls.specs.Table.{Call, start, promote, Answer, answer, row, causesOf, acceptedAnswer, refusal, answerOf}
+use Rattle.calls.specs.Table.{Call, start, Answer, answer, row, causesOf, acceptedAnswer, refusal, answerOf}
 use Rattle.calls.specs.Calls.{CallResult, callOn}
 use Rattle.calls.proofs.Tests as tests
 use Rattle.calls.proofs.Rows.{start-accepts}
 use Rattle.published.specs.Figure.{Problem, loopCondition, turns}
-use Rattle.published.specs.Turns.{turnsOn, SettingsMatch, ReadingValued}
-use Rattle.published.proofs.Outcomes.{promoted-goes-on}
+use Rattle.published.specs.Turns.{turnsOn, TurnMade, SettingsMatch, ReadingValued}
+use Rattle.published.proofs.Facts.{published-facts}
 use Rattle.published.proofs.Sums.{sum-facts}
 use Rattle.history.specs.LentCalls.{Part, LentCall, lengthsLent}
 use Rattle.history.specs.Logged.{logStep, logAfter, answerBy, answersBy}
 use Rattle.history.specs.Storage.{Storage, areaLent, Lent, AllLent, storageAfter, answersOf}
 use Rattle.history.specs.Found.{Found, Demand}
-use Rattle.history.specs.Source.{MeanFollows, MeansFollow, supplyCall, turnCalls, lendAll, begun, logOf, callsOf, Follows, RunFollows, RunsFollow}
+use Rattle.history.specs.Source.{MeanFollows, MeansFollow, supplyCall, nextPlace, turnCalls, lendAll, begun, logOf, callsOf, is-accepted, Follows, RunFollows, RunsFollow}
 use Rattle.history.proofs.Moves.{MachineInvariant, step-log}
 use Rattle.history.proofs.Steps.{lengths}
 use Rattle.history.proofs.Lists.{machineAfter, after-log, after-fine}
@@ -93,7 +91,7 @@ module _ (x : Part) (P : Problem) (g : Settings) where
     m₀ = steps.started g
 
     abbrev Each : ℕ → Type 0
-    Each n = (i : ℕ) → i < n → rule.promote (logOf x P g i) .outcome ≡ rule.promoted
+    Each n = (i : ℕ) → i < n → TurnMade (logOf x P g i)
 
     runs : (n : ℕ) → Each n → AfterTurns x P g long room measured fit posed n
     runs n each = after-turns x P g long room measured fit posed n each
@@ -111,8 +109,8 @@ module _ (x : Part) (P : Problem) (g : Settings) where
     begun-taken : AllTaken (answersBy l₀ (lendAll x (begun P g)))
     unfolding lendAll begun answersBy
     begun-taken = (
-      inl first-taken,
-      (inl (ap (λ (o : Log). answerBy (lengthsLent x) o (supplyCall P l₀)) started-log ∙ supply-answer (lengthsLent x) l₀ (tests.enough (lengthsLent x) g (omega (arith, long)) room) P measured (unfold firstWanted wanted in omega arith)), tt),
+      is-accepted first-taken,
+      (is-accepted (ap (λ (o : Log). answerBy (lengthsLent x) o (supplyCall P l₀)) started-log ∙ supply-answer (lengthsLent x) l₀ (tests.enough (lengthsLent x) g (omega (arith, long)) room) P measured (unfold firstWanted wanted in omega arith)), tt),
     )
 
     free : (n : ℕ) (r : AfterTurns x P g long room measured fit posed n) → length (turnsOn P g n .log .entries) ≤ firstWanted (turnsOn P g n .log .entries)
@@ -132,14 +130,14 @@ module _ (x : Part) (P : Problem) (g : Settings) where
         (both-taken l₀ (lendAll x (callsOf x P g n)) (lendAll x (turnCalls P (logOf x P g n))) (all-taken n before)
         (subst (λ (o : Log). AllTaken (answersBy o (lendAll x (turnCalls P (logOf x P g n))))) (sym (log-after n r))
         (subst (λ (o : Log). AllTaken (answersBy (turnsOn P g n .log) (lendAll x (turnCalls P o)))) (sym (r .log))
-        (turn-taken x P g long room measured (turnsOn P g n) (r .sound) (r .settings) (free n r) (ap (λ (o : Log). rule.promote o .outcome) (sym (r .log)) ∙ each n (omega arith))))))
+        (turn-taken x P g long room measured (turnsOn P g n) (r .sound) (r .settings) (free n r) (subst TurnMade (r .log) (each n (omega arith)))))))
 
     -- ---- where it stands
 
     went-on : (n : ℕ) → Each n → (i : ℕ) → i < n → loopCondition P (turns P i) ≡ true
     went-on n each i h =
         let there : AfterTurns x P g long room measured fit posed i = runs i (λ j l. each j (omega (arith, l, h))) in
-        promoted-goes-on P (turnsOn P g i) (turns P i) (there .simulates) (ap (λ (o : Log). rule.promote o .outcome) (sym (there .log)) ∙ each i h)
+        published-facts .place-only P (turnsOn P g i) (turns P i) (nextPlace (turnsOn P g i .log)) (there .simulates) (subst TurnMade (there .log) (each i h) .0) .0
 
     module _ (n : ℕ) (each : Each n) where
       r : AfterTurns x P g long room measured fit posed n
@@ -151,8 +149,8 @@ module _ (x : Part) (P : Problem) (g : Settings) where
           begun-fine : MachineInvariant m₀
           begun-fine = record { sound = step-facts .start g fit; mean = unfold steps.started in sym (mean-facts .start g) }
 
-      pub follows : Follows P (logOf x P g n) n
-      follows = subst (λ (o : Log). Follows P o n) (sym (r .log)) (follows-at P (turnsOn P g n) n invariant (r .simulates) (went-on n each))
+      pub follows : Follows P (logOf x P g n) (turns P n)
+      follows = subst (λ (o : Log). Follows P o (turns P n)) (sym (r .log)) (follows-at P (turnsOn P g n) (turns P n) invariant (r .simulates))
 
       -- ---- the storage
       module _ (w : Storage) (lent : Lent w x) where
@@ -189,6 +187,7 @@ module _ (x : Part) (P : Problem) (g : Settings) where
               answers = λ y m. one-taken (answersBy l₀ (lendAll x (callsOf x P g n))) (all-taken n each) y (subst (List·Memᴰ y) answers-are m);
               found = found-there;
               follows = follows;
+              went-on = went-on n each;
             }
           where
             found-there : Found (storageAfter w (lendAll x (callsOf x P g n))) (logOf x P g n)

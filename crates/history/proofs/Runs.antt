@@ -1,9 +1,9 @@
 -- The calls of a run make the machine's turns.
--- The idea: every one of them is accepted, so each does its step; a turn is a promotion and as many deliveries as there are wanted.
+-- The idea: every one of them is accepted, so each does its step; a turn is a choice, its promotion and as many deliveries as there are wanted.
 -- Assumes nothing.
 use mathlib.Core.Path.{_≡_, refl, ap, sym, _∙_, subst}
 use mathlib.Core.Bool.{false}
-use mathlib.Core.List.{List, [], _++_, map, map-append}
+use mathlib.Core.List.{List, [], _∷_, _++_, map, map-append}
 use Prim.Native.Nat.{ℕ, zero, suc, _*_, _<_, _≤_}
 use native.Mathlib.Omega.{arith}
 use lib.IntN.{ℤ, pos}
@@ -16,28 +16,29 @@ use Rattle.area.specs.declared.Settings.{Settings}
 use Rattle.area.specs.Settings.{SettingsFit, leastStore}
 use Rattle.area.specs.Log.{Log, Machine}
 use Rattle.area.proofs.Readings.{reading-facts}
-use Rattle.machine.specs.Log.{wanted, firstWanted, wantedIndex}
+use Rattle.machine.specs.Log.{wanted, firstWanted, wantedIndex, Active}
 use Rattle.machine.specs.Promote as rule
 use Rattle.machine.specs.Counts.{countOf}
 use Rattle.machine.specs.Steps as steps
 use Rattle.encoding.specs.Entries.{SoundMachine}
 use Rattle.machine.specs.Causes.{short, firstCause, startCauses}
 use Rattle.machine.proofs.Wanted.{first-none}
+use Rattle.machine.proofs.Answers.{promoted-settings}
+use Rattle.machine.proofs.Choices.{choose-facts}
 use Rattle.machine.proofs.Facts.{step-facts}
 use Rattle.calls.proofs.Tests as tests
 use Rattle.calls.proofs.Causes.{start-fits}
 use Rattle.published.specs.Figure.{Problem, turn, turns}
-use Rattle.published.specs.Turns.{supply, supplies, turnOn, turnsOn, SettingsMatch, ReadingValued, Simulates}
-use Rattle.published.proofs.Facts.{published-facts}
+use Rattle.published.specs.Turns.{supply, supplies, turnOn, turnsOn, TurnMade, SettingsMatch, ReadingValued, Simulates}
+use Rattle.published.proofs.Facts.{published-facts, next-turn}
 use Rattle.published.proofs.Increments.{value-at}
-use Rattle.calls.specs.Table.{Call, start, deliver, promote, row, causesOf, effectOf, refusal, changed, stateAfter}
-use Rattle.calls.proofs.Outcomes.{promoted-settings}
+use Rattle.calls.specs.Table.{Call, start, choose, promote, row, causesOf, effectOf, refusal, changed, stateAfter}
 use Rattle.history.specs.LentCalls.{Part, LentCall, lengthsLent}
 use Rattle.history.specs.Logged.{logAfter}
-use Rattle.history.specs.Source.{supplyCall, suppliedLog, supplyCalls, turnCalls, lendAll, begun, logOf, callsOf}
+use Rattle.history.specs.Source.{supplyCall, suppliedLog, supplyCalls, nextPlace, turnCalls, lendAll, begun, logOf, callsOf}
 use Rattle.history.proofs.Moves.{machineStep}
 use Rattle.history.proofs.Lists.{machineAfter, after-log, after-both}
-use Rattle.history.proofs.Accepts.{some-wanted, one-fewer, supply-step, promote-step}
+use Rattle.history.proofs.Accepts.{some-wanted, one-fewer, supply-step, choose-step, promote-step}
 
 -- ---- a supplied state
 
@@ -50,9 +51,10 @@ unfolding supplies
 supplies-settings P zero m = refl
 supplies-settings P (suc n) m = supplies-settings P n (supply P m) ∙ supply-settings P m
 
-turn-settings : (P : Problem) (m : Machine) → turnOn P m .log .settings ≡ m .log .settings
+turn-settings : (P : Problem) (m : Machine) (p : ℕ) → turnOn P m p .log .settings ≡ m .log .settings
 unfolding turnOn steps.promoteStep
-turn-settings P m = supplies-settings P (countOf 0 (steps.promoteStep m .log .entries)) (steps.promoteStep m) ∙ promoted-settings (m .log)
+turn-settings P m p =
+    supplies-settings P (countOf 0 (steps.promoteStep m p .log .entries)) (steps.promoteStep m p) ∙ promoted-settings (m .log .settings .budget) (m .log) p
 
 module _ (P : Problem) (measured : ReadingValued P) (m : Machine) (v : SoundMachine m) (h : firstWanted (m .log .entries) < length (m .log .entries)) where
   abbrev k : List ℕ
@@ -95,12 +97,19 @@ module _ (x : Part) (P : Problem) (g : Settings) (long : 512 * 27 ≤ x .cells) 
       supplied-is : suppliedLog P (m .log) ≡ supply P m .log
       supplied-is = unfold suppliedLog supply steps.deliver in refl
 
-  pub turn-run : (m : Machine) → SoundMachine m → m .log .settings ≡ g → length (m .log .entries) ≤ firstWanted (m .log .entries)
-      → machineAfter m (lendAll x (turnCalls P (m .log))) ≡ turnOn P m
+  pub turn-run : (m : Machine) → SoundMachine m → m .log .settings ≡ g → length (m .log .entries) ≤ firstWanted (m .log .entries) → Active (m .log .entries) (nextPlace (m .log))
+      → machineAfter m (lendAll x (turnCalls P (m .log))) ≡ turnOn P m (nextPlace (m .log))
   unfolding lendAll turnCalls machineAfter turnOn steps.promoteStep
-  turn-run m v e free =
-      ap (λ (y : Machine). machineAfter y (lendAll x (supplyCalls P (countOf 0 (rule.promote (m .log) .log .entries)) (rule.promote (m .log) .log)))) (promote-step P (lend promote) m (enough m e) free refl)
-      ∙ supplies-run (countOf 0 (rule.promote (m .log) .log .entries)) (steps.promoteStep m) (step-facts .promote m v free) (promoted-settings (m .log) ∙ e) refl
+  turn-run m v e free a =
+      ap (λ (y : Machine). machineAfter y (lendAll x (promote p ∷ supplyCalls P (countOf 0 (after .entries)) after))) (choose-step P (lend choose) m (enough m e) free refl)
+      ∙ ap (λ (y : Machine). machineAfter y (lendAll x (supplyCalls P (countOf 0 (after .entries)) after))) (promote-step P (lend (promote p)) m (enough m e) p free a refl)
+      ∙ supplies-run (countOf 0 (after .entries)) (steps.promoteStep m p) (step-facts .promote m p v a) (promoted-settings (m .log .settings .budget) (m .log) p ∙ e) refl
+    where
+      p : ℕ
+      p = nextPlace (m .log)
+
+      after : Log
+      after = rule.promoteAt (m .log) (nextPlace (m .log)) .log
 
   -- ---- from the start
   module _ (fit : SettingsFit g) (posed : SettingsMatch g P) where
@@ -148,8 +157,8 @@ module _ (x : Part) (P : Problem) (g : Settings) (long : 512 * 27 ≤ x .cells) 
           settings = unfold turnsOn supply steps.deliver steps.started in refl;
         }
 
-    after-turns-next : (n : ℕ) → AfterTurns n → rule.promote (logOf x P g n) .outcome ≡ rule.promoted → AfterTurns (suc n)
-    after-turns-next n r e =
+    after-turns-next : (n : ℕ) → AfterTurns n → TurnMade (logOf x P g n) → AfterTurns (suc n)
+    after-turns-next n r made =
         record {
           log = unfold logOf in
               ap (λ (o : Log). logAfter o (lendAll x (turnCalls P o))) (r .log) ∙ sym (after-log m (lendAll x (turnCalls P (m .log)))) ∙ ap (λ (y : Machine). y .log) turned;
@@ -161,21 +170,26 @@ module _ (x : Part) (P : Problem) (g : Settings) (long : 512 * 27 ≤ x .cells) 
               ∙ turned;
           sound = unfold turnsOn in both .0;
           simulates = unfold turnsOn turns in both .1;
-          settings = unfold turnsOn in turn-settings P m ∙ r .settings;
+          settings = unfold turnsOn in turn-settings P m (nextPlace (m .log)) ∙ r .settings;
         }
       where
         m : Machine
         m = turnsOn P g n
 
-        both : SoundMachine (turnOn P (turnsOn P g n)) × Simulates P (turnOn P (turnsOn P g n)) (turn P (turns P n))
-        both = published-facts .one-turn P (turnsOn P g n) (turns P n) measured (r .sound) (r .simulates) (ap (λ (o : Log). rule.promote o .outcome) (sym (r .log)) ∙ e)
+        made-here : TurnMade (turnsOn P g n .log)
+        made-here = subst TurnMade (r .log) made
+
+        both : SoundMachine (turnOn P (turnsOn P g n) (nextPlace (turnsOn P g n .log))) × Simulates P (turnOn P (turnsOn P g n) (nextPlace (turnsOn P g n .log))) (turn P (turns P n))
+        both = next-turn P measured (turnsOn P g n) (turns P n) (r .sound) (r .simulates) made-here
 
         turned : machineAfter (turnsOn P g n) (lendAll x (turnCalls P (turnsOn P g n .log))) ≡ turnsOn P g (suc n)
-        turned = unfold turnsOn in turn-run (turnsOn P g n) (r .sound) (r .settings) (none-left (turnsOn P g n) (r .simulates .supplied .delivered))
+        turned =
+            unfold turnsOn in
+            turn-run (turnsOn P g n) (r .sound) (r .settings) (none-left (turnsOn P g n) (r .simulates .supplied .delivered)) (choose-facts .place-active (turnsOn P g n .log) (nextPlace (turnsOn P g n .log)) (made-here .0))
 
         lent-both : (cs ds : List Call) → lendAll x (cs ++ ds) ≡ lendAll x cs ++ lendAll x ds
         lent-both cs ds = unfold lendAll in map-append lend cs ds
 
-    pub after-turns : (n : ℕ) → ((i : ℕ) → i < n → rule.promote (logOf x P g i) .outcome ≡ rule.promoted) → AfterTurns n
+    pub after-turns : (n : ℕ) → ((i : ℕ) → i < n → TurnMade (logOf x P g i)) → AfterTurns n
     after-turns zero f = after-turns-first
     after-turns (suc n) f = after-turns-next n (after-turns n (λ i h. f i (omega (arith, h)))) (f n (omega arith))

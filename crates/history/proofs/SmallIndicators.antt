@@ -2,7 +2,6 @@
 -- The idea: a start leaves 0, a delivery writes its own, and a promotion leaves indicators as they are and adds zeros.
 -- Assumes nothing.
 use mathlib.Core.Path.{_≡_, refl, sym, subst}
-use mathlib.Core.Logic.{_⊎_, inl, inr}
 use mathlib.Core.List.{List, [], _∷_, _++_, map}
 use Prim.Native.Nat.{ℕ, zero, suc, _^_, _<_}
 use native.Mathlib.Omega.{arith}
@@ -14,15 +13,14 @@ use Rattle.area.specs.Entry.{Entry}
 use Rattle.area.specs.Log.{Log}
 use Rattle.encoding.specs.Entries.{noEntry, entryAt}
 use Rattle.machine.specs.Log.{wanted, firstWanted}
-use Rattle.machine.specs.Choose.{selected}
 use Rattle.machine.specs.Promote as rule
 use Rattle.machine.specs.Steps.{startLog, delivered, deliverAt, deliverLog}
-use Rattle.calls.specs.Table.{Call, start, point, points, deliver, promote, result, doubles, crossTotal, check}
-use Rattle.published.proofs.Outcomes.{promoted-log, promoted-or-same}
+use Rattle.calls.specs.Table.{Call, start, point, points, deliver, choose, promote, result, doubles, crossTotal, check}
 use Rattle.history.specs.LentCalls.{LentCall}
 use Rattle.history.specs.Logged.{logStep, logAfter, AcceptedBy}
 use Rattle.history.specs.TypedCalls.{IndicatorFits, AllFit}
-use Rattle.history.proofs.LogSteps.{log-facts, either-way}
+use Rattle.machine.proofs.Answers.{either-log}
+use Rattle.history.proofs.LogSteps.{promote-accepted, log-facts, either-way}
 
 -- ---- entries with indicators of 32 bits
 
@@ -65,12 +63,8 @@ module _ (l : Log) (s : AllSmall (l .entries)) where
       (small-set (l .entries) p (rule.madeOld (entryAt (l .entries) p)) s (small-at (l .entries) s p))
       (small-wanted (forward (entryAt (l .entries) p .levels)) (rule.admittedAxes (l .settings .axes) (rule.makeOld (l .entries) p) (entryAt (l .entries) p .levels)))
 
-  pub promoted-small : AllSmall (rule.promote l .log .entries)
-  promoted-small = step (promoted-or-same l)
-    where
-      step : (rule.promote l .outcome ≡ rule.promoted) ⊎ (rule.promote l .log ≡ l) → AllSmall (rule.promote l .log .entries)
-      step (inl e) = subst (λ (x : Log). AllSmall (x .entries)) (sym (promoted-log l e)) (refined (selected (l .entries)))
-      step (inr q) = subst (λ (x : Log). AllSmall (x .entries)) (sym q) s
+  pub promoted-small : (p : ℕ) → AllSmall (rule.promoteAt l p .log .entries)
+  promoted-small p = either-log (l .settings .budget) l p (λ (x : Log). AllSmall (x .entries)) (λ e. refined p) s
 
 -- ---- a call, and a list of calls
 
@@ -85,7 +79,8 @@ step-small l s x h = either-way Small l x s (by (x .call) h refl)
     by (point n buffer) f is none = subst Small (sym (log-facts .after-point l x n buffer is)) s
     by (points n buffer) f is none = subst Small (sym (log-facts .after-points l x n buffer is)) s
     by (deliver rs i) f is none = subst Small (sym (log-facts .accepted-deliver l x rs i is none)) (delivered-small l s rs i f)
-    by promote f is none = subst Small (sym (log-facts .accepted-promote l x is none)) (promoted-small l s)
+    by choose f is none = subst Small (sym (log-facts .after-choose l x is)) s
+    by (promote p) f is none = subst Small (sym (promote-accepted l x p is none)) (promoted-small l s p)
     by result f is none = subst Small (sym (log-facts .after-result l x is)) s
     by doubles f is none = subst Small (sym (log-facts .after-doubles l x is)) s
     by crossTotal f is none = subst Small (sym (log-facts .after-cross l x is)) s

@@ -2,35 +2,33 @@
 -- The idea: the state stays sound, so every entry has a level for each axis, and what an active place admits is not held.
 -- Assumes nothing.
 use mathlib.Core.Path.{_≡_, ap, _∙_, subst}
+use mathlib.Core.Logic.{inl, inr}
 use mathlib.Core.Bool.{true}
-use mathlib.Core.List.{List}
+use mathlib.Core.List.{List, [], List·Memᴰ·not-nil}
 use Prim.Native.Nat.{ℕ, _<_, _≤_}
 use native.Mathlib.Decide.{decLt}
 use native.Mathlib.Omega.{arith}
 use lib.ListN.{length}
 use Rattle.area.specs.Settings.{leastStore}
-use Rattle.area.specs.Entry.{pendingOf}
 use Rattle.area.specs.Log.{Log, Machine}
 use Rattle.encoding.specs.Entries.{SoundMachine}
-use Rattle.machine.specs.Log.{firstWanted, anyWanted}
+use Rattle.machine.specs.Log.{firstWanted, anyWanted, Active}
 use Rattle.machine.specs.Promote as rule
-use Rattle.machine.specs.Admitted.{Exceeds}
+use Rattle.machine.specs.Admitted.{Admitted, ListsAdmitted, totalOf, Exceeds}
 use Rattle.machine.specs.Steps as steps
 use Rattle.machine.specs.Causes.{Lengths}
 use Rattle.machine.proofs.Wanted.{reads-wanted}
-use Rattle.machine.proofs.Answers.{spent-above}
+use Rattle.machine.proofs.Answers.{spent-not}
 use Rattle.machine.proofs.Spent.{sound-place, admitted-facts}
 use Rattle.calls.specs.Replies.{promotion}
 use Rattle.calls.specs.Table.{promote, answer}
 use Rattle.calls.proofs.Tests as tests
 use Rattle.history.specs.Logged.{answerBy}
 use Rattle.history.specs.Spent.{Admissions, SpentExactly}
-use Rattle.history.specs.Excluded.{SelectsIndex, ListsNext}
 use Rattle.history.proofs.Lists.{machineAfter}
 use Rattle.history.proofs.Demand.{log-there, state-fine}
 use Rattle.history.proofs.Accepts.{promote-answer}
-use Rattle.history.proofs.Excluded.{selects-index, spent-if, promoted-if, only-if}
-use Rattle.history.proofs.Simulation.{answered}
+use Rattle.history.proofs.Promotions.{answered, accepted-active}
 
 module _ (m : Machine) (v : SoundMachine m) where
   abbrev l : Log
@@ -43,18 +41,31 @@ module _ (m : Machine) (v : SoundMachine m) where
       step (yes h) = absurd (none (reads-wanted (m .log .entries) .back h))
       step (no h) = omega arith
 
-  answers : {o : rule.Outcome} (z : Lengths) → 512 ≤ z .records → leastStore (l .settings) ≤ z .readings → (anyWanted (l .entries) ≡ true → ⊥) → rule.promote l .outcome ≡ o
-      → answerBy z l promote ≡ answer (promotion o)
-  answers z h k none e = promote-answer z l (tests.enough z (l .settings) h k) (free none) ∙ ap (λ o. answer (promotion o)) e
+  answers : {o : rule.Outcome} (z : Lengths) (p : ℕ) → 512 ≤ z .records → leastStore (l .settings) ≤ z .readings → (anyWanted (l .entries) ≡ true → ⊥) → Active (l .entries) p
+      → rule.promoteAt l p .outcome ≡ o → answerBy z l (promote p) ≡ answer (promotion o)
+  answers z p h k none a e = promote-answer z l (tests.enough z (l .settings) h k) (free none) p a ∙ ap (λ o. answer (promotion o)) e
 
-  levels : l .settings .threshold < pendingOf (l .entries) → SelectsIndex l
-  levels = selects-index m v
+  spent-answer : (z : Lengths) (p : ℕ) (ks : List (List ℕ)) → ListsAdmitted l p ks → answerBy z l (promote p) ≡ answer (promotion rule.spent) → Active (l .entries) p × Exceeds l ks
+  spent-answer z p ks these e =
+      let y = answered z l p rule.spent e in
+      let a = accepted-active z l p (y .0) in
+      (a, admitted-facts .spent-only l p ks (sound-place m p v (a .place)) these (y .1))
 
-  spent-answer : (z : Lengths) (ks : List (List ℕ)) → ListsNext l ks → answerBy z l promote ≡ answer (promotion rule.spent)
-      → (l .settings .threshold < pendingOf (l .entries)) × Exceeds l ks
-  spent-answer z ks these e =
-      let o : rule.promote l .outcome ≡ rule.spent = answered z l rule.spent e .1 in
-      only-if l ks (levels (spent-above l o)) these o
+  promoted-answer : (z : Lengths) (p : ℕ) (ks : List (List ℕ)) → ListsAdmitted l p ks → answerBy z l (promote p) ≡ answer (promotion rule.promoted) → Active (l .entries) p × (Exceeds l ks → ⊥)
+  promoted-answer z p ks these e =
+      let y = answered z l p rule.promoted e in
+      let a = accepted-active z l p (y .0) in
+      (a, λ x. spent-not (admitted-facts .spent l p ks (sound-place m p v (a .place)) these x) (y .1))
+
+  -- held and reserved as they are pass no limit
+  stays-within : Exceeds l [] → ⊥
+  unfolding totalOf
+  stays-within (inl h) = omega (arith, h, v .count .1)
+  stays-within (inr h) = omega (arith, h, v .within-budget)
+
+  none-admitted : (p : ℕ) → Active (l .entries) p → ((k : List ℕ) → Admitted (l .settings .axes) (l .entries) p k → ⊥) → rule.promoteAt l p .outcome ≡ rule.promoted
+  none-admitted p a n =
+      admitted-facts .promoted l p [] (sound-place m p v (a .place)) (record { each = λ k h. absurd (List·Memᴰ·not-nil h); all = λ k h. absurd (n k h); once = tt }) stays-within
 
   pub admissions : Admissions (m .log)
   admissions =
@@ -62,9 +73,11 @@ module _ (m : Machine) (v : SoundMachine m) where
         listed = λ q h a. admitted-facts .listed l q (sound-place m q v h);
         appends = λ q h a. admitted-facts .appends l q (sound-place m q v h);
         none-held = λ q k h a w. admitted-facts .none-held m q k v h a w;
-        spent = λ z ks h k none these x y. answers z h k none (spent-if l ks (levels x) these x y);
+        spent = λ z p ks h k none a these x. answers z p h k none a (admitted-facts .spent l p ks (sound-place m p v (a .place)) these x);
         spent-only = spent-answer;
-        promoted = λ z ks h k none these x n. answers z h k none (promoted-if l ks (levels x) these x n);
+        promoted = λ z p ks h k none a these n. answers z p h k none a (admitted-facts .promoted l p ks (sound-place m p v (a .place)) these n);
+        promoted-only = promoted-answer;
+        none-admitted = λ z p h k none a n. answers z p h k none a (none-admitted p a n);
       }
 
 pub spent-exactly : SpentExactly

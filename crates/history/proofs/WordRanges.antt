@@ -17,12 +17,12 @@ use Rattle.encoding.specs.Entries.{noEntry, SoundMachine}
 use Rattle.encoding.proofs.Ranges.{delivered-few}
 use Rattle.machine.specs.Promote as rule
 use Rattle.machine.specs.Steps.{startLog, deliverLog}
-use Rattle.calls.proofs.Outcomes.{promoted-settings}
+use Rattle.machine.proofs.Answers.{promoted-settings}
 use Rattle.wihupya.specs.Words.{jobOf, wordsOf}
 use Rattle.wihupya.proofs.Facts.{word-facts}
 use Rattle.history.specs.Logged.{logStep, AcceptedBy}
-use Rattle.history.specs.OnExports.{ExportCall, start, point, points, deliver, promote, result, doubles, crossTotal, check, callOf, Typed, LentExport, lentCall}
-use Rattle.history.proofs.LogSteps.{log-facts, either-way}
+use Rattle.history.specs.OnExports.{ExportCall, start, point, points, deliver, choose, promote, result, doubles, crossTotal, check, callOf, Typed, LentExport, lentCall}
+use Rattle.history.proofs.LogSteps.{promote-accepted, log-facts, either-way}
 use Rattle.history.proofs.SmallIndicators.{AllSmall, small-at, started-small, delivered-small, promoted-small}
 
 -- ---- a log in range
@@ -47,8 +47,12 @@ module _ (l : Log) (r : InRange l) where
   delivered-range : (rs : List ℤ) (i : ℕ) → i < 2 ^ 32 → InRange (deliverLog l rs i)
   delivered-range rs i h = record { threshold = r .threshold; indicators = delivered-small l (r .indicators) rs i h }
 
-  promoted-range : InRange (rule.promote l .log)
-  promoted-range = record { threshold = subst (λ (g : Settings). g .threshold < 2 ^ 64) (sym (promoted-settings l)) (r .threshold); indicators = promoted-small l (r .indicators) }
+  promoted-range : (p : ℕ) → InRange (rule.promoteAt l p .log)
+  promoted-range p =
+      record {
+        threshold = subst (λ (g : Settings). g .threshold < 2 ^ 64) (sym (promoted-settings (l .settings .budget) l p)) (r .threshold);
+        indicators = promoted-small l (r .indicators) p;
+      }
 
 -- an accepted start, whatever was there
 pub started-range : (axes threshold budget : ℕ) → threshold < 2 ^ 64 → InRange (startLog (settingsOf axes threshold budget))
@@ -63,7 +67,8 @@ step-range l r x h = either-way InRange l (lentCall x) r (by (x .call) h refl)
     by (point n buffer) t is none = subst InRange (sym (log-facts .after-point l (lentCall x) n buffer is)) r
     by (points n given buffer) t is none = subst InRange (sym (log-facts .after-points l (lentCall x) n buffer is)) r
     by (deliver rs i) t is none = subst InRange (sym (log-facts .accepted-deliver l (lentCall x) rs i is none)) (delivered-range l r rs i t)
-    by (promote outcome) t is none = subst InRange (sym (log-facts .accepted-promote l (lentCall x) is none)) (promoted-range l r)
+    by (choose given) t is none = subst InRange (sym (log-facts .after-choose l (lentCall x) is)) r
+    by (promote p outcome) t is none = subst InRange (sym (promote-accepted l (lentCall x) p is none)) (promoted-range l r p)
     by (result given) t is none = subst InRange (sym (log-facts .after-result l (lentCall x) is)) r
     by (doubles given) t is none = subst InRange (sym (log-facts .after-doubles l (lentCall x) is)) r
     by (crossTotal given) t is none = subst InRange (sym (log-facts .after-cross l (lentCall x) is)) r

@@ -31,7 +31,7 @@ report m p d = record { mean = m; pending = p; largest = d }
 
 -- One axis: the root's reading, and then those of (2) with their indicator.
 abbrev twoBlocks : (root left right : ℤ) (indicator : ℕ) → List Call
-twoBlocks r a b i = deliver (r ∷ []) 1 ∷ promote ∷ deliver (a ∷ b ∷ []) i ∷ []
+twoBlocks r a b i = deliver (r ∷ []) 1 ∷ promote 0 ∷ deliver (a ∷ b ∷ []) i ∷ []
 
 -- Exported doubles, lent the bits of three doubles and a part of the storage; and what an exported call returned and left in its words.
 abbrev lentDoubles : List ℕ → Part → LentExport
@@ -55,7 +55,7 @@ pub record DoublesCases : Type 0 where
   pub altered : doublesOf (record { log = logThen (startLog (settingsOf 1 0 64)) (twoBlocks (pos 0) (negsuc 2) (negsuc 3) 7); mean = pos 12345 })
       ≡ report (fin false 12345 (negsuc 19)) (fin false 7 (pos 0)) (fin true 7 (negsuc 1))
   -- two axes, the root and (2,1) delivered and (1,2) wanted: 1.75, 5.0 and, of the root, 3.0
-  pub while-wanted : doublesThen (startLog (settingsOf 2 0 64)) (deliver (pos 3 ∷ []) 7 ∷ promote ∷ deliver (pos 1 ∷ pos 0 ∷ []) 5 ∷ [])
+  pub while-wanted : doublesThen (startLog (settingsOf 2 0 64)) (deliver (pos 3 ∷ []) 7 ∷ promote 0 ∷ deliver (pos 1 ∷ pos 0 ∷ []) 5 ∷ [])
       ≡ answer (doubled (report (fin false 7 (negsuc 1)) (fin false 5 (pos 0)) (fin false 3 (pos 0))))
   -- refused by 3, in storage that is too short by one cell or by one reading of a budget of 64, the exported call leaves the bits that it is lent,
   -- whatever they are; else it writes all three: −3.0, 1.0 and −3.0, each a sign, eleven digits of exponent and 52 of fraction

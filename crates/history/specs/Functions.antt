@@ -16,6 +16,8 @@ use Rattle.wihupya.proofs.wihupya_points.Kinds as points-kinds
 use Rattle.wihupya.proofs.wihupya_points.Reads as points-reads
 use Rattle.wihupya.proofs.wihupya_deliver.Kinds as deliver-kinds
 use Rattle.wihupya.proofs.wihupya_deliver.Reads as deliver-reads
+use Rattle.wihupya.proofs.wihupya_choose.Kinds as choose-kinds
+use Rattle.wihupya.proofs.wihupya_choose.Reads as choose-reads
 use Rattle.wihupya.proofs.wihupya_promote.Kinds as promote-kinds
 use Rattle.wihupya.proofs.wihupya_promote.Reads as promote-reads
 use Rattle.wihupya.proofs.wihupya_result.Kinds as result-kinds
@@ -26,7 +28,7 @@ use Rattle.wihupya.proofs.wihupya_cross_total.Kinds as cross-kinds
 use Rattle.wihupya.proofs.wihupya_cross_total.Reads as cross-reads
 use Rattle.wihupya.proofs.wihupya_check.Kinds as check-kinds
 use Rattle.wihupya.proofs.wihupya_check.Reads as check-reads
-use Rattle.history.specs.OnExports.{start, point, points, deliver, promote, result, doubles, crossTotal, check, Contract}
+use Rattle.history.specs.OnExports.{start, point, points, deliver, choose, promote, result, doubles, crossTotal, check, Contract}
 
 pub record FunctionContracts : Type 0 where
   -- wihupya_start: job, axes, threshold, budget, cells, store
@@ -45,10 +47,14 @@ pub record FunctionContracts : Type 0 where
   pub of-deliver : (κs : Lfts 4) (a : Dens κs deliver-kinds.ps) (r : ℕ) (s : AtExit (endedOf 4 deliver-kinds.ps deliver-kinds.r) κs) → deliver-reads.Learnt κs a r s
       → Contract (now (a .0)) (now (a .1 .1 .1 .0)) (now (a .1 .1 .1 .1 .0)) (deliver (now (a .1 .0)) (a .1 .1 .0))
       (record { number = r; job = now (s .0); cells = now (s .1 .1 .1 .0); store = now (s .1 .1 .1 .1 .0); words = []; buffer = [] })
-  -- wihupya_promote: job, outcome, cells, store
+  -- wihupya_choose: job, choice, cells, store
+  pub of-choose : (κs : Lfts 4) (a : Dens κs choose-kinds.ps) (r : ℕ) (s : AtExit (endedOf 4 choose-kinds.ps choose-kinds.r) κs) → choose-reads.Learnt κs a r s
+      → Contract (now (a .0)) (now (a .1 .1 .0)) (now (a .1 .1 .1 .0)) (choose (now (a .1 .0)))
+      (record { number = r; job = now (a .0); cells = now (a .1 .1 .0); store = now (a .1 .1 .1 .0); words = now (s .1 .0); buffer = [] })
+  -- wihupya_promote: job, place, outcome, cells, store
   pub of-promote : (κs : Lfts 4) (a : Dens κs promote-kinds.ps) (r : ℕ) (s : AtExit (endedOf 4 promote-kinds.ps promote-kinds.r) κs) → promote-reads.Learnt κs a r s
-      → Contract (now (a .0)) (now (a .1 .1 .0)) (now (a .1 .1 .1 .0)) (promote (now (a .1 .0)))
-      (record { number = r; job = now (s .0); cells = now (s .1 .1 .0); store = now (a .1 .1 .1 .0); words = now (s .1 .0); buffer = [] })
+      → Contract (now (a .0)) (now (a .1 .1 .1 .0)) (now (a .1 .1 .1 .1 .0)) (promote (a .1 .0) (now (a .1 .1 .0)))
+      (record { number = r; job = now (s .0); cells = now (s .1 .1 .1 .0); store = now (a .1 .1 .1 .1 .0); words = now (s .1 .1 .0); buffer = [] })
   -- wihupya_result: job, counts, cells, store
   pub of-result : (κs : Lfts 4) (a : Dens κs result-kinds.ps) (r : ℕ) (s : AtExit (endedOf 4 result-kinds.ps result-kinds.r) κs) → result-reads.Learnt κs a r s
       → Contract (now (a .0)) (now (a .1 .1 .0)) (now (a .1 .1 .1 .0)) (result (now (a .1 .0)))

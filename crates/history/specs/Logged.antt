@@ -7,12 +7,12 @@ use mathlib.Core.List.{List, [], _∷_}
 use Prim.Native.Nat.{ℕ}
 use lib.IntN.{ℤ}
 use Rattle.area.specs.declared.Settings.{Settings}
-use Rattle.area.specs.Log.{Log, Machine}
+use Rattle.area.specs.Log.{Log, Machine, withEntries}
 use Rattle.machine.specs.Promote as rule
 use Rattle.machine.specs.Steps.{startLog, deliverLog}
 use Rattle.machine.specs.Causes.{Lengths}
 use Rattle.machine.specs.Means.{crossOf}
-use Rattle.calls.specs.Table.{Call, start, point, points, deliver, promote, result, doubles, crossTotal, check, Answer, refusal, answerOf, stateAfter}
+use Rattle.calls.specs.Table.{Call, start, point, points, deliver, choose, promote, result, doubles, crossTotal, check, Answer, refusal, answerOf, stateAfter}
 use Rattle.history.specs.LentCalls.{LentCall, lengthsLent}
 
 -- The state that a log stands for. The mean is the combination sum over the delivered entries, from their readings; so result and cross
@@ -55,10 +55,12 @@ pub record LogFacts : Type 0 where
   pub accepted-start : (l : Log) (x : LentCall) (g : Settings) → x .call ≡ start g → AcceptedBy l x → logStep l x ≡ startLog g
   -- an accepted deliver makes the first wanted entry active, with its readings and indicator
   pub accepted-deliver : (l : Log) (x : LentCall) (rs : List ℤ) (i : ℕ) → x .call ≡ deliver rs i → AcceptedBy l x → logStep l x ≡ deliverLog l rs i
-  -- a promote that is *promoted* makes the selected entry old and appends the admitted, wanted; one that is met, capped or spent leaves it
-  pub accepted-promote : (l : Log) (x : LentCall) → x .call ≡ promote → AcceptedBy l x → logStep l x ≡ rule.promote l .log
-  pub idle-promote : (l : Log) (x : LentCall) → x .call ≡ promote → (rule.promote l .outcome ≡ rule.promoted → ⊥) → logStep l x ≡ l
+  -- a promote that is *promoted* makes the entry at its place old and appends the admitted, wanted; one that is spent leaves it
+  pub accepted-promote : (l : Log) (x : LentCall) (p : ℕ) → x .call ≡ promote p → AcceptedBy l x → rule.promoteAt l p .outcome ≡ rule.promoted
+      → logStep l x ≡ withEntries l (rule.refine (l .settings .axes) (l .entries) p)
+  pub idle-promote : (l : Log) (x : LentCall) (p : ℕ) → x .call ≡ promote p → (rule.promoteAt l p .outcome ≡ rule.promoted → ⊥) → logStep l x ≡ l
   -- any call besides, and any refused one, leaves it
+  pub after-choose : (l : Log) (x : LentCall) → x .call ≡ choose → logStep l x ≡ l
   pub after-point : (l : Log) (x : LentCall) (n : ℕ) (buffer : List ℕ) → x .call ≡ point n buffer → logStep l x ≡ l
   pub after-points : (l : Log) (x : LentCall) (n : ℕ) (buffer : List ℕ) → x .call ≡ points n buffer → logStep l x ≡ l
   pub after-result : (l : Log) (x : LentCall) → x .call ≡ result → logStep l x ≡ l

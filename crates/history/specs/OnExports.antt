@@ -22,18 +22,19 @@ use Rattle.machine.specs.Steps.{startLog}
 use Rattle.machine.specs.Means.{crossOf}
 use Rattle.machine.specs.Largest.{largestOf}
 use Rattle.counting.specs.Doubles.{doublesOf}
-use Rattle.calls.specs.Replies.{Reply, refused, accepted, wrote, promotion, counts, doubled, total, verdict}
+use Rattle.calls.specs.Replies.{Reply, refused, accepted, wrote, chosen, promotion, counts, doubled, total, verdict}
 use Rattle.calls.specs.Table as table
 use Rattle.calls.specs.Table.{Call, Answer, answer}
 use Rattle.calls.specs.Calls.{callOn}
 use Rattle.wihupya.specs.Words.{word, wide, jobOf, wordsOf}
 use Rattle.wihupya.specs.Exports as exports
-use Rattle.wihupya.specs.Exports.{bits, numberOf, pointsAfter, outcomeAfter, countsAfter, totalAfter, doublesAfter}
+use Rattle.wihupya.specs.Exports.{bits, numberOf, pointsAfter, choiceAfter, outcomeAfter, countsAfter, totalAfter, doublesAfter}
 use Rattle.history.specs.LentCalls.{Part, LentCall, lengthsLent}
 use Rattle.history.specs.Logged.{stateOf, logStep, logAfter, answerBy}
 use Rattle.history.specs.Storage.{Storage, Lent, callIn, storageStep}
 use Rattle.history.specs.Found.{Found}
-use Rattle.history.specs.Source.{MeanFollows, StepsFollow}
+use Rattle.history.specs.Promotions.{promotionsAfter, AllChosen}
+use Rattle.history.specs.Source.{MeanFollows, StepsFollow, RuleFollows}
 use Rattle.history.specs.Spent.{Admissions}
 
 pub record ExportStorage : Type 0 where
@@ -53,7 +54,8 @@ pub data ExportCall : Type 0 where
   point : (n : ℕ) (buffer : List ℕ) → ExportCall
   points : (n : ℕ) (given buffer : List ℕ) → ExportCall
   deliver : (readings : List ℤ) (indicator : ℕ) → ExportCall
-  promote : (outcome : List ℕ) → ExportCall
+  choose : (given : List ℕ) → ExportCall
+  promote : (place : ℕ) (outcome : List ℕ) → ExportCall
   result : (given : List ℕ) → ExportCall
   doubles : (given : List ℕ) → ExportCall
   crossTotal : (given : List ℕ) → ExportCall
@@ -65,19 +67,22 @@ callOf (start axes threshold budget) = table.start (settingsOf axes threshold bu
 callOf (point n buffer) = table.point n buffer
 callOf (points n given buffer) = table.points n buffer
 callOf (deliver rs i) = table.deliver rs i
-callOf (promote outcome) = table.promote
+callOf (choose given) = table.choose
+callOf (promote p outcome) = table.promote p
 callOf (result given) = table.result
 callOf (doubles given) = table.doubles
 callOf (crossTotal given) = table.crossTotal
 callOf check = table.check
 
--- Its arguments are within their types: a threshold has 64 bits, an indicator 32. (No other type decides anything here.)
+-- Its arguments are within their types: a threshold has 64 bits, an indicator 32. (No other type decides anything here; promote's place may be
+-- any number.)
 abbrev pub Typed : ExportCall → Type 0
 Typed (start axes threshold budget) = threshold < 2 ^ 64
 Typed (point n buffer) = Unit {0}
 Typed (points n given buffer) = Unit {0}
 Typed (deliver rs i) = i < 2 ^ 32
-Typed (promote outcome) = Unit {0}
+Typed (choose given) = Unit {0}
+Typed (promote p outcome) = Unit {0}
 Typed (result given) = Unit {0}
 Typed (doubles given) = Unit {0}
 Typed (crossTotal given) = Unit {0}
@@ -112,6 +117,7 @@ unfoldable pub verdictNumber : Reply → ℕ
 verdictNumber (refused n) = 0
 verdictNumber accepted = 0
 verdictNumber (wrote n size) = 0
+verdictNumber (chosen c) = 0
 verdictNumber (promotion o) = 0
 verdictNumber (counts c) = 0
 verdictNumber (doubled r) = 0
@@ -123,7 +129,8 @@ exportAnswer (start axes threshold budget) y = record { number = numberOf (y .re
 exportAnswer (point n buffer) y = record { number = numberOf (y .reply); words = []; buffer = y .buffer }
 exportAnswer (points n given buffer) y = record { number = numberOf (y .reply); words = pointsAfter (y .reply) given; buffer = y .buffer }
 exportAnswer (deliver rs i) y = record { number = numberOf (y .reply); words = []; buffer = [] }
-exportAnswer (promote outcome) y = record { number = numberOf (y .reply); words = outcomeAfter (y .reply) outcome; buffer = [] }
+exportAnswer (choose given) y = record { number = numberOf (y .reply); words = choiceAfter (y .reply) given; buffer = [] }
+exportAnswer (promote p outcome) y = record { number = numberOf (y .reply); words = outcomeAfter (y .reply) outcome; buffer = [] }
 exportAnswer (result given) y = record { number = numberOf (y .reply); words = countsAfter (y .reply) given; buffer = [] }
 exportAnswer (doubles given) y = record { number = numberOf (y .reply); words = doublesAfter (y .reply) given; buffer = [] }
 exportAnswer (crossTotal given) y = record { number = numberOf (y .reply); words = totalAfter (y .reply) given; buffer = [] }
@@ -138,7 +145,8 @@ wordsAfter (start axes threshold budget) w j = wordsOf j
 wordsAfter (point n buffer) w j = w
 wordsAfter (points n given buffer) w j = w
 wordsAfter (deliver rs i) w j = wordsOf j
-wordsAfter (promote outcome) w j = wordsOf j
+wordsAfter (choose given) w j = w
+wordsAfter (promote p outcome) w j = wordsOf j
 wordsAfter (result given) w j = w
 wordsAfter (doubles given) w j = w
 wordsAfter (crossTotal given) w j = w
@@ -210,10 +218,15 @@ Contract job cells store (deliver rs i) y =
     × ((y .number ≡ 0 → ⊥) → y .job ≡ job)
     × (y .words ≡ [])
     × (y .buffer ≡ [])
-Contract job cells store (promote outcome) y =
+Contract job cells store (choose given) y =
+    (y .number ≡ numberOf (callOn (areaOf (jobOf job) cells store) table.choose .answer .reply))
+    × (y .words ≡ choiceAfter (callOn (areaOf (jobOf job) cells store) table.choose .answer .reply) given)
+    × OnlyReads job cells store y
+    × (y .buffer ≡ [])
+Contract job cells store (promote p outcome) y =
     (record { number = y .number; job = y .job; run = runOf (y .cells); store = store }
-    ≡ exports.exported (callOn (areaOf (jobOf job) cells store) table.promote))
-    × (y .words ≡ outcomeAfter (callOn (areaOf (jobOf job) cells store) table.promote .answer .reply) outcome)
+    ≡ exports.exported (callOn (areaOf (jobOf job) cells store) (table.promote p)))
+    × (y .words ≡ outcomeAfter (callOn (areaOf (jobOf job) cells store) (table.promote p) .answer .reply) outcome)
     × ((y .number ≡ 0 → ⊥) → y .job ≡ job)
     × (y .store ≡ store)
     × (y .buffer ≡ [])
@@ -321,7 +334,9 @@ pub record ExportsDemand (w : ExportStorage) (first : LentExport) (later : List 
   pub found : ExportsFound (exportsAfter w (first ∷ later)) (logAfter (startLog (settingsOf axes threshold budget)) (map lentCall later))
   -- the second demand, of the same log: mean, steps and admissions are the published algorithm's
   pub means : MeanFollows (logAfter (startLog (settingsOf axes threshold budget)) (map lentCall later))
-  pub steps : StepsFollow (logAfter (startLog (settingsOf axes threshold budget)) (map lentCall later))
+  pub steps : StepsFollow (logAfter (startLog (settingsOf axes threshold budget)) (map lentCall later)) (promotionsAfter (startLog (settingsOf axes threshold budget)) [] (map lentCall later))
+  pub by-rule : AllChosen (startLog (settingsOf axes threshold budget)) (map lentCall later)
+      → RuleFollows (logAfter (startLog (settingsOf axes threshold budget)) (map lentCall later)) (promotionsAfter (startLog (settingsOf axes threshold budget)) [] (map lentCall later))
   pub admissions : Admissions (logAfter (startLog (settingsOf axes threshold budget)) (map lentCall later))
 
 -- The third demand over the exported calls: for all words, cells and readings, and every list of calls with arguments within their types that

@@ -29,7 +29,8 @@ use Rattle.history.specs.LentCalls.{Part, LentCall}
 use Rattle.history.specs.Logged.{stateOf, logAfter, answersBy}
 use Rattle.history.specs.Doubles.{ReportByLog}
 use Rattle.history.specs.Found.{Neighbours, LinksAgree}
-use Rattle.history.specs.Source.{MeanFollows, StepsFollow}
+use Rattle.history.specs.Promotions.{promotionsAfter, AllChosen}
+use Rattle.history.specs.Source.{MeanFollows, StepsFollow, RuleFollows}
 use Rattle.history.specs.Spent.{Admissions}
 
 pub record RecordStorage : Type 0 where
@@ -132,7 +133,8 @@ pub record RecordsDemand (w : RecordStorage) (first : RecordCall) (later : List 
   pub found : RecordsFound (recordsAfter w (first ∷ later)) (logAfter (startLog g) (map callInCells later))
   -- the second demand, of the same log: mean, steps and admissions are the published algorithm's
   pub means : MeanFollows (logAfter (startLog g) (map callInCells later))
-  pub steps : StepsFollow (logAfter (startLog g) (map callInCells later))
+  pub steps : StepsFollow (logAfter (startLog g) (map callInCells later)) (promotionsAfter (startLog g) [] (map callInCells later))
+  pub by-rule : AllChosen (startLog g) (map callInCells later) → RuleFollows (logAfter (startLog g) (map callInCells later)) (promotionsAfter (startLog g) [] (map callInCells later))
   pub admissions : Admissions (logAfter (startLog g) (map callInCells later))
 
 -- The third demand over lent records, whatever they hold. Every record of the struct's type has eight levels and sixteen links (crate

@@ -1,5 +1,5 @@
--- What promote appends and when it is *spent*, after every list of calls: by the indices that it would admit, which are told by their levels
--- alone (crate `machine`, specs/Admitted.antt).
+-- What promote appends and when it is *spent*, for any active place and after every list of calls: by the indices that it would admit, which are
+-- told by their levels alone (crate `machine`, specs/Admitted.antt).
 use mathlib.Core.Path.{_≡_}
 use mathlib.Core.Bool.{true}
 use mathlib.Core.List.{List, _∷_}
@@ -7,11 +7,9 @@ use Prim.Native.Nat.{ℕ, _<_, _≤_}
 use lib.ListN.{length}
 use Rattle.area.specs.declared.Settings.{Settings}
 use Rattle.area.specs.Settings.{leastStore}
-use Rattle.area.specs.Entry.{pendingOf}
 use Rattle.area.specs.Log.{Log}
 use Rattle.encoding.specs.Entries.{entryAt, Entered}
-use Rattle.machine.specs.Log.{anyWanted}
-use Rattle.machine.specs.Choose.{selected}
+use Rattle.machine.specs.Log.{anyWanted, Active}
 use Rattle.machine.specs.Promote as rule
 use Rattle.machine.specs.Admitted.{Admitted, ListsAdmitted, Exceeds, Appends}
 use Rattle.machine.specs.Steps.{startLog}
@@ -31,15 +29,20 @@ pub record Admissions (l : Log) : Type 0 where
   -- none of it is held yet
   pub none-held : (p : ℕ) (k : List ℕ) → p < length (l .entries) → entryAt (l .entries) p .state ≡ 1 → Admitted (l .settings .axes) (l .entries) p k
       → Entered (l .entries) k → ⊥
-  -- promote, called next with nothing wanted in storage that is long enough, is *spent* exactly if the pending error is above the threshold
-  -- and what the selected place would admit brings the held above 512 or the reserved above the budget
-  pub spent : (z : Lengths) (ks : List (List ℕ)) → 512 ≤ z .records → leastStore (l .settings) ≤ z .readings → (anyWanted (l .entries) ≡ true → ⊥)
-      → ListsAdmitted l (selected (l .entries)) ks → l .settings .threshold < pendingOf (l .entries) → Exceeds l ks → answerBy z l promote ≡ answer (promotion rule.spent)
-  pub spent-only : (z : Lengths) (ks : List (List ℕ)) → ListsAdmitted l (selected (l .entries)) ks → answerBy z l promote ≡ answer (promotion rule.spent)
-      → (l .settings .threshold < pendingOf (l .entries)) × Exceeds l ks
-  -- above the threshold and not so, it is *promoted*
-  pub promoted : (z : Lengths) (ks : List (List ℕ)) → 512 ≤ z .records → leastStore (l .settings) ≤ z .readings → (anyWanted (l .entries) ≡ true → ⊥)
-      → ListsAdmitted l (selected (l .entries)) ks → l .settings .threshold < pendingOf (l .entries) → (Exceeds l ks → ⊥) → answerBy z l promote ≡ answer (promotion rule.promoted)
+  -- promote of the place, called next with nothing wanted in storage that is long enough, is *spent* exactly if what it would admit brings the
+  -- held above 512 or the reserved above the budget, whatever the threshold and the indicators
+  pub spent : (z : Lengths) (p : ℕ) (ks : List (List ℕ)) → 512 ≤ z .records → leastStore (l .settings) ≤ z .readings → (anyWanted (l .entries) ≡ true → ⊥)
+      → Active (l .entries) p → ListsAdmitted l p ks → Exceeds l ks → answerBy z l (promote p) ≡ answer (promotion rule.spent)
+  pub spent-only : (z : Lengths) (p : ℕ) (ks : List (List ℕ)) → ListsAdmitted l p ks → answerBy z l (promote p) ≡ answer (promotion rule.spent)
+      → Active (l .entries) p × Exceeds l ks
+  -- and *promoted* otherwise
+  pub promoted : (z : Lengths) (p : ℕ) (ks : List (List ℕ)) → 512 ≤ z .records → leastStore (l .settings) ≤ z .readings → (anyWanted (l .entries) ≡ true → ⊥)
+      → Active (l .entries) p → ListsAdmitted l p ks → (Exceeds l ks → ⊥) → answerBy z l (promote p) ≡ answer (promotion rule.promoted)
+  pub promoted-only : (z : Lengths) (p : ℕ) (ks : List (List ℕ)) → ListsAdmitted l p ks → answerBy z l (promote p) ≡ answer (promotion rule.promoted)
+      → Active (l .entries) p × (Exceeds l ks → ⊥)
+  -- so where nothing is admitted
+  pub none-admitted : (z : Lengths) (p : ℕ) → 512 ≤ z .records → leastStore (l .settings) ≤ z .readings → (anyWanted (l .entries) ≡ true → ⊥)
+      → Active (l .entries) p → ((k : List ℕ) → Admitted (l .settings .axes) (l .entries) p k → ⊥) → answerBy z l (promote p) ≡ answer (promotion rule.promoted)
 
 -- After every list of the third demand.
 abbrev pub SpentExactly : Type 0

@@ -13,7 +13,7 @@ use Rattle.encoding.specs.Entries.{entryAt}
 use Rattle.machine.specs.Steps.{startLog}
 use Rattle.counting.specs.Doubles.{doublesOf}
 use Rattle.calls.specs.Replies.{accepted}
-use Rattle.calls.specs.Table.{Call, start, point, points, deliver, promote, result, doubles, crossTotal, check, answer}
+use Rattle.calls.specs.Table.{Call, start, point, points, deliver, choose, promote, result, doubles, crossTotal, check, answer}
 use Rattle.calls.specs.Calls.{callOn}
 use Rattle.history.specs.LentCalls.{LentCall}
 use Rattle.history.specs.Logged.{stateOf, logAfter}
@@ -26,7 +26,8 @@ IndicatorFits (start g) = Unit {0}
 IndicatorFits (point n buffer) = Unit {0}
 IndicatorFits (points n buffer) = Unit {0}
 IndicatorFits (deliver rs i) = i < 2 ^ 32
-IndicatorFits promote = Unit {0}
+IndicatorFits choose = Unit {0}
+IndicatorFits (promote p) = Unit {0}
 IndicatorFits result = Unit {0}
 IndicatorFits doubles = Unit {0}
 IndicatorFits crossTotal = Unit {0}
