@@ -1,28 +1,31 @@
 -- What the program's calls answer by the log, and which calls follow.
--- The idea: a delivery has the cause that the execution asks for, and with nothing wanted a promotion has none.
+-- The idea: a delivery has the cause that the execution asks for, and with nothing wanted neither choose nor the promotion of an active place has one.
 -- Assumes nothing.
 use mathlib.Core.Path.{_≡_, refl, ap, _∙_}
 use mathlib.Core.Bool.{true, false, cond}
 use mathlib.Core.List.{List, [], _∷_}
-use Prim.Native.Nat.{ℕ}
+use Prim.Native.Nat.{ℕ, _≤_}
 use native.Mathlib.Omega.{arith}
-use borrow.Author.Tests.{ne-eqb}
+use borrow.Author.Tests.{ne-eqb, ltb-false}
 use lib.IntN.{ℤ}
+use lib.ListN.{length}
 use Rattle.area.specs.declared.Settings.{Settings}
 use Rattle.area.specs.Settings.{SettingsFit}
 use Rattle.area.specs.Log.{Log}
 use Rattle.area.proofs.Readings.{reading-facts}
-use Rattle.machine.specs.Log.{anyWanted}
+use Rattle.machine.specs.Log.{firstWanted, anyWanted, Active}
+use Rattle.machine.specs.Choose as choice
 use Rattle.machine.specs.Promote as rule
-use Rattle.machine.specs.Causes.{firstCause, startCauses, deliverCauses, promoteCauses}
-use Rattle.calls.specs.Replies.{refused, accepted, promotion}
-use Rattle.calls.specs.Table.{Call, start, deliver, promote, Answer, answer, row, causesOf, passesCheck, acceptedAnswer, refusedAnswer, refusal, answerOf}
+use Rattle.machine.specs.Causes.{firstCause, short, startCauses, deliverCauses}
+use Rattle.calls.specs.Replies.{refused, accepted, chosen, promotion}
+use Rattle.calls.specs.Table.{Call, start, deliver, choose, promote, Answer, answer, row, causesOf, passesCheck, acceptedAnswer, refusedAnswer, refusal, answerOf}
 use Rattle.calls.proofs.Tests as tests
-use Rattle.calls.proofs.Causes.{common-none, promote-free}
 use Rattle.history.specs.Logged.{stateOf, refusalBy, answerBy}
+use Rattle.history.specs.Source.{Taken}
+use Rattle.history.proofs.Accepts as accepts
 use Rattle.running.specs.Execution.{ownLengths}
 use Rattle.program_calls.specs.Calls.{ownLent, goesOn, followedBy}
-use Rattle.program_calls.specs.Facts.{Taken, LastAnswer}
+use Rattle.program_calls.specs.Facts.{LastAnswer}
 
 module _ (l : Log) where
   -- ---- a call that no cause refuses, and one that a cause does
@@ -60,14 +63,23 @@ module _ (l : Log) where
       → answerBy ownLent l (deliver rs i) ≡ answer (refused (firstCause (deliverCauses ownLengths true l rs)))
   deliver-refused rs i f = refused-answer (deliver rs i) (firstCause (deliverCauses ownLengths true l rs)) (deliver-cause rs i) f ∙ unfold refusedAnswer row in refl
 
-  -- ---- promote, with nothing wanted
+  -- ---- choose, and promote of an active place, with nothing wanted
   module _ (fit : SettingsFit (l .settings)) (free : anyWanted (l .entries) ≡ false) where
-    pub promote-clear : refusalBy ownLent l promote ≡ 0
-    unfolding refusal causesOf row promoteCauses
-    promote-clear = promote-free ownLengths true l (common-none ownLengths true l (tests.enough ownLengths (l .settings) (omega arith) (reading-facts .most (l .settings) fit)) refl) free
+    enough : short ownLent (l .settings) ≡ false
+    enough = tests.enough ownLengths (l .settings) (omega arith) (reading-facts .most (l .settings) fit)
 
-    pub promote-answer : answerBy ownLent l promote ≡ answer (promotion (rule.promote l .outcome))
-    promote-answer = clear-answer promote promote-clear ∙ unfold acceptedAnswer row stateOf in refl
+    none : length (l .entries) ≤ firstWanted (l .entries)
+    unfolding anyWanted
+    none = ltb-false (firstWanted (l .entries)) (length (l .entries)) free
+
+    pub choose-answer : answerBy ownLent l choose ≡ answer (chosen (choice.choose l))
+    choose-answer = accepts.choose-answer ownLent l enough none
+
+    pub promote-clear : (p : ℕ) → Active (l .entries) p → refusalBy ownLent l (promote p) ≡ 0
+    promote-clear = accepts.promote-clear ownLent l enough none
+
+    pub promote-answer : (p : ℕ) → Active (l .entries) p → answerBy ownLent l (promote p) ≡ answer (promotion (rule.promoteAt l p .outcome))
+    promote-answer = accepts.promote-answer ownLent l enough none
 
   -- ---- what follows a call
 

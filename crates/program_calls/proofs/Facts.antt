@@ -11,9 +11,9 @@ use borrow.Author.Tests.{ne-eqb}
 use lib.Dec.{eqb}
 use Rattle.area.specs.declared.Settings.{Settings}
 use Rattle.area.specs.Settings.{SettingsFit}
-use Rattle.area.specs.Log.{Machine}
+use Rattle.area.specs.Log.{Log, Machine}
 use Rattle.machine.specs.Log.{anyWanted}
-use Rattle.machine.specs.Promote as rule
+use Rattle.machine.specs.Choose as choice
 use Rattle.machine.specs.Counts.{countOf}
 use Rattle.machine.specs.Steps as steps
 use Rattle.machine.specs.Causes.{firstCause, startCauses}
@@ -26,27 +26,30 @@ use Rattle.calls.proofs.Accepted.{startable}
 use Rattle.calls.proofs.Rows.{start-accepts}
 use Rattle.published.specs.Figure.{Problem}
 use Rattle.published.specs.Turns.{SettingsMatch, Supplied}
-use Rattle.published.proofs.Moments.{start-course}
+use Rattle.published.proofs.Course.{Course, start-course}
+use Rattle.published.proofs.ByRule.{ByRule, start-rule}
 use Rattle.history.specs.LentCalls.{LentCall}
 use Rattle.history.specs.Logged.{stateOf, answersBy}
+use Rattle.history.specs.Promotions.{AllChosen}
 use Rattle.history.specs.Storage.{Storage, areaLent, Lent, AllLent}
 use Rattle.history.specs.Found.{Demand}
-use Rattle.history.specs.Source.{MeanFollows, StepsFollow, lendAll}
+use Rattle.history.specs.Source.{MeanFollows, StepsFollow, RuleFollows, lendAll}
 use Rattle.history.proofs.Moves.{MachineInvariant}
 use Rattle.history.proofs.Steps.{lengths}
 use Rattle.history.proofs.Lists.{machineAfter, after-log, after-fine}
 use Rattle.history.proofs.Demand.{third-demand}
 use Rattle.history.proofs.Published.{mean-follows}
-use Rattle.history.proofs.Moments.{after-course, steps-of}
+use Rattle.history.proofs.Moments.{after-course, steps-of, after-rule, rule-of}
 use Rattle.jobfile.specs.Form.{formed, formOf, entryCount}
 use Rattle.reporting.specs.Text.{line, endWord, Ending, met, capped, spent, short, endingWord, reportText, refusalText}
 use Rattle.running.specs.Execution.{ownLengths, refusedAt, ended, execution, stepLimit, startByte, startCause, resultIn, resultOf, fileSettings}
 use Rattle.running.specs.Report.{reportValuesOf, textIn, textOf}
 use Rattle.running.specs.Facts.{AllowedResult}
 use Rattle.running.proofs.Facts.{execution-facts}
-use Rattle.program_calls.specs.Calls.{ownPart, lent, startCall, laterCalls, programLog}
+use Rattle.program_calls.specs.Calls.{ownPart, lent, startCall, InTurn, laterCalls, programLog, programPromotions}
 use Rattle.program_calls.specs.Facts.{EndingAnswers, EndsBy, RefusedBy, ResultBy, LoopEnded, Posed, ProgramIsCalls, PrintedEnd, EndMet, EndCapped, EndSpent, EndShort, ProgramFacts}
 use Rattle.program_calls.proofs.Answers.{start-taken, start-refused}
+use Rattle.program_calls.proofs.Places.{in-turn, turn-chosen}
 use Rattle.program_calls.proofs.Steps.{agrees}
 use Rattle.program_calls.proofs.Endings.{only-ended, refused-start, right-form, start-accepts-it}
 use Rattle.program_calls.proofs.Loops.{state-is, loop-ended, ended-problem, met-within, capped-above, loop-spent, spent-problem, still-wanted, loop-short, short-problem}
@@ -107,8 +110,25 @@ module _ (c : List ℕ) (right : formOf c ≡ formed) (none : startCause c ≡ 0
   means : MeanFollows (programLog c)
   means = subst MeanFollows log-is (mean-follows state state-fine)
 
-  follows : StepsFollow (programLog c)
-  follows = subst StepsFollow log-is (steps-of state state-fine (after-course (steps.started g) begun (start-course g) later))
+  course : Course (machineAfter (steps.started (fileSettings c)) (lendAll ownPart (laterCalls c)) .log) (programPromotions c)
+  unfolding programPromotions steps.started
+  course = after-course (steps.started g) begun [] (start-course g) later
+
+  follows : StepsFollow (programLog c) (programPromotions c)
+  follows = subst (λ (l : Log). StepsFollow l (programPromotions c)) log-is (steps-of state state-fine (programPromotions c) course)
+
+  both-in-turn : InTurn (steps.startLog (fileSettings c)) (laterCalls c)
+  unfolding laterCalls
+  both-in-turn = in-turn c stepLimit (steps.startLog g) 0
+
+  places : AllChosen (steps.startLog (fileSettings c)) (lendAll ownPart (laterCalls c))
+  places = turn-chosen (steps.startLog g) (laterCalls c) both-in-turn
+
+  ruled : RuleFollows (programLog c) (programPromotions c)
+  ruled = subst (λ (l : Log). RuleFollows l (programPromotions c)) log-is (rule-of (state .log) (programPromotions c) by-rule)
+    where
+      by-rule : ByRule (machineAfter (steps.started (fileSettings c)) (lendAll ownPart (laterCalls c)) .log) (programPromotions c)
+      by-rule = unfold programPromotions steps.started in after-rule (steps.started g) begun [] (start-course g) later (inl (start-rule g)) places
 
   -- ---- where it ends
 
@@ -122,7 +142,7 @@ module _ (c : List ℕ) (right : formOf c ≡ formed) (none : startCause c ≡ 0
 
     printed : (m ≡ stateOf (programLog c)) × (textOf c ≡ reportText (reportValuesOf e (stateOf (programLog c)) (entryCount c - used)))
     printed =
-        let same = state-is c fit follows e m used ends in
+        let same = state-is c fit follows ruled e m used ends in
         (same, text-is ∙ ap (λ (x : Machine). reportText (reportValuesOf e x (entryCount c - used))) same)
 
   refuses : (number byte : ℕ) → resultOf c ≡ refusedAt number byte → RefusedBy c (steps.startLog g) 0 (laterCalls c) number byte × (textOf c ≡ refusalText number byte)
@@ -131,22 +151,22 @@ module _ (c : List ℕ) (right : formOf c ≡ formed) (none : startCause c ≡ 0
       text : textOf c ≡ refusalText number byte
       text = unfold textOf in ap (textIn (entryCount c)) is ∙ unfold textIn in refl
 
-  -- met or capped is what promote answers last, with nothing wanted
-  ended-outcome : (e : Ending) (m : Machine) (used : ℕ) → (e ≡ met) ⊎ (e ≡ capped) → EndsBy c (steps.startLog g) 0 (laterCalls c) e m used
-      → (o : rule.Outcome) × ((o ≡ rule.met) ⊎ (o ≡ rule.capped)) × (anyWanted (m .log .entries) ≡ false) × (rule.promote (m .log) .outcome ≡ o)
-  ended-outcome e m used (inl q) by =
+  -- met or capped is what choose answers last, with nothing wanted
+  ended-choice : (e : Ending) (m : Machine) (used : ℕ) → (e ≡ met) ⊎ (e ≡ capped) → EndsBy c (steps.startLog g) 0 (laterCalls c) e m used
+      → (anyWanted (m .log .entries) ≡ false) × ((choice.choose (m .log) ≡ choice.met) ⊎ (choice.choose (m .log) ≡ choice.capped))
+  ended-choice e m used (inl q) by =
       let x = subst (λ k. EndingAnswers c k m used (answersBy (steps.startLog g) (lendAll ownPart (laterCalls c)))) q (by .answers) in
-      (rule.met, inl refl, x .1, x .2)
-  ended-outcome e m used (inr q) by =
+      (x .1, inl (x .2))
+  ended-choice e m used (inr q) by =
       let x = subst (λ k. EndingAnswers c k m used (answersBy (steps.startLog g) (lendAll ownPart (laterCalls c)))) q (by .answers) in
-      (rule.capped, inr refl, x .1, x .2)
+      (x .1, inr (x .2))
 
   ended-loop : (e : Ending) (m : Machine) (used : ℕ) → (e ≡ met) ⊎ (e ≡ capped) → EndsBy c (steps.startLog g) 0 (laterCalls c) e m used
       → (P : Problem) → SettingsMatch (fileSettings c) P → Supplied P (programLog c .entries) → LoopEnded P c e m used (countOf 2 (programLog c .entries))
-  ended-loop e m used which by = let x = ended-outcome e m used which by in loop-ended c fit follows e (x .0) m used by (x .1) (x .2) (x .3)
+  ended-loop e m used which by P posed supplied = let x = ended-choice e m used which by in loop-ended c fit follows ruled e m used by (x .0) P posed supplied (x .1)
 
   ended-posed : (e : Ending) (m : Machine) (used : ℕ) → (e ≡ met) ⊎ (e ≡ capped) → EndsBy c (steps.startLog g) 0 (laterCalls c) e m used → Posed c
-  ended-posed e m used which by = let x = ended-outcome e m used which by in ended-problem c fit follows e (x .0) m used by (x .1) (x .2) (x .3)
+  ended-posed e m used which by = ended-problem c fit follows ruled e m used by (ended-choice e m used which by .0)
 
   pub is-calls : ProgramIsCalls c
   is-calls =
@@ -155,6 +175,9 @@ module _ (c : List ℕ) (right : formOf c ≡ formed) (none : startCause c ≡ 0
         demand = demand;
         means = means;
         steps = follows;
+        in-turn = both-in-turn;
+        places = places;
+        rule = ruled;
         result = by-calls;
         ends = ends;
         printed = printed;
@@ -182,8 +205,11 @@ module _ (c : List ℕ) (e : Ending) (p : PrintedEnd c e) where
   fit-there : SettingsFit (fileSettings c)
   fit-there = fit c (p .right) (p .starts)
 
-  follows-there : StepsFollow (programLog c)
+  follows-there : StepsFollow (programLog c) (programPromotions c)
   follows-there = follows c (p .right) (p .starts)
+
+  ruled-there : RuleFollows (programLog c) (programPromotions c)
+  ruled-there = ruled c (p .right) (p .starts)
 
 end-met : (c before : List ℕ) → textOf c ≡ before ++ line endWord (endingWord met) → EndMet c
 end-met c before h =
@@ -194,7 +220,7 @@ end-met c before h =
       printed = p;
       loop = λ P posed supplied. (
         calls .loop-ended met (p .state) (p .used) (inl refl) (p .result) P posed supplied,
-        met-within c (fit-there c met p) (follows-there c met p) met rule.met (p .state) (p .used) by (inl refl) (by .answers .1) (by .answers .2) P posed supplied refl,
+        met-within c (fit-there c met p) (follows-there c met p) (ruled-there c met p) met (p .state) (p .used) by (by .answers .1) P posed supplied (by .answers .2),
       );
       problem = calls .problem met (p .state) (p .used) (inl refl) (p .result);
     }
@@ -208,7 +234,7 @@ end-capped c before h =
       printed = p;
       loop = λ P posed supplied. (
         calls .loop-ended capped (p .state) (p .used) (inr refl) (p .result) P posed supplied,
-        capped-above c (fit-there c capped p) (follows-there c capped p) capped rule.capped (p .state) (p .used) by (inr refl) (by .answers .1) (by .answers .2) P posed supplied refl,
+        capped-above c (fit-there c capped p) (follows-there c capped p) (ruled-there c capped p) capped (p .state) (p .used) by (by .answers .1) P posed supplied (by .answers .2),
       );
       problem = calls .problem capped (p .state) (p .used) (inr refl) (p .result);
     }
@@ -218,8 +244,8 @@ end-spent c before h =
     let p = printed-end c before spent h in
     record {
       printed = p;
-      loop = loop-spent c (fit-there c spent p) (follows-there c spent p) (p .state) (p .used) (by-end c spent p);
-      problem = spent-problem c (fit-there c spent p) (follows-there c spent p) (p .state) (p .used) (by-end c spent p);
+      loop = loop-spent c (fit-there c spent p) (follows-there c spent p) (ruled-there c spent p) (p .state) (p .used) (by-end c spent p);
+      problem = spent-problem c (fit-there c spent p) (follows-there c spent p) (ruled-there c spent p) (p .state) (p .used) (by-end c spent p);
     }
 
 end-short : (c before : List ℕ) → textOf c ≡ before ++ line endWord (endingWord short) → EndShort c
@@ -230,9 +256,9 @@ end-short c before h =
     record {
       printed = p;
       exhausted = omega (arith, by .answers .2, most);
-      wanted = still-wanted c (fit-there c short p) (follows-there c short p) (p .state) (p .used) by;
-      loop = loop-short c (fit-there c short p) (follows-there c short p) (p .state) (p .used) by;
-      problem = short-problem c (fit-there c short p) (follows-there c short p) (p .state) (p .used) by;
+      wanted = still-wanted c (fit-there c short p) (follows-there c short p) (ruled-there c short p) (p .state) (p .used) by;
+      loop = loop-short c (fit-there c short p) (follows-there c short p) (ruled-there c short p) (p .state) (p .used) by;
+      problem = short-problem c (fit-there c short p) (follows-there c short p) (ruled-there c short p) (p .state) (p .used) by;
     }
 
 pub program-facts : ProgramFacts

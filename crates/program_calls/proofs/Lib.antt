@@ -1,5 +1,6 @@
 -- The laws, lowest first.
 pub mod Answers
+pub mod Places
 pub mod Steps
 pub mod Endings
 pub mod Loops

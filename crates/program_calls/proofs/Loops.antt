@@ -1,12 +1,12 @@
 -- Where a run ends, beside the loop of Fig. 1.
--- The idea: the state that is printed is the one that the log after the calls stands for, and that log follows Fig. 1; what promote answers at
--- it says whether the loop's test holds, and whether the next turn passes the limits.
+-- The idea: the state that is printed is the one that the log after the calls stands for, and that log follows Fig. 1; what choose
+-- answers at it says whether the loop's test holds, and promote whether the next turn passes the limits.
 -- Assumes nothing.
 use mathlib.Core.Path.{_≡_, refl, ap, sym, _∙_, subst}
 use mathlib.Core.Logic.{_⊎_, inl, inr}
 use mathlib.Core.Bool.{Bool, true, false}
 use mathlib.Core.List.{List}
-use Prim.Native.Nat.{ℕ, suc, _+_, _-_}
+use Prim.Native.Nat.{ℕ, suc, _+_, _-_, _<_}
 use native.Mathlib.Omega.{arith}
 use lib.IntN.{_+ℤ_}
 use Rattle.sums.specs.Sums.{sumOf}
@@ -14,35 +14,46 @@ use Rattle.area.specs.declared.Settings.{Settings}
 use Rattle.area.specs.Settings.{SettingsFit}
 use Rattle.area.specs.Entry.{pendingOf, carriedOf}
 use Rattle.area.specs.Log.{Log, Machine}
-use Rattle.machine.specs.Log.{anyWanted}
+use Rattle.encoding.specs.Entries.{entryAt}
+use Rattle.machine.specs.Log.{anyWanted, Active}
+use Rattle.machine.specs.Choose as choice
 use Rattle.machine.specs.Promote as rule
 use Rattle.machine.specs.Steps.{startLog}
 use Rattle.machine.specs.Counts.{countOf, countsOf}
 use Rattle.machine.specs.Means.{crossOf}
 use Rattle.machine.specs.Admitted.{totalOf}
-use Rattle.machine.specs.Facts.{errorsOf}
-use Rattle.machine.proofs.Answers.{met-only, capped-only}
-use Rattle.calls.specs.Replies.{promotion}
-use Rattle.calls.specs.Table.{promote, answer}
-use Rattle.published.specs.Figure.{Problem, increment, loopCondition, turns}
+use Rattle.calls.specs.Replies.{chosen, promotion}
+use Rattle.calls.specs.Table.{choose, promote, answer}
+use Rattle.published.specs.Figure.{Problem, increment, loopCondition, select, turnAt, turn, turns, led}
 use Rattle.published.specs.Turns.{wantedOf, SettingsMatch, ReadingValued, Supplied, SuppliedSoFar, ExceedsLimits}
 use Rattle.history.specs.Logged.{stateOf, answerBy}
-use Rattle.history.specs.Source.{Follows, FollowsSoFar, StepsFollow}
+use Rattle.history.specs.Source.{Follows, FollowsSoFar, StepsFollow, RuleFollows}
 use Rattle.jobfile.specs.Form.{entryCount}
 use Rattle.reporting.specs.Text.{Ending, spent, short}
 use Rattle.running.specs.Execution.{fileSettings}
 use Rattle.running.specs.Report.{reportValuesOf}
-use Rattle.program_calls.specs.Calls.{ownLent, laterCalls, programLog}
+use Rattle.program_calls.specs.Calls.{ownLent, laterCalls, programLog, programPromotions}
 use Rattle.program_calls.specs.Facts.{EndsBy, LoopEnded, WithinTolerance, LoopSpent, LoopShort, Posed}
-use Rattle.program_calls.proofs.Answers.{promote-answer}
+use Rattle.program_calls.proofs.Answers.{choose-answer, promote-answer}
 
-module _ (c : List ℕ) (fit : SettingsFit (fileSettings c)) (follows : StepsFollow (programLog c)) where
+module _ (c : List ℕ) (fit : SettingsFit (fileSettings c)) (follows : StepsFollow (programLog c) (programPromotions c)) (ruled : RuleFollows (programLog c) (programPromotions c)) where
   -- as many turns as old indices
   abbrev made : ℕ
   made = countOf 2 (programLog c .entries)
 
   abbrev Ends : Ending → Machine → ℕ → Type 0
   Ends e m used = EndsBy c (startLog (fileSettings c)) 0 (laterCalls c) e m used
+
+  -- Fig. 1 led by what was made old makes its own turns
+  module _ (P : Problem) (posed : SettingsMatch (programLog c .settings) P) (given : SuppliedSoFar P (programLog c .entries)) where
+    itself : led P (programPromotions c) ≡ turns P made
+    itself = ruled .itself P posed given ∙ ap (turns P) (follows .count)
+
+    went : (k : ℕ) → k < made → loopCondition P (turns P k) ≡ true
+    went k h = ruled .went-on P posed given k (omega (arith, h, follows .count))
+
+  so-far : (P : Problem) → Supplied P (programLog c .entries) → SuppliedSoFar P (programLog c .entries)
+  so-far P given = record { readings = λ p h s. given .readings p h; indicators = λ p h s. given .indicators p h }
 
   module _ (e : Ending) (m : Machine) (used : ℕ) (ends : Ends e m used) where
     pub state-is : m ≡ stateOf (programLog c)
@@ -68,19 +79,26 @@ module _ (c : List ℕ) (fit : SettingsFit (fileSettings c)) (follows : StepsFol
     carried-is : reportValuesOf e m (entryCount c - used) .carried ≡ carriedOf (programLog c .settings .axes) (programLog c .entries)
     carried-is = unfold reportValuesOf countsOf in ap (λ (l : Log). carriedOf (l .settings .axes) (l .entries)) log-same
 
-    -- ---- with nothing wanted, where promote has this outcome
-    module _ (o : rule.Outcome) (none : anyWanted (m .log .entries) ≡ false) (is : rule.promote (m .log) .outcome ≡ o) where
+    -- ---- with nothing wanted
+    module _ (none : anyWanted (m .log .entries) ≡ false) where
       free : anyWanted (programLog c .entries) ≡ false
       free = subst (λ (x : Log). anyWanted (x .entries) ≡ false) log-same none
 
-      outcome : rule.promote (programLog c) .outcome ≡ o
-      outcome = subst (λ (x : Log). rule.promote x .outcome ≡ o) log-same is
+      fit-here : SettingsFit (programLog c .settings)
+      fit-here = subst SettingsFit (sym settings-are) fit
 
-      again : answerBy ownLent (programLog c) promote ≡ answer (promotion o)
-      again = promote-answer (programLog c) (subst SettingsFit (sym settings-are) fit) free ∙ ap (λ x. answer (promotion x)) outcome
+      -- what choose answers at that log
+      chooses : (x : choice.Choice) → choice.choose (m .log) ≡ x → answerBy ownLent (programLog c) choose ≡ answer (chosen x)
+      chooses x is = choose-answer (programLog c) fit-here free ∙ ap (λ y. answer (chosen y)) (subst (λ (o : Log). choice.choose o ≡ x) log-same is)
 
-      there : (P : Problem) → SettingsMatch (fileSettings c) P → Supplied P (programLog c .entries) → Follows P (programLog c) made
-      there P posed supplied = follows .every P (posed-here P posed) supplied
+      promotes : (p : ℕ) (o : rule.Outcome) → Active (programLog c .entries) p → rule.promoteAt (m .log) p .outcome ≡ o → answerBy ownLent (programLog c) (promote p) ≡ answer (promotion o)
+      promotes p o a is =
+          promote-answer (programLog c) fit-here free p a ∙ ap (λ y. answer (promotion y)) (subst (λ (x : Log). rule.promoteAt x p .outcome ≡ o) log-same is)
+
+      there : (P : Problem) → SettingsMatch (fileSettings c) P → Supplied P (programLog c .entries) → Follows P (programLog c) (turns P made)
+      there P posed supplied =
+          let match = posed-here P posed in
+          subst (Follows P (programLog c)) (itself P match (so-far P supplied)) (follows .every P match supplied)
 
       posed-problem : Posed c
       posed-problem =
@@ -88,49 +106,45 @@ module _ (c : List ℕ) (fit : SettingsFit (fileSettings c)) (follows : StepsFol
           (x .0, subst (λ s. SettingsMatch s (x .0)) settings-are (x .1), x .2, x .3)
 
   -- ---- met or capped
-  module _ (e : Ending) (o : rule.Outcome) (m : Machine) (used : ℕ) (ends : Ends e m used) (ended-by : (o ≡ rule.met) ⊎ (o ≡ rule.capped))
-      (none : anyWanted (m .log .entries) ≡ false) (is : rule.promote (m .log) .outcome ≡ o) where
-    pub loop-ended : (P : Problem) → SettingsMatch (fileSettings c) P → Supplied P (programLog c .entries) → LoopEnded P c e m used made
-    loop-ended P posed supplied =
-        record {
-          follows = here;
-          went-on = here .went-on;
-          over = over-by (loopCondition P (turns P made)) refl;
-          scaled = scaled-is e m used ends ∙ here .result;
-          pending = pending-is e m used ends ∙ here .pending;
-          carried = carried-is e m used ends ∙ here .carried;
-        }
-      where
-        here : Follows P (programLog c) made
-        here = there e m used ends o none is P posed supplied
-
-        said : answerBy ownLent (programLog c) promote ≡ answer (promotion o)
-        said = again e m used ends o none is
-
-        goes : loopCondition P (turns P made) ≡ true → (o ≡ rule.met) ⊎ (o ≡ rule.capped) → ⊥
-        goes q (inl f) = here .goes-on ownLent q .0 (said ∙ ap (λ x. answer (promotion x)) f)
-        goes q (inr f) = here .goes-on ownLent q .1 (said ∙ ap (λ x. answer (promotion x)) f)
-
-        over-by : (t : Bool) → loopCondition P (turns P made) ≡ t → loopCondition P (turns P made) ≡ false
-        over-by true q = absurd (goes q ended-by)
-        over-by false q = q
-
+  module _ (e : Ending) (m : Machine) (used : ℕ) (ends : Ends e m used) (none : anyWanted (m .log .entries) ≡ false) where
     pub ended-problem : Posed c
-    ended-problem = posed-problem e m used ends o none is
+    ended-problem = posed-problem e m used ends none
 
-    -- η and carried together, as the outcome says
     module _ (P : Problem) (posed : SettingsMatch (fileSettings c) P) (supplied : Supplied P (programLog c .entries)) where
-      sums : errorsOf (programLog c) ≡ turns P made .estimate + turns P made .carried
-      sums = let here = there e m used ends o none is P posed supplied in omega (arith, here .pending, here .carried)
+      here : Follows P (programLog c) (turns P made)
+      here = there e m used ends none P posed supplied
 
-      tolerance : P .tolerance ≡ programLog c .settings .threshold
-      tolerance = posed-here e m used ends P posed .tolerance
+      ended-met : choice.choose (m .log) ≡ choice.met → (loopCondition P (turns P made) ≡ true → ⊥) × WithinTolerance P made
+      ended-met is = here .met-only ownLent (chooses e m used ends none choice.met is)
 
-      pub met-within : o ≡ rule.met → WithinTolerance P made
-      met-within f = omega (arith, sums, tolerance, met-only (programLog c) (outcome e m used ends o none is ∙ f))
+      ended-capped : choice.choose (m .log) ≡ choice.capped → (loopCondition P (turns P made) ≡ true → ⊥) × (P .tolerance < turns P made .estimate + turns P made .carried)
+      ended-capped is = here .capped-only ownLent (chooses e m used ends none choice.capped is)
 
-      pub capped-above : o ≡ rule.capped → WithinTolerance P made → ⊥
-      capped-above f w = omega (arith, sums, tolerance, w, capped-only (programLog c) (outcome e m used ends o none is ∙ f) .1)
+      fails : (choice.choose (m .log) ≡ choice.met) ⊎ (choice.choose (m .log) ≡ choice.capped) → loopCondition P (turns P made) ≡ true → ⊥
+      fails (inl is) = ended-met is .0
+      fails (inr is) = ended-capped is .0
+
+      pub loop-ended : (choice.choose (m .log) ≡ choice.met) ⊎ (choice.choose (m .log) ≡ choice.capped) → LoopEnded P c e m used made
+      loop-ended ended-by =
+          record {
+            follows = here;
+            went-on = went P (posed-here e m used ends P posed) (so-far P supplied);
+            over = over-by (loopCondition P (turns P made)) refl;
+            scaled = scaled-is e m used ends ∙ here .result;
+            pending = pending-is e m used ends ∙ here .pending;
+            carried = carried-is e m used ends ∙ here .carried;
+          }
+        where
+          over-by : (t : Bool) → loopCondition P (turns P made) ≡ t → loopCondition P (turns P made) ≡ false
+          over-by true q = absurd (fails ended-by q)
+          over-by false q = q
+
+      -- η and carried together, as the choice says
+      pub met-within : choice.choose (m .log) ≡ choice.met → WithinTolerance P made
+      met-within is = ended-met is .1
+
+      pub capped-above : choice.choose (m .log) ≡ choice.capped → WithinTolerance P made → ⊥
+      capped-above is w = omega (arith, w, ended-capped is .1)
 
   -- ---- spent
   module _ (m : Machine) (used : ℕ) (ends : Ends spent m used) where
@@ -138,22 +152,31 @@ module _ (c : List ℕ) (fit : SettingsFit (fileSettings c)) (follows : StepsFol
     loop-spent P posed supplied =
         record {
           follows = here;
-          went-on = here .went-on;
-          not-over = why .0;
-          exceeds = subst (λ (s : Settings). ExceedsLimits (s .budget) (turns P (suc made))) (settings-are spent m used ends) (why .1);
+          went-on = went P (posed-here spent m used ends P posed) (so-far P supplied);
+          not-over = chosen-there .0;
+          exceeds = subst (λ (s : Settings). ExceedsLimits (s .budget) (turns P (suc made))) (settings-are spent m used ends) next;
           scaled = scaled-is spent m used ends ∙ here .result;
           pending = pending-is spent m used ends ∙ here .pending;
           carried = carried-is spent m used ends ∙ here .carried;
         }
       where
-        here : Follows P (programLog c) made
-        here = there spent m used ends rule.spent (ends .answers .1) (ends .answers .2) P posed supplied
+        here : Follows P (programLog c) (turns P made)
+        here = there spent m used ends (ends .answers .1) P posed supplied
 
-        why : (loopCondition P (turns P made) ≡ true) × ExceedsLimits (programLog c .settings .budget) (turns P (suc made))
-        why = here .spent-only ownLent (again spent m used ends rule.spent (ends .answers .1) (ends .answers .2))
+        p : ℕ
+        p = ends .answers .2 .0
+
+        chosen-there : (loopCondition P (turns P made) ≡ true) × Active (programLog c .entries) p × (entryAt (programLog c .entries) p .levels ≡ select P (turns P made))
+        chosen-there = here .place-only ownLent p (chooses spent m used ends (ends .answers .1) (choice.place p) (ends .answers .2 .1))
+
+        next : ExceedsLimits (programLog c .settings .budget) (turns P (suc made))
+        next =
+            unfold turns turn in
+            subst (λ i. ExceedsLimits (programLog c .settings .budget) (turnAt P i (turns P made))) (chosen-there .2)
+            (here .spent-only ownLent p (promotes spent m used ends (ends .answers .1) p rule.spent (chosen-there .1) (ends .answers .2 .2)) .1)
 
     pub spent-problem : Posed c
-    spent-problem = posed-problem spent m used ends rule.spent (ends .answers .1) (ends .answers .2)
+    spent-problem = posed-problem spent m used ends (ends .answers .1)
 
   -- ---- short
   module _ (m : Machine) (used : ℕ) (ends : Ends short m used) where
@@ -164,13 +187,16 @@ module _ (c : List ℕ) (fit : SettingsFit (fileSettings c)) (follows : StepsFol
     loop-short P posed supplied =
         record {
           follows = here;
+          went-on = went P (posed-here short m used ends P posed) supplied;
           scaled = ap (λ z. z +ℤ sumOf (wantedOf (programLog c .entries)) (increment P)) (scaled-is short m used ends) ∙ here .result;
           pending = ap (λ n. n + totalOf (P .indicator) (wantedOf (programLog c .entries))) (pending-is short m used ends) ∙ here .pending;
           carried = carried-is short m used ends ∙ here .carried;
         }
       where
-        here : FollowsSoFar P (programLog c) made
-        here = follows .every-moment P (posed-here short m used ends P posed) supplied
+        here : FollowsSoFar P (programLog c) (turns P made)
+        here =
+            let match = posed-here short m used ends P posed in
+            subst (FollowsSoFar P (programLog c)) (itself P match supplied) (follows .every-moment P match supplied)
 
     pub short-problem : (P : Problem) × SettingsMatch (fileSettings c) P × ReadingValued P × SuppliedSoFar P (programLog c .entries)
     short-problem =

@@ -3,7 +3,6 @@
 -- to the log what the execution does to its state, whose mean is worked from its readings.
 -- Assumes nothing.
 use mathlib.Core.Path.{_≡_, refl, ap, sym, _∙_, subst}
-use mathlib.Core.Logic.{inl, inr}
 use mathlib.Core.Bool.{Bool, true, false, cond}
 use mathlib.Core.List.{List, [], _∷_}
 use Prim.Native.Nat.{ℕ, zero, suc, _+_}
@@ -12,28 +11,30 @@ use borrow.Author.Tests.{eqb-true, eqb-false, leb-true, leb-false}
 use lib.Dec.{leb, eqb}
 use lib.IntN.{ℤ}
 use Rattle.area.specs.Log.{Log, Machine}
-use Rattle.machine.specs.Log.{anyWanted}
+use Rattle.machine.specs.Log.{anyWanted, Active}
+use Rattle.machine.specs.Choose as choice
 use Rattle.machine.specs.Promote as rule
 use Rattle.machine.specs.Steps as steps
-use Rattle.calls.specs.Replies.{refused, accepted, promotion}
-use Rattle.calls.specs.Table.{Call, deliver, promote, Answer, answer, row, effectOf, changed}
+use Rattle.machine.proofs.Answers.{promoted-settings, spent-not}
+use Rattle.machine.proofs.Choices.{choose-facts}
+use Rattle.calls.specs.Replies.{refused, accepted, chosen, promotion}
+use Rattle.calls.specs.Table.{Call, deliver, choose, promote, Answer, answer, row, effectOf, changed}
 use Rattle.calls.proofs.Rows.{promote-effect}
-use Rattle.calls.proofs.Outcomes.{promoted-settings}
 use Rattle.history.specs.Logged.{stateOf, refusalBy, logStep, logAfter, answerBy, answersBy}
-use Rattle.history.specs.Source.{lendAll}
+use Rattle.history.specs.Source.{lendAll, Taken, is-accepted, is-chosen, is-promoted}
 use Rattle.history.proofs.Moves.{MachineInvariant, from-log, moved-fine}
-use Rattle.history.proofs.LogSteps.{log-facts}
+use Rattle.history.proofs.LogSteps.{promote-accepted, log-facts}
 use Rattle.jobfile.specs.Form.{entryCount}
 use Rattle.jobfile.specs.File.{entryOf}
 use Rattle.reporting.specs.Text.{Ending, met, capped, spent, short}
-use Rattle.running.specs.Execution.{Result, refusedAt, ended, unfinished, deliveryCause, deliveryByte, byOutcome, execution, fileSettings}
+use Rattle.running.specs.Execution.{Result, refusedAt, ended, unfinished, deliveryCause, deliveryByte, byOutcome, byChoice, execution, fileSettings}
 use Rattle.running.specs.Facts.{NamesReading}
 use Rattle.running.proofs.Ends.{delivery-numbers}
 use Rattle.running.proofs.NamedBytes.{range-only}
 use Rattle.running.proofs.Facts.{execution-facts}
-use Rattle.program_calls.specs.Calls.{ownPart, ownLent, lent, entryCall, goesOnAfter, goesOn, followedBy, callsFrom, nextEntry, deliveriesFrom}
-use Rattle.program_calls.specs.Facts.{Taken, LastAnswer, EndingAnswers, EndsBy, RefusedBy, ResultBy}
-use Rattle.program_calls.proofs.Answers.{deliver-cause, deliver-taken, deliver-refused, promote-clear, promote-answer, goes-on, stops, only, after-taken}
+use Rattle.program_calls.specs.Calls.{ownPart, ownLent, lent, entryCall, goesOnWith, goesOnAfter, goesOn, followedBy, chosenPlace, promoteCall, callsFrom, nextEntry, deliveriesFrom}
+use Rattle.program_calls.specs.Facts.{LastAnswer, EndingAnswers, EndsBy, RefusedBy, ResultBy}
+use Rattle.program_calls.proofs.Answers.{deliver-cause, deliver-taken, deliver-refused, choose-answer, promote-clear, promote-answer, goes-on, stops, only, after-taken}
 
 -- ---- a call before the others, which the program goes on after
 
@@ -87,7 +88,7 @@ module _ (c : List ℕ) where
     unfolding nextEntry goesOn
     delivering none =
         subst (λ xs. ResultBy c l i xs (execution c n (steps.deliver m rs ind) (i + 1))) (sym (goes-on l (entryCall c i) (answer accepted) next taken refl))
-        (one-more c l i (entryCall c i) next (inl taken) (execution c n (steps.deliver m rs ind) (i + 1))
+        (one-more c l i (entryCall c i) next (is-accepted taken) (execution c n (steps.deliver m rs ind) (i + 1))
         (subst (λ (o : Log). ResultBy c o (i + 1) (callsFrom c n o (i + 1)) (execution c n (steps.deliver m rs ind) (i + 1))) (sym stepped)
         (later (steps.deliver m rs ind) (i + 1) fine (unfold steps.deliver in g))))
       where
@@ -147,59 +148,87 @@ module _ (c : List ℕ) where
 
     -- ---- nothing is wanted
     module _ (free : anyWanted (l .entries) ≡ false) where
-      abbrev after : List Call
-      after = callsFrom c n (logStep l (lent promote)) i
+      said : answerBy ownLent l choose ≡ answer (chosen (choice.choose l))
+      said = choose-answer l (f .sound .settings) free
 
-      said : answerBy ownLent l promote ≡ answer (promotion (rule.promote l .outcome))
-      said = promote-answer l (f .sound .settings) free
+      -- a call that leaves the log, and the last one
+      last-call : (x : Call) (y : Answer) (xs : List Call) (e : Ending) → answerBy ownLent l x ≡ y → goesOn (y .reply) ≡ false → logStep l (lent x) ≡ l → nextEntry i x ≡ i
+          → ((ys : List Answer) → LastAnswer y ys → EndingAnswers c e m i ys) → ResultBy c l i (followedBy l x xs) (ended e m i)
+      last-call x y xs e there stop same used so =
+          subst (λ zs. EndsBy c l i zs e m i) (sym (stops l x y xs there stop))
+          (unfold lendAll answersBy logAfter deliveriesFrom in
+          record { state = from-log m f ∙ ap stateOf (sym same); settings = g; answers = so _ (only _ _ there); entries = sym used })
 
-      -- met, capped or spent: the last call
-      idle : (o : rule.Outcome) (e : Ending) → rule.promote l .outcome ≡ o → goesOnAfter o ≡ false → (o ≡ rule.promoted → ⊥)
-          → ((ys : List Answer) → LastAnswer (answer (promotion o)) ys → EndingAnswers c e m i ys)
-          → ResultBy c l i (followedBy l promote after) (ended e m i)
-      unfolding goesOn
-      idle o e is stop not so =
-          subst (λ xs. EndsBy c l i xs e m i) (sym (stops l promote (answer (promotion o)) after there stop)) last-one
-        where
-          there : answerBy ownLent (m .log) promote ≡ answer (promotion o)
-          there = said ∙ ap (λ x. answer (promotion x)) is
+      -- ---- a place is chosen
+      module _ (p : ℕ) (chose : choice.choose (m .log) ≡ choice.place p) where
+        abbrev after : List Call
+        after = callsFrom c n (logStep l (lent (promote p))) i
 
-          last-one : EndsBy c (m .log) i (promote ∷ []) e m i
-          last-one =
-              unfold lendAll answersBy logAfter deliveriesFrom nextEntry in
-              record {
-                state = from-log m f ∙ ap stateOf (sym (log-facts .idle-promote (m .log) (lent promote) refl (λ q. not (sym is ∙ q))));
-                settings = g;
-                answers = so _ (only _ _ there);
-                entries = refl;
-              }
+        a : Active (m .log .entries) p
+        a = choose-facts .place-active (m .log) p chose
 
-      promoting : rule.promote l .outcome ≡ rule.promoted → ResultBy c l i (followedBy l promote after) (execution c n (steps.promoteStep m) i)
-      unfolding nextEntry goesOn goesOnAfter
-      promoting is =
-          subst (λ xs. ResultBy c l i xs (execution c n (steps.promoteStep m) i)) (sym (goes-on l promote (answer (promotion rule.promoted)) after there refl))
-          (one-more c l i promote after (inr there) (execution c n (steps.promoteStep m) i)
-          (subst (λ (o : Log). ResultBy c o i (callsFrom c n o i) (execution c n (steps.promoteStep m) i)) (sym stepped)
-          (later (steps.promoteStep m) i fine (unfold steps.promoteStep in promoted-settings (m .log) ∙ g))))
-        where
-          there : answerBy ownLent (m .log) promote ≡ answer (promotion rule.promoted)
-          there = said ∙ ap (λ x. answer (promotion x)) is
+        answers : (o : rule.Outcome) → rule.promoteAt l p .outcome ≡ o → answerBy ownLent l (promote p) ≡ answer (promotion o)
+        answers o is = promote-answer l (f .sound .settings) free p a ∙ ap (λ x. answer (promotion x)) is
 
-          none : refusalBy ownLent (m .log) promote ≡ 0
-          none = promote-clear (m .log) (f .sound .settings) free
+        spending : rule.promoteAt l p .outcome ≡ rule.spent → ResultBy c l i (followedBy l (promote p) after) (ended spent m i)
+        unfolding goesOn goesOnAfter nextEntry
+        spending is =
+            last-call (promote p) (answer (promotion rule.spent)) after spent (answers rule.spent is) refl
+            (log-facts .idle-promote l (lent (promote p)) p refl (λ q. spent-not is q)) refl (λ ys x. (x, free, (p, chose, is)))
 
-          stepped : logStep (m .log) (lent promote) ≡ steps.promoteStep m .log
-          stepped = unfold steps.promoteStep in log-facts .accepted-promote (m .log) (lent promote) refl none
+        promoting : rule.promoteAt l p .outcome ≡ rule.promoted → ResultBy c l i (followedBy l (promote p) after) (execution c n (steps.promoteStep m p) i)
+        unfolding nextEntry goesOn goesOnAfter
+        promoting is =
+            subst (λ xs. ResultBy c l i xs (execution c n (steps.promoteStep m p) i)) (sym (goes-on l (promote p) (answer (promotion rule.promoted)) after (answers rule.promoted is) refl))
+            (one-more c l i (promote p) after (is-promoted (answers rule.promoted is)) (execution c n (steps.promoteStep m p) i)
+            (subst (λ (o : Log). ResultBy c o i (callsFrom c n o i) (execution c n (steps.promoteStep m p) i)) (sym stepped)
+            (later (steps.promoteStep m p) i fine (unfold steps.promoteStep in promoted-settings (m .log .settings .budget) (m .log) p ∙ g))))
+          where
+            none : refusalBy ownLent (m .log) (promote p) ≡ 0
+            none = promote-clear (m .log) (f .sound .settings) free p a
 
-          fine : MachineInvariant (steps.promoteStep m)
-          fine = subst MachineInvariant (promote-effect m) (moved-fine m f ownLent promote none)
+            stepped : logStep (m .log) (lent (promote p)) ≡ steps.promoteStep m p .log
+            stepped = unfold steps.promoteStep in promote-accepted (m .log) (lent (promote p)) p refl none
 
-      without : (o : rule.Outcome) → rule.promote l .outcome ≡ o → ResultBy c l i (followedBy l promote after) (byOutcome o m i (execution c n (steps.promoteStep m) i))
-      unfolding byOutcome goesOnAfter
-      without rule.met e = idle rule.met met e refl (λ q. let z : _≡_ {A = ℕ} 0 1 = cc in omega arith) (λ ys a. (a, free, e))
-      without rule.capped e = idle rule.capped capped e refl (λ q. let z : _≡_ {A = ℕ} 0 1 = cc in omega arith) (λ ys a. (a, free, e))
-      without rule.spent e = idle rule.spent spent e refl (λ q. let z : _≡_ {A = ℕ} 0 1 = cc in omega arith) (λ ys a. (a, free, e))
-      without rule.promoted e = promoting e
+            fine : MachineInvariant (steps.promoteStep m p)
+            fine = subst MachineInvariant (promote-effect m p) (moved-fine m f ownLent (promote p) none)
+
+        by-outcome : (o : rule.Outcome) → rule.promoteAt l p .outcome ≡ o → ResultBy c l i (followedBy l (promote p) after) (byOutcome o m i (execution c n (steps.promoteStep m p) i))
+        unfolding byOutcome
+        by-outcome rule.spent e = spending e
+        by-outcome rule.promoted e = promoting e
+
+        place-is : chosenPlace (choice.choose (m .log)) ≡ p
+        place-is = ap chosenPlace chose ∙ unfold chosenPlace in refl
+
+        abbrev made : Result
+        made = byOutcome (rule.promoteAt l p .outcome) m i (execution c n (steps.promoteStep m p) i)
+
+        choosing : ResultBy c l i (followedBy l choose (followedBy l (promoteCall l) (callsFrom c n (logStep l (lent (promoteCall l))) i))) made
+        unfolding nextEntry goesOn goesOnWith
+        choosing =
+            subst (λ xs. ResultBy c l i xs made) (sym (goes-on l choose (answer (chosen (choice.place p))) rest there refl))
+            (one-more c l i choose rest (is-chosen p there) made
+            (subst (λ (o : Log). ResultBy c o i rest made) (sym (log-facts .after-choose l (lent choose) refl))
+            (subst (λ q. ResultBy c l i (followedBy l (promote q) (callsFrom c n (logStep l (lent (promote q))) i)) made) (sym place-is)
+            (by-outcome (rule.promoteAt l p .outcome) refl))))
+          where
+            rest : List Call
+            rest = followedBy (m .log) (promoteCall (m .log)) (callsFrom c n (logStep (m .log) (lent (promoteCall (m .log)))) i)
+
+            there : answerBy ownLent (m .log) choose ≡ answer (chosen (choice.place p))
+            there = said ∙ ap (λ x. answer (chosen x)) chose
+
+      abbrev rest : List Call
+      rest = followedBy l (promoteCall l) (callsFrom c n (logStep l (lent (promoteCall l))) i)
+
+      by-choice : (x : choice.Choice) → choice.choose l ≡ x → ResultBy c l i (followedBy l choose rest) (byChoice x m i (λ p. execution c n (steps.promoteStep m p) i))
+      unfolding byChoice goesOn goesOnWith nextEntry
+      by-choice choice.met e =
+          last-call choose (answer (chosen choice.met)) rest met (said ∙ ap (λ x. answer (chosen x)) e) refl (log-facts .after-choose l (lent choose) refl) refl (λ ys x. (x, free, e))
+      by-choice choice.capped e =
+          last-call choose (answer (chosen choice.capped)) rest capped (said ∙ ap (λ x. answer (chosen x)) e) refl (log-facts .after-choose l (lent choose) refl) refl (λ ys x. (x, free, e))
+      by-choice (choice.place p) e = choosing p e
 
     one-step : ResultBy c l i (callsFrom c (suc n) l i) (execution c (suc n) m i)
     unfolding execution callsFrom
@@ -209,13 +238,13 @@ module _ (c : List ℕ) where
             → ResultBy c (m .log) i
             (cond t
             (cond (leb (entryCount c) i) [] (followedBy (m .log) (entryCall c i) (callsFrom c n (logStep (m .log) (lent (entryCall c i))) (i + 1))))
-            (followedBy (m .log) promote (callsFrom c n (logStep (m .log) (lent promote)) i)))
+            (followedBy (m .log) choose (followedBy (m .log) (promoteCall (m .log)) (callsFrom c n (logStep (m .log) (lent (promoteCall (m .log)))) i))))
             (cond t
             (cond (leb (entryCount c) i) (ended short m i)
             (cond (eqb (deliveryCause c m i) 0) (execution c n (steps.deliver m (entryOf c i .readings) (entryOf c i .indicator)) (i + 1)) (refusedAt (deliveryCause c m i) (deliveryByte c i (deliveryCause c m i)))))
-            (byOutcome (rule.promote (m .log) .outcome) m i (execution c n (steps.promoteStep m) i)))
+            (byChoice (choice.choose (m .log)) m i (λ p. execution c n (steps.promoteStep m p) i)))
         step true e = with-wanted e (leb (entryCount c) i) refl
-        step false e = without e (rule.promote (m .log) .outcome) refl
+        step false e = by-choice e (choice.choose (m .log)) refl
 
   pub agrees : (n : ℕ) → Agrees n
   unfolding execution callsFrom

@@ -10,36 +10,35 @@ use lib.IntN.{_+ℤ_}
 use Rattle.sums.specs.Sums.{sumOf}
 use Rattle.area.specs.Log.{Log, Machine}
 use Rattle.machine.specs.Log.{anyWanted}
+use Rattle.machine.specs.Choose as choice
 use Rattle.machine.specs.Promote as rule
 use Rattle.machine.specs.Steps.{startLog}
 use Rattle.machine.specs.Counts.{countOf}
 use Rattle.machine.specs.Admitted.{totalOf}
-use Rattle.calls.specs.Replies.{refused, accepted, promotion}
+use Rattle.calls.specs.Replies.{refused, accepted, chosen, promotion}
 use Rattle.calls.specs.Table.{Call, Answer, answer}
 use Rattle.published.specs.Figure.{Problem, increment, loopCondition, turns}
 use Rattle.published.specs.Turns.{wantedOf, SettingsMatch, ReadingValued, Supplied, SuppliedSoFar, ExceedsLimits}
 use Rattle.history.specs.Logged.{stateOf, logAfter, answerBy, answersBy}
 use Rattle.history.specs.Storage.{Storage, Lent}
+use Rattle.history.specs.Promotions.{AllChosen}
 use Rattle.history.specs.Found.{Demand}
-use Rattle.history.specs.Source.{MeanFollows, Follows, FollowsSoFar, StepsFollow, lendAll}
+use Rattle.history.specs.Source.{MeanFollows, Follows, FollowsSoFar, StepsFollow, RuleFollows, lendAll, Taken}
 use Rattle.jobfile.specs.Form.{formed, formOf, entryCount, entryByte}
 use Rattle.reporting.specs.Text.{line, endWord, Ending, met, capped, spent, short, endingWord, reportText, refusalText}
 use Rattle.running.specs.Execution.{Result, refusedAt, ended, unfinished, deliveryByte, startByte, startCause, resultOf, fileSettings}
 use Rattle.running.specs.Report.{reportValuesOf, textOf}
 use Rattle.running.specs.Facts.{ByDelivery, NamesReading}
-use Rattle.program_calls.specs.Calls.{ownPart, ownLent, lent, startCall, entryCall, laterCalls, programLog, deliveriesFrom}
+use Rattle.program_calls.specs.Calls.{ownPart, ownLent, lent, startCall, entryCall, InTurn, laterCalls, programLog, programPromotions, deliveriesFrom}
 
 -- ---- the answers
 
--- *Accepted*, or *promoted*.
-abbrev pub Taken : Answer → Type 0
-Taken y = (y ≡ answer accepted) ⊎ (y ≡ answer (promotion rule.promoted))
-
+-- Every answer is *accepted*, a place or *promoted*.
 abbrev pub AllTaken : List Answer → Type 0
 AllTaken [] = Unit {0}
 AllTaken (y ∷ ys) = Taken y × AllTaken ys
 
--- The last answer is y, and all before it are *accepted* or *promoted*.
+-- The last answer is y, and all before it are such.
 pub record LastAnswer (y : Answer) (ys : List Answer) : Type 0 where
   pub before : List Answer
   pub all : ys ≡ before ++ y ∷ []
@@ -47,12 +46,15 @@ pub record LastAnswer (y : Answer) (ys : List Answer) : Type 0 where
 
 -- ---- the calls xs, made from the log l on with i entries delivered
 
--- How the answers ys end, by the ending, with the state m and so many entries used. *Met*, *capped* and *spent* are the last answer, with nothing
--- wanted, and what promote answers at that state. *Short* is no answer: a block is wanted, and no entry is left.
+-- How the answers ys end, by the ending, with the state m and so many entries used. *Met* and *capped* are the last answer, with nothing wanted,
+-- and what choose answers at that state; so is *spent*, which is what promote then answers at the place that choose answers. *Short* is no answer: a
+-- block is wanted, and no entry is left.
 abbrev pub EndingAnswers : List ℕ → Ending → Machine → (used : ℕ) → List Answer → Type 0
-EndingAnswers c met m used ys = LastAnswer (answer (promotion rule.met)) ys × (anyWanted (m .log .entries) ≡ false) × (rule.promote (m .log) .outcome ≡ rule.met)
-EndingAnswers c capped m used ys = LastAnswer (answer (promotion rule.capped)) ys × (anyWanted (m .log .entries) ≡ false) × (rule.promote (m .log) .outcome ≡ rule.capped)
-EndingAnswers c spent m used ys = LastAnswer (answer (promotion rule.spent)) ys × (anyWanted (m .log .entries) ≡ false) × (rule.promote (m .log) .outcome ≡ rule.spent)
+EndingAnswers c met m used ys = LastAnswer (answer (chosen choice.met)) ys × (anyWanted (m .log .entries) ≡ false) × (choice.choose (m .log) ≡ choice.met)
+EndingAnswers c capped m used ys = LastAnswer (answer (chosen choice.capped)) ys × (anyWanted (m .log .entries) ≡ false) × (choice.choose (m .log) ≡ choice.capped)
+EndingAnswers c spent m used ys =
+    LastAnswer (answer (promotion rule.spent)) ys × (anyWanted (m .log .entries) ≡ false)
+    × ((p : ℕ) × (choice.choose (m .log) ≡ choice.place p) × (rule.promoteAt (m .log) p .outcome ≡ rule.spent))
 EndingAnswers c short m used ys = AllTaken ys × (anyWanted (m .log .entries) ≡ true) × (entryCount c ≤ used)
 
 -- They end, with the state m and so many entries used.
@@ -94,7 +96,7 @@ ResultBy c l i xs unfinished = Unit {0}
 -- The loop of Fig. 1 has ended with the state m: n is the number of its turns, e whether it is called met or capped.
 pub record LoopEnded (P : Problem) (c : List ℕ) (e : Ending) (m : Machine) (used n : ℕ) : Type 0 where
   -- Fig. 1 has the log's state
-  pub follows : Follows P (programLog c) n
+  pub follows : Follows P (programLog c) (turns P n)
   -- its test held before each turn, and fails after them
   pub went-on : (k : ℕ) → k < n → loopCondition P (turns P k) ≡ true
   pub over : loopCondition P (turns P n) ≡ false
@@ -110,7 +112,7 @@ WithinTolerance P n = turns P n .estimate + turns P n .carried ≤ P .tolerance
 -- The run is *spent* at the state m: n turns are made, and after the next one 𝒪 and 𝒜 would be past the limits.
 pub record LoopSpent (P : Problem) (c : List ℕ) (m : Machine) (used n : ℕ) : Type 0 where
   -- Fig. 1 has the log's state
-  pub follows : Follows P (programLog c) n
+  pub follows : Follows P (programLog c) (turns P n)
   -- its test held before each turn, and holds after them still
   pub went-on : (k : ℕ) → k < n → loopCondition P (turns P k) ≡ true
   pub not-over : loopCondition P (turns P n) ≡ true
@@ -124,7 +126,9 @@ pub record LoopSpent (P : Problem) (c : List ℕ) (m : Machine) (used n : ℕ) :
 -- The run is *short* at the state m: n turns are begun, and of the last, or of the lines before the loop, a block is wanted still.
 pub record LoopShort (P : Problem) (c : List ℕ) (m : Machine) (used n : ℕ) : Type 0 where
   -- Fig. 1 has the log's state but for what is wanted
-  pub follows : FollowsSoFar P (programLog c) n
+  pub follows : FollowsSoFar P (programLog c) (turns P n)
+  -- its test held before each turn
+  pub went-on : (k : ℕ) → k < n → loopCondition P (turns P k) ≡ true
   -- and what is printed as `scaled` is its r without the increments of the wanted
   pub scaled : reportValuesOf short m (entryCount c - used) .scaled +ℤ sumOf (wantedOf (programLog c .entries)) (increment P) ≡ turns P n .result
   -- as `pending` its η without the indicators of the wanted, and as `carried` its variable of that name
@@ -143,9 +147,14 @@ pub record ProgramIsCalls (c : List ℕ) : Type 0 where
   pub starts : (l : Log) → answerBy ownLent l (startCall c) ≡ answer accepted
   -- the start and the later calls are a list of the third demand, in any storage of that size
   pub demand : (w : Storage) → Lent w ownPart → Demand w (lent (startCall c)) (lendAll ownPart (laterCalls c)) (fileSettings c)
-  -- after them the log follows Fig. 1
+  -- after them the log follows Fig. 1, led by the indices made old
   pub means : MeanFollows (programLog c)
-  pub steps : StepsFollow (programLog c)
+  pub steps : StepsFollow (programLog c) (programPromotions c)
+  -- choose and promote come in turn
+  pub in-turn : InTurn (startLog (fileSettings c)) (laterCalls c)
+  -- so each promoted place is the one that choose answers, and it is Fig. 1 itself
+  pub places : AllChosen (startLog (fileSettings c)) (lendAll ownPart (laterCalls c))
+  pub rule : RuleFollows (programLog c) (programPromotions c)
   -- what the execution comes to is what the calls come to
   pub result : ResultBy c (startLog (fileSettings c)) 0 (laterCalls c) (resultOf c)
   -- so where it ends, it is printed from the state that the calls' log stands for

@@ -2,13 +2,13 @@
 -- The idea: a step delivers one of at most 512 entries, or makes one of at most 512 held indices old, or ends the run; and each step keeps
 -- the clauses and the mean. Assumes nothing.
 use mathlib.Core.Path.{_≡_, refl, ap, sym, _∙_}
-use mathlib.Core.Logic.{_⊎_, inl, inr}
+use mathlib.Core.Logic.{inl, inr}
 use mathlib.Core.Bool.{Bool, true, false, cond}
 use mathlib.Core.List.{List}
 use Prim.Native.Nat.{ℕ, zero, suc, _+_, _-_, _<_, _≤_}
 use native.Mathlib.Decide.{ℕ-discrete}
 use native.Mathlib.Omega.{arith}
-use borrow.Author.Tests.{eqb-true, eqb-false, leb-false, ltb-false}
+use borrow.Author.Tests.{eqb-true, eqb-false, leb-false}
 use lib.Dec.{leb, eqb}
 use lib.IntN.{ℤ, _+ℤ_}
 use lib.ListN.{length}
@@ -19,11 +19,12 @@ use Rattle.area.specs.Settings.{SettingsFit, axesFit, budgetFit, readingCount}
 use Rattle.grid.specs.Difference.{scaledDifference}
 use Rattle.area.specs.Entry.{Entry, readingIn}
 use Rattle.area.specs.Log.{Log, Machine}
-use Rattle.machine.specs.Log.{wantedIndex, firstWanted, anyWanted}
+use Rattle.machine.specs.Log.{wantedIndex, firstWanted, anyWanted, Active}
 use Rattle.machine.specs.Causes.{firstCause, startCauses, resultCauses, deliverCauses, inRange}
-use Rattle.machine.specs.Choose.{selected}
+use Rattle.machine.specs.Choose as choice
 use Rattle.machine.specs.Promote as rule
-use Rattle.machine.proofs.Answers.{promoted-above}
+use Rattle.machine.proofs.Answers.{promoted-log}
+use Rattle.machine.proofs.Choices.{choose-facts}
 use Rattle.machine.specs.Steps.{started, deliver, promoteStep}
 use Rattle.machine.specs.Counts.{countOf}
 use Rattle.encoding.specs.Entries.{SoundMachine}
@@ -34,11 +35,10 @@ use Rattle.calls.proofs.Accepted.{startable, Deliverable, deliverable}
 use Rattle.calls.proofs.Causes.{start-axes, start-budget, start-fits, common-none, deliver-count, deliver-range, deliver-fits}
 use Rattle.calls.proofs.Ranges.{readings-range}
 use Rattle.calls.proofs.Tests as tests
-use Rattle.published.proofs.Outcomes.{promoted-log}
-use Rattle.jobfile.specs.Form.{formed, broken, formOf, entryCount}
+use Rattle.jobfile.specs.Form.{formed, formOf, entryCount}
 use Rattle.jobfile.specs.File.{entryOf}
 use Rattle.reporting.specs.Text.{met, spent, short}
-use Rattle.running.specs.Execution.{ownLengths, Result, refusedAt, ended, deliveryByte, deliveryCause, byOutcome, execution, stepLimit, startByte, startCause, resultIn, resultOf, fileSettings}
+use Rattle.running.specs.Execution.{ownLengths, refusedAt, ended, deliveryByte, deliveryCause, byOutcome, byChoice, execution, stepLimit, startByte, startCause, resultIn, resultOf, fileSettings}
 use Rattle.running.specs.Facts.{ByStart, ByDelivery, RunInvariant, AllowedResult}
 use Rattle.running.proofs.Counted.{count-most, delivery-old, refined-old}
 
@@ -53,9 +53,9 @@ delivered-invariant m rs i s d =
     ap (λ y. y +ℤ scaledDifference (wantedIndex (m .log .entries)) (readingIn (deliver m rs i .log .entries))) (s .differences)
     ∙ sym (mean-facts .deliver m rs i (s .sound) (d .wanted)))
 
-promoted-invariant : (m : Machine) → RunInvariant m → length (m .log .entries) ≤ firstWanted (m .log .entries) → RunInvariant (promoteStep m)
-promoted-invariant m s none =
-    invariant (promoteStep m) (step-facts .promote m (s .sound) none) (unfold promoteStep in s .differences ∙ sym (mean-facts .promote m (s .sound)))
+promoted-invariant : (m : Machine) (p : ℕ) → RunInvariant m → Active (m .log .entries) p → RunInvariant (promoteStep m p)
+promoted-invariant m p s a =
+    invariant (promoteStep m p) (step-facts .promote m p (s .sound) a) (unfold promoteStep in s .differences ∙ sym (mean-facts .promote m p (s .sound) a))
 
 -- ---- the numbers of refusals
 
@@ -126,31 +126,35 @@ module _ (c : List ℕ) where
         step true f = delivering (leb-false (entryCount c) i e) (eqb-true (deliveryCause c m i) 0 f)
         step false f = inr (delivery-numbers m (entryOf c i .readings) (s .sound) some f)
 
-    promoting : anyWanted es ≡ false → rule.promote (m .log) .outcome ≡ rule.promoted → AllowedResult (entryCount c) (execution c n (promoteStep m) i)
-    promoting free is = later (promoteStep m) i next used (omega (arith, h, more, most))
+    promoting : (p : ℕ) → choice.choose (m .log) ≡ choice.place p → rule.promoteAt (m .log) p .outcome ≡ rule.promoted → AllowedResult (entryCount c) (execution c n (promoteStep m p) i)
+    promoting p chosen is = later (promoteStep m p) i next used (omega (arith, h, more, most))
       where
-        none : length (m .log .entries) ≤ firstWanted (m .log .entries)
-        none = ltb-false (firstWanted (m .log .entries)) (length (m .log .entries)) (unfold anyWanted in free)
+        a : Active (m .log .entries) p
+        a = choose-facts .place-active (m .log) p chosen
 
-        next : RunInvariant (promoteStep m)
-        next = promoted-invariant m s none
+        next : RunInvariant (promoteStep m p)
+        next = promoted-invariant m p s a
 
-        most : countOf 2 (promoteStep m .log .entries) ≤ 512
-        most = omega (arith, count-most 2 (promoteStep m .log .entries), next .sound .count .1)
+        most : countOf 2 (promoteStep m p .log .entries) ≤ 512
+        most = omega (arith, count-most 2 (promoteStep m p .log .entries), next .sound .count .1)
 
-        more : countOf 2 (promoteStep m .log .entries) ≡ suc (countOf 2 (m .log .entries))
+        more : countOf 2 (promoteStep m p .log .entries) ≡ suc (countOf 2 (m .log .entries))
         more =
-            let x = step-facts .selects (m .log) (promoted-above (m .log) is) in
             unfold promoteStep in
-            ap (λ (l : Log). countOf 2 (l .entries)) (promoted-log (m .log) is)
-            ∙ refined-old (m .log .settings .axes) (m .log .entries) (selected (m .log .entries)) (x .0) (x .1)
+            ap (λ (l : Log). countOf 2 (l .entries)) (promoted-log (m .log .settings .budget) (m .log) p is)
+            ∙ refined-old (m .log .settings .axes) (m .log .entries) p (a .place) (a .active)
 
-    without : (o : rule.Outcome) → (o ≡ rule.promoted → AllowedResult (entryCount c) (execution c n (promoteStep m) i)) → AllowedResult (entryCount c) (byOutcome o m i (execution c n (promoteStep m) i))
+    by-outcome : (p : ℕ) (o : rule.Outcome) → (o ≡ rule.promoted → AllowedResult (entryCount c) (execution c n (promoteStep m p) i))
+        → AllowedResult (entryCount c) (byOutcome o m i (execution c n (promoteStep m p) i))
     unfolding byOutcome
-    without rule.met f = (s, used)
-    without rule.capped f = (s, used)
-    without rule.spent f = (s, used)
-    without rule.promoted f = f refl
+    by-outcome p rule.spent f = (s, used)
+    by-outcome p rule.promoted f = f refl
+
+    by-choice : (x : choice.Choice) → choice.choose (m .log) ≡ x → AllowedResult (entryCount c) (byChoice x m i (λ p. execution c n (promoteStep m p) i))
+    unfolding byChoice
+    by-choice choice.met e = (s, used)
+    by-choice choice.capped e = (s, used)
+    by-choice (choice.place p) e = by-outcome p (rule.promoteAt (m .log) p .outcome) (promoting p e)
 
     one-step : AllowedResult (entryCount c) (execution c (suc n) m i)
     unfolding execution
@@ -160,9 +164,9 @@ module _ (c : List ℕ) where
             → AllowedResult (entryCount c) (cond t
             (cond (leb (entryCount c) i) (ended short m i)
             (cond (eqb (deliveryCause c m i) 0) (execution c n (deliver m (entryOf c i .readings) (entryOf c i .indicator)) (i + 1)) (refusedAt (deliveryCause c m i) (deliveryByte c i (deliveryCause c m i)))))
-            (byOutcome (rule.promote (m .log) .outcome) m i (execution c n (promoteStep m) i)))
+            (byChoice (choice.choose (m .log)) m i (λ p. execution c n (promoteStep m p) i)))
         step true e = with-wanted e (leb (entryCount c) i) refl
-        step false e = without (rule.promote (m .log) .outcome) (promoting e)
+        step false e = by-choice (choice.choose (m .log)) refl
 
   pub execution-ends : (n : ℕ) → Ends n
   execution-ends zero m i s u h = absurd (omega (arith, h))

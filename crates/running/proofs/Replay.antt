@@ -11,13 +11,14 @@ use lib.Dec.{eqb}
 use Rattle.area.specs.declared.Settings.{Settings}
 use Rattle.area.specs.Log.{Machine}
 use Rattle.machine.specs.Log.{anyWanted}
+use Rattle.machine.specs.Choose as choice
 use Rattle.machine.specs.Promote as rule
 use Rattle.machine.specs.Steps.{started, deliver, promoteStep}
 use Rattle.machine.specs.Causes.{firstCause, startCauses, deliverCauses}
 use Rattle.jobfile.specs.Form.{formed, formOf, entryCount}
 use Rattle.jobfile.specs.File.{FileEntry, entryOf}
 use Rattle.reporting.specs.Text.{short}
-use Rattle.running.specs.Execution.{ownLengths, Result, refusedAt, ended, unfinished, deliveryByte, byOutcome, execution, stepLimit, startByte, startCause, fileSettings, resultIn, resultOf}
+use Rattle.running.specs.Execution.{ownLengths, Result, refusedAt, ended, unfinished, deliveryByte, byOutcome, byChoice, execution, stepLimit, startByte, startCause, fileSettings, resultIn, resultOf}
 use Rattle.running.specs.Report.{textIn, textOf}
 
 -- k entries of a file from number i on
@@ -31,16 +32,23 @@ causeOf m e = firstCause (deliverCauses ownLengths true (m .log) (e .readings))
 -- the execution with the entries that are left, the first of which has number i
 unfoldable pub replay : List ℕ → (n : ℕ) → List FileEntry → Machine → (i : ℕ) → Result
 replay c zero es m i = unfinished
-replay c (suc n) [] m i = cond (anyWanted (m .log .entries)) (ended short m i) (byOutcome (rule.promote (m .log) .outcome) m i (replay c n [] (promoteStep m) i))
+replay c (suc n) [] m i = cond (anyWanted (m .log .entries)) (ended short m i) (byChoice (choice.choose (m .log)) m i (λ p. replay c n [] (promoteStep m p) i))
 replay c (suc n) (e ∷ es) m i =
     cond (anyWanted (m .log .entries))
     (cond (eqb (causeOf m e) 0) (replay c n es (deliver m (e .readings) (e .indicator)) (i + 1)) (refusedAt (causeOf m e) (deliveryByte c i (causeOf m e))))
-    (byOutcome (rule.promote (m .log) .outcome) m i (replay c n (e ∷ es) (promoteStep m) i))
+    (byChoice (choice.choose (m .log)) m i (λ p. replay c n (e ∷ es) (promoteStep m p) i))
 
 -- k more steps than n, one by one, so that a run that ends before is computed without n
 abbrev pub more : (k n : ℕ) → ℕ
 more zero n = n
 more (suc k) n = suc (more k n)
+
+-- a choice goes on alike with what is alike at every place
+chooses : {f g : ℕ → Result} (x : choice.Choice) (m : Machine) (i : ℕ) → ((p : ℕ) → f p ≡ g p) → byChoice x m i f ≡ byChoice x m i g
+unfolding byChoice
+chooses choice.met m i h = refl
+chooses choice.capped m i h = refl
+chooses (choice.place p) m i h = ap (byOutcome (rule.promoteAt (m .log) p .outcome) m i) (h p)
 
 module _ (c : List ℕ) where
   replays : (n k : ℕ) (m : Machine) (i : ℕ) → k + i ≡ entryCount c → execution c n m i ≡ replay c n (entriesFrom c k i) m i
@@ -48,13 +56,13 @@ module _ (c : List ℕ) where
   replays zero k m i h = refl
   replays (suc n) zero m i h =
       rw (le-leb (entryCount c) i (omega (arith, h)))
-      (ap (λ x. cond (anyWanted (m .log .entries)) (ended short m i) (byOutcome (rule.promote (m .log) .outcome) m i x)) (replays n zero (promoteStep m) i h))
+      (ap (cond (anyWanted (m .log .entries)) (ended short m i)) (chooses (choice.choose (m .log)) m i (λ p. replays n zero (promoteStep m p) i h)))
   replays (suc n) (suc k) m i h =
       rw (lt-leb (entryCount c) i (omega (arith, h)))
       (ap₂ (λ x y. cond (anyWanted (m .log .entries))
       (cond (eqb (causeOf m (entryOf c i)) 0) x (refusedAt (causeOf m (entryOf c i)) (deliveryByte c i (causeOf m (entryOf c i)))))
-      (byOutcome (rule.promote (m .log) .outcome) m i y))
-      (replays n k (deliver m (entryOf c i .readings) (entryOf c i .indicator)) (i + 1) (omega (arith, h))) (replays n (suc k) (promoteStep m) i h))
+      y)
+      (replays n k (deliver m (entryOf c i .readings) (entryOf c i .indicator)) (i + 1) (omega (arith, h))) (chooses (choice.choose (m .log)) m i (λ p. replays n (suc k) (promoteStep m p) i h)))
 
   -- of a file of the right form that start accepts, with settings g and k entries, which ends after at most 20 steps
   pub prints : (g : Settings) (k : ℕ) (es : List FileEntry) (text : List ℕ) → formOf c ≡ formed → fileSettings c ≡ g → firstCause (startCauses ownLengths g) ≡ 0 → entryCount c ≡ k

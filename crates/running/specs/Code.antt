@@ -42,8 +42,6 @@ stepOfDelivery (deliveries.Refused number byte) = steps.Refused number byte
 stepOfDelivery (deliveries.Done job) = steps.Delivered job
 
 unfoldable pub stepPromoted : outcome.Outcome → JobRecord → step.Step
-stepPromoted outcomes.Met job = steps.Ended endings.Met
-stepPromoted outcomes.Capped job = steps.Ended endings.Capped
 stepPromoted outcomes.Spent job = steps.Ended endings.Spent
 stepPromoted outcomes.Promoted job = steps.Promoted job
 

@@ -1,5 +1,5 @@
--- The execution of a job file ("Job file and report"): start, and then, while a block is wanted, the next entry is delivered, else it promotes,
--- until *met*, *capped*, *spent* or *short* (entries exhausted, block wanted). c are the file's bytes.
+-- The execution of a job file ("Job file and report"): start, and then, while a block is wanted, the next entry is delivered, else it chooses
+-- and promotes the place that is chosen, until *met*, *capped*, *spent* or *short* (entries exhausted, block wanted). c are the file's bytes.
 use mathlib.Core.Bool.{true, cond}
 use mathlib.Core.List.{List, [], _∷_}
 use Prim.Native.Nat.{ℕ, zero, suc, _+_, _*_}
@@ -9,6 +9,7 @@ use Rattle.area.specs.declared.Settings.{Settings}
 use Rattle.area.specs.Settings.{settingsOf}
 use Rattle.area.specs.Log.{Machine}
 use Rattle.machine.specs.Log.{anyWanted}
+use Rattle.machine.specs.Choose as choice
 use Rattle.machine.specs.Promote as rule
 use Rattle.machine.specs.Steps.{started, deliver, promoteStep}
 use Rattle.machine.specs.Causes.{Lengths, firstCause, startCauses, deliverCauses}
@@ -46,21 +47,25 @@ deliveryCause c m i = firstCause (deliverCauses ownLengths true (m .log) (entryO
 abbrev pub unlessRefused : List ℕ → Machine → ℕ → Result → Result
 unlessRefused c m i next = cond (eqb (deliveryCause c m i) 0) next (refusedAt (deliveryCause c m i) (deliveryByte c i (deliveryCause c m i)))
 
--- Promote ends the run, unless it is promoted.
+-- Promote ends the run where it is spent; promoted, the run goes on with `next`.
 unfoldable pub byOutcome : rule.Outcome → Machine → ℕ → Result → Result
-byOutcome rule.met m i next = ended met m i
-byOutcome rule.capped m i next = ended capped m i
 byOutcome rule.spent m i next = ended spent m i
 byOutcome rule.promoted m i next = next
 
--- At most n steps, with i entries delivered.
+-- Choose ends the run where it is met or capped; a place that it answers is promoted.
+unfoldable pub byChoice : choice.Choice → Machine → ℕ → (next : ℕ → Result) → Result
+byChoice choice.met m i next = ended met m i
+byChoice choice.capped m i next = ended capped m i
+byChoice (choice.place p) m i next = byOutcome (rule.promoteAt (m .log) p .outcome) m i (next p)
+
+-- At most n steps, with i entries delivered; a choice and its promotion are one step.
 unfoldable pub execution : List ℕ → (n : ℕ) → Machine → (i : ℕ) → Result
 execution c zero m i = unfinished
 execution c (suc n) m i =
     cond (anyWanted (m .log .entries))
     (cond (leb (entryCount c) i) (ended short m i)
     (unlessRefused c m i (execution c n (deliver m (entryOf c i .readings) (entryOf c i .indicator)) (i + 1))))
-    (byOutcome (rule.promote (m .log) .outcome) m i (execution c n (promoteStep m) i))
+    (byChoice (choice.choose (m .log)) m i (λ p. execution c n (promoteStep m p) i))
 
 -- Every step but the last delivers one of at most 512 entries or makes one of at most 512 indices old: 512 + 512 + 1.
 abbrev pub stepLimit : ℕ

@@ -1,16 +1,18 @@
 // A job file's run, from bytes to report.
 ghost use mathlib.Core.Path.{_≡_};
-ghost use mathlib.Core.List.{_++_};
+ghost use mathlib.Core.List.{List, _++_};
 ghost use Prim.Native.Nat.{ℕ, suc, _+_, _*_, _<_, _≤_};
 ghost use lib.ListN.{length, drop};
 ghost use Rattle.area.specs.Encoding.{areaOf, entriesOf, machineOf};
 ghost use Rattle.machine.specs.Log.{firstWanted};
-ghost use Rattle.machine.specs.Steps.{started, deliver};
+ghost use Rattle.machine.specs.Choose.{choose};
+ghost use Rattle.machine.specs.Steps.{started, deliver, promoteStep};
 ghost use Rattle.writing.specs.ValidArea.{ValidArea};
+ghost use Rattle.promotion.specs.Outcomes.{choiceOf};
 ghost use Rattle.jobfile.specs.Form.{formed, formOf, entryCount};
 ghost use Rattle.jobfile.specs.File.{readingsAt, entryOf};
 ghost use Rattle.jobfile.specs.Facts.{FormedFile};
-ghost use Rattle.running.specs.Execution.{ownLengths, fileSettings, firstOutOfRange, unlessRefused, execution as executionOf};
+ghost use Rattle.running.specs.Execution.{ownLengths, fileSettings, firstOutOfRange, unlessRefused, byChoice, execution as executionOf};
 ghost use Rattle.machine.specs.Causes.{firstCause, startCauses};
 ghost use Rattle.reporting.specs.Text.{reportText};
 ghost use Rattle.reporting.specs.Code.{endingIn};
@@ -117,14 +119,37 @@ fn step_of_promotion(outcome: promotion::Outcome, job: area::JobRecord) -> Step
     ensures { λ r. ⌜ r ≡ stepPromoted outcome job ⌝ }
 {
     match outcome {
-        promotion::Outcome::Met => Step::Ended(reporting::Ending::Met),
-        promotion::Outcome::Capped => Step::Ended(reporting::Ending::Capped),
         promotion::Outcome::Spent => Step::Ended(reporting::Ending::Spent),
         promotion::Outcome::Promoted => Step::Promoted(job),
     }
 }
 
-// One step: the next entry is delivered while a block is wanted, else it promotes.
+// The place chosen is promoted; met and capped end the run.
+fn promote_chosen(
+    job: area::JobRecord,
+    choice: promotion::Choice,
+    cells: &mut [u32],
+    store: &[i32],
+) -> Step
+    requires { ⌜ ValidArea (areaOf job (now cells) (now store)) × (length (entriesOf (areaOf job (now cells) (now store))) ≤ firstWanted (entriesOf (areaOf job (now cells) (now store)))) ⌝ }
+    requires { ⌜ choiceOf choice ≡ choose (machineOf (areaOf job (now cells) (now store)) .log) ⌝ }
+    ensures is { λ r. ⌜ ((bytes : List ℕ) (n used : ℕ) → byChoice (choiceOf choice) (machineOf (areaOf job (now (cells .entry)) (now (store .entry)))) used (λ p. executionOf bytes n (promoteStep (machineOf (areaOf job (now (cells .entry)) (now (store .entry)))) p) used) ≡ afterStep bytes n used (machineOf (areaOf job (now (cells .entry)) (now (store .entry)))) r (now (cells .exit)) (now (store .entry))) ⌝ }
+    ensures left { λ r. ⌜ ((n used : ℕ) → StepPostcondition n used job (now (cells .entry)) (now (store .entry)) r (now (cells .exit)) (now (store .entry))) ⌝ }
+{
+    match choice {
+        promotion::Choice::Met => Step::Ended(reporting::Ending::Met),
+        promotion::Choice::Capped => Step::Ended(reporting::Ending::Capped),
+        promotion::Choice::Place(place) => {
+            let budget = job.settings.budget;
+            let promotion = promotion::refine(job, place, budget, cells, store);
+            let outcome = promotion.outcome;
+            let after = promotion.job;
+            step_of_promotion(outcome, after)
+        }
+    }
+}
+
+// One step: the next entry is delivered while a block is wanted, else it chooses, and promotes the place that is chosen.
 fn next_step(
     job: area::JobRecord,
     used: usize,
@@ -147,10 +172,8 @@ fn next_step(
         let delivery = deliver_entry(job, place, used, bytes, block, cells, store);
         return step_of_delivery(delivery);
     }
-    let promotion = promotion::promote(job, cells, store);
-    let outcome = promotion.outcome;
-    let after = promotion.job;
-    step_of_promotion(outcome, after)
+    let choice = promotion::choose(job, cells, store);
+    promote_chosen(job, choice, cells, store)
 }
 
 // Writes the report of a run that has ended.

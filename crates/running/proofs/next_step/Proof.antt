@@ -4,10 +4,12 @@ use Prim.Native.Nat.{_<_}
 use native.Mathlib.Omega.{arith}
 use denote.Ref.{now}
 use Rattle.area.specs.Encoding.{areaOf, machineOf}
+use Rattle.machine.specs.Steps.{promoteStep}
 use Rattle.calls.proofs.Validity.{held-there}
 use Rattle.reporting.specs.Code.{endingIn}
+use Rattle.running.specs.Execution.{byChoice, execution}
 use Rattle.running.specs.Code.{afterStep, StepPostcondition}
-use Rattle.running.proofs.Stepping.{way-short, way-deliver, way-promote, place-is, wanted-there, none-there, wanted-none, delivery-step, delivery-left, promoted-step, promoted-left}
+use Rattle.running.proofs.Stepping.{way-short, way-deliver, way-choose, place-is, wanted-there, none-there, wanted-none, delivery-step, delivery-left}
 use borrow.Author.Needs.{needs}
 use Rattle.running.proofs.next_step.Statement.{statement}
 use Rattle.running.proofs.next_step.Tie as tie
@@ -60,11 +62,16 @@ returns-2 c =
           (delivery-left (s .args .job) (now (s .args .cells)) (now (s .args .store)) (s .pre .0) (now (s .args .bytes)) (s .args .used) (s .args .entries) inside _ _ (c .before .before .before .before .before .deliver-entry .result) (c .before .before .before .before .before .deliver-entry .ensures .1)),
     )
 
-promote-requires : tie.Need-promote-requires
-promote-requires c κs = let s = c .before .before .before .before .before .before .before .before in (s .pre .0, none-there (s .args .job) (now (s .args .cells)) (now (s .args .store)) (s .pre .0) (c .before .before .before .first-wanted .result) (c .before .before .before .first-wanted .ensures) (c .before .before .if1 .left))
+choose-requires : tie.Need-choose-requires
+choose-requires c κs = let s = c .before .before .before .before .before .before .before .before in s .pre .0
 
-step-of-promotion-requires : tie.Need-step-of-promotion-requires
-step-of-promotion-requires c κs = search needs
+promote-chosen-requires : tie.Need-promote-chosen-requires
+promote-chosen-requires c κs =
+    let s = c .before .before .before .before .before .before .before .before .before .before .before in
+    let wanted = c .before .before .before .before .before .before .first-wanted in (
+      (s .pre .0, none-there (s .args .job) (now (s .args .cells)) (now (s .args .store)) (s .pre .0) (wanted .result) (wanted .ensures) (c .before .before .before .before .before .if1 .left)),
+      c .before .before .choose .ensures,
+    )
 
 same-length-5 : tie.Need-same-length-5
 same-length-5 c = search needs
@@ -74,13 +81,14 @@ same-length-6 c = search needs
 
 returns-3 : tie.Need-returns-3
 returns-3 c =
-    let s = c .before .before .before .before .before .before .before .before .before .before .before .before .before in
-    let free = none-there (s .args .job) (now (s .args .cells)) (now (s .args .store)) (s .pre .0) (c .before .before .before .before .before .before .before .before .first-wanted .result) (c .before .before .before .before .before .before .before .before .first-wanted .ensures) (c .before .before .before .before .before .before .before .if1 .left) in (
-      λ n. way-promote (now (s .args .bytes)) n (machineOf (areaOf (s .args .job) (now (s .args .cells)) (now (s .args .store)))) (s .args .used) (wanted-none (s .args .job) (now (s .args .cells)) (now (s .args .store)) (s .pre .0) (c .before .before .before .before .before .before .before .before .first-wanted .result) (c .before .before .before .before .before .before .before .before .first-wanted .ensures) (c .before .before .before .before .before .before .before .if1 .left))
-          ∙ promoted-step (s .args .job) (now (s .args .cells)) (now (s .args .store)) (s .pre .0) (now (s .args .bytes)) (s .args .used) (s .args .entries) free (c .before .before .before .before .promote .result .job) _ (c .before .before .before .before .promote .result .outcome) (c .before .before .before .before .promote .ensures .0) n
-          ∙ ap (λ x. afterStep (now (s .args .bytes)) n (s .args .used) (machineOf (areaOf (s .args .job) (now (s .args .cells)) (now (s .args .store)))) x (c .before .before .before .before .promote .last .1 .0) (now (s .args .store))) (sym (c .step-of-promotion .ensures)),
-      subst (λ x. StepPostcondition (s .args .entries) (s .args .used) (s .args .job) (now (s .args .cells)) (now (s .args .store)) x (c .before .before .before .before .promote .last .1 .0) (now (s .args .store))) (sym (c .step-of-promotion .ensures))
-          (promoted-left (s .args .job) (now (s .args .cells)) (now (s .args .store)) (s .pre .0) (now (s .args .bytes)) (s .args .used) (s .args .entries) free (c .before .before .before .before .promote .result .job) _ (c .before .before .before .before .promote .result .outcome) (c .before .before .before .before .promote .ensures .0) (c .before .before .before .before .promote .ensures .1)),
+    let s = c .before .before .before .before .before .before .before .before .before .before .before .before .before .before in
+    let m = machineOf (areaOf (s .args .job) (now (s .args .cells)) (now (s .args .store))) in
+    let wanted = c .before .before .before .before .before .before .before .before .before .first-wanted in
+    let promoted = c .before .before .promote-chosen .ensures in (
+      λ n. way-choose (now (s .args .bytes)) n m (s .args .used) (wanted-none (s .args .job) (now (s .args .cells)) (now (s .args .store)) (s .pre .0) (wanted .result) (wanted .ensures) (c .before .before .before .before .before .before .before .before .if1 .left))
+          ∙ ap (λ x. byChoice x m (s .args .used) (λ p. execution (now (s .args .bytes)) n (promoteStep m p) (s .args .used))) (sym (c .before .before .before .before .before .choose .ensures))
+          ∙ promoted .0 (now (s .args .bytes)) n (s .args .used),
+      promoted .1 (s .args .entries) (s .args .used),
     )
 
 pub next-step-spec : {M : Type 1} → statement M
@@ -97,8 +105,8 @@ next-step-spec =
     same-length-3
     same-length-4
     returns-2
-    promote-requires
-    step-of-promotion-requires
+    choose-requires
+    promote-chosen-requires
     same-length-5
     same-length-6
     returns-3)

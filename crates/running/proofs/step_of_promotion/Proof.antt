@@ -11,12 +11,6 @@ enum-told c = search needs
 enum-told-2 : tie.Need-enum-told-2
 enum-told-2 c = search needs
 
-enum-told-3 : tie.Need-enum-told-3
-enum-told-3 c = search needs
-
-enum-told-4 : tie.Need-enum-told-4
-enum-told-4 c = search needs
-
 returns : tie.Need-returns
 unfolding stepPromoted
 returns c = ap (λ o. stepPromoted o (c .before .before .args .job)) (sym (c .enum-told .given .1))
@@ -25,14 +19,5 @@ returns-2 : tie.Need-returns-2
 unfolding stepPromoted
 returns-2 c = ap (λ o. stepPromoted o (c .before .before .args .job)) (sym (c .enum-told2 .given .1))
 
-returns-3 : tie.Need-returns-3
-unfolding stepPromoted
-returns-3 c = ap (λ o. stepPromoted o (c .before .before .args .job)) (sym (c .enum-told3 .given .1))
-
-returns-4 : tie.Need-returns-4
-unfolding stepPromoted
-returns-4 c = ap (λ o. stepPromoted o (c .before .before .args .job)) (sym (c .enum-told4 .given .1))
-
 pub step-of-promotion-spec : {M : Type 1} → statement M
-step-of-promotion-spec =
-    tie.close (tie.spec enum-told enum-told-2 enum-told-3 enum-told-4 returns returns-2 returns-3 returns-4)
+step-of-promotion-spec = tie.close (tie.spec enum-told enum-told-2 returns returns-2)
