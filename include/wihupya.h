@@ -9,7 +9,8 @@
  *     wihupya_points   the points of the block that is wanted, many at once; wihupya_point gives one at a time
  *     wihupya_deliver  the readings at these points, in the same order, and an indicator of how much the block matters
  *     ...              the next block, until wihupya_points says WIHUPYA_NO_BLOCK_WANTED
- *     wihupya_promote  refines where the indicator is largest, so that new blocks are wanted; ends with met, capped or spent
+ *     wihupya_choose   tells the place where the indicator is largest; ends with met or capped
+ *     wihupya_promote  refines there, or at any other active place, so that further blocks are wanted, if any; or says spent
  *     wihupya_result   the mean; wihupya_doubles gives it as a double
  *
  * WHAT YOU LEND. The library has no memory of its own. A job lives in three arrays of yours, its work area, which you hand to
@@ -33,13 +34,15 @@
  * STACK. Measured, on jobs at both ceilings and with 512 indices: wihupya_deliver and wihupya_doubles take up to 16 KB of stack,
  * wihupya_cross_total 3 KB, every other call less than 1 KB.
  *
- * LATER RELEASES. Words, doubles and outcomes are only ever appended, never moved. When they are, compile anew with the new header: the arrays that
+ * LATER RELEASES. Words, doubles and values of a word are only ever appended, never moved. When they are, compile anew with the new header: the arrays that
  * you lend become longer. There is no version word: an area that an earlier release saved has to be started anew; do not count on
  * a call to tell it. The order of a block's points (wihupya_point) changed once: before, every row began at its lower end. Job files from then have to be
  * written anew, though their form and the reports that they give are the same. The carried error came later: with it job records have
- * two words more, result gives two words more, and what was met before may be capped (see wihupya_promote). Kept for later, and none of
- * them in use: job words 12 to 17 (means of outputs 2 to 4), 18 (outputs), 19 (edition) and 20 (weight); words 11 to 16 (further means) of
- * result; outcome 4 (a place was chosen).
+ * two words more, result gives two words more, and what was met before may be capped (see wihupya_choose). Choosing and promoting became two
+ * calls: before, wihupya_promote took no place, chose by itself, and answered met and capped too. Call wihupya_choose instead, and where it
+ * answers a place, wihupya_promote with that place: a job that goes on so is the same as before. No word of the job record moved, and job files
+ * stay as they are. Kept for later, and none of them in use: job words 12 to 17 (means of outputs 2 to 4), 18 (outputs), 19 (edition) and 20
+ * (weight); words 11 to 16 (further means) of result.
  *
  * WHAT A CALL RETURNS. 0 if it did what you asked, else the number of the cause for which it refused; a refused call leaves
  * everything that you lent as it was. Only wihupya_check cannot be refused: it returns its answer.
@@ -71,6 +74,7 @@ extern "C" {
 #define WIHUPYA_RECORD_CELLS 27
 #define WIHUPYA_CELLS (WIHUPYA_RECORDS * WIHUPYA_RECORD_CELLS)
 #define WIHUPYA_POINTS_WORDS 2
+#define WIHUPYA_CHOICE_WORDS 2
 #define WIHUPYA_OUTCOME_WORDS 1
 #define WIHUPYA_COUNT_WORDS 11
 #define WIHUPYA_TOTAL_WORDS 2
@@ -86,17 +90,21 @@ extern "C" {
  * axes are those that the job record holds, whatever they are: an area that was never started may answer 3 as well as 4. */
 #define WIHUPYA_TOO_SHORT 3
 #define WIHUPYA_NOT_SOUND 4            /* the work area is not sound: it was never started, or something else wrote it */
-#define WIHUPYA_NO_BLOCK_WANTED 5      /* point, points, deliver: all blocks are delivered, so promote */
-#define WIHUPYA_BLOCK_WANTED 6         /* promote: a block is not delivered yet */
+#define WIHUPYA_NO_BLOCK_WANTED 5      /* point, points, deliver: all blocks are delivered, so choose and promote */
+#define WIHUPYA_BLOCK_WANTED 6         /* choose, promote: a block is not delivered yet */
 #define WIHUPYA_WRONG_COUNT 7          /* deliver: the block has another number of readings */
 #define WIHUPYA_READING_OUT_OF_RANGE 8 /* deliver: a reading is below -1,048,576 or above 1,048,576 */
 #define WIHUPYA_NO_SUCH_POINT 9        /* point, points: n is not below the number of the block's points */
+#define WIHUPYA_NOT_ACTIVE 11          /* promote: the place is not that of an active index: it is refined already, or no index is there */
+
+/* What wihupya_choose answers. */
+#define WIHUPYA_MET 0    /* the pending and the carried error together are at most the threshold: the job is done */
+#define WIHUPYA_CAPPED 3 /* the pending error is at most the threshold, but not together with the carried error, which no refining takes away */
+#define WIHUPYA_CHOSEN 4 /* the pending error is above the threshold: the place comes with it */
 
 /* Outcomes of wihupya_promote. */
-#define WIHUPYA_MET 0      /* the pending and the carried error together are at most the threshold: the job is done */
-#define WIHUPYA_SPENT 1    /* the next refinement would take more readings than the budget, or more than 512 indices */
+#define WIHUPYA_SPENT 1    /* refining there would take more readings than the budget, or more than 512 indices */
 #define WIHUPYA_PROMOTED 2 /* refined; wihupya_points tells whether a block is wanted now */
-#define WIHUPYA_CAPPED 3   /* the pending error is at most the threshold, but not together with the carried error, which no refining takes away */
 
 /* The words of a job record. A 64-bit number takes two words, the low one first: see wihupya_unsigned_at. */
 #define WIHUPYA_JOB_THRESHOLD 0 /* 64 bits */
@@ -111,6 +119,10 @@ extern "C" {
 /* The words that wihupya_points writes. */
 #define WIHUPYA_POINTS_WRITTEN 0  /* how many points it wrote */
 #define WIHUPYA_POINTS_OF_BLOCK 1 /* how many points the block has, whatever n is */
+
+/* The words that wihupya_choose writes. */
+#define WIHUPYA_CHOICE_ANSWER 0 /* WIHUPYA_MET, WIHUPYA_CAPPED or WIHUPYA_CHOSEN */
+#define WIHUPYA_CHOICE_PLACE 1  /* the place that is chosen; 0 too where none is, so look at the answer first */
 
 /* The words that wihupya_result writes. */
 #define WIHUPYA_COUNT_PENDING 0  /* 64 bits: the pending error, the sum of the active indices' indicators */
@@ -148,7 +160,7 @@ extern "C" {
  * job record and the first record.
  *
  *   axes       the number of varying dimensions, 1 to 8
- *   threshold  the job refines while the pending error is above this, in the unit of your indicators; any number
+ *   threshold  wihupya_choose tells a place while the pending error is above this, in the unit of your indicators; any number
  *   budget     the most readings that the job may ask for, 1 to 8,192
  *
  * Refused with 1, 2 or 3.
@@ -196,7 +208,7 @@ uint32_t wihupya_points(const uint32_t job[WIHUPYA_JOB_WORDS], size_t n, uint32_
  * to the mean.
  *
  *   block      the readings at points 0, 1, 2, ...; `count` is their number
- *   indicator  how much the block promises to matter, in any unit of yours; any number. The job refines where it is largest
+ *   indicator  how much the block promises to matter, in any unit of yours; any number. wihupya_choose tells where it is largest
  *
  * Refused with 3, 4, 5, 7 or 8.
  */
@@ -204,19 +216,39 @@ uint32_t wihupya_deliver(uint32_t job[WIHUPYA_JOB_WORDS], const int32_t *block, 
                          size_t words, int32_t *store, size_t readings);
 
 /*
- * Promotes: if the pending error is above the threshold, refines the active index of largest indicator. Does not write the store.
+ * Chooses: while the pending error is above the threshold, whatever is carried, tells the place of the active index of largest indicator, the
+ * lowest of several. When the pending error is at most the threshold, the job is met if pending and carried error together are; otherwise it
+ * is capped. Writes no part of the work area.
  *
- * Refining takes an index's indicator out of the pending error. Where the index is at a ceiling, that is, where along at least one axis of the
- * job it cannot be refined without passing level 8 or excess 12, the indicator joins the carried error instead, once, since what it stood for
- * is not looked into there. So when the pending error is at most the threshold, the job is met only if pending and carried error together
- * are; otherwise it is capped. What is carried never keeps a job from going on.
+ *   choice  becomes two words: WIHUPYA_CHOICE_ANSWER and WIHUPYA_CHOICE_PLACE
  *
- *   outcome  becomes WIHUPYA_MET, WIHUPYA_CAPPED, WIHUPYA_SPENT (these leave the work area as it was) or WIHUPYA_PROMOTED
- *
- * Refused with 3, 4 or 6; outcome is then left as it was.
+ * Refused with 3, 4 or 6; choice is then left as it was.
  */
-uint32_t wihupya_promote(uint32_t job[WIHUPYA_JOB_WORDS], uint32_t outcome[WIHUPYA_OUTCOME_WORDS], uint32_t *cells, size_t words,
-                         const int32_t *store, size_t readings);
+uint32_t wihupya_choose(const uint32_t job[WIHUPYA_JOB_WORDS], uint32_t choice[WIHUPYA_CHOICE_WORDS], const uint32_t *cells,
+                        size_t words, const int32_t *store, size_t readings);
+
+/*
+ * Promotes: refines the active index at a place, whatever the threshold is and whichever place would be chosen. Does not write the store.
+ *
+ * The place that wihupya_choose tells is one; it may be any other, where you know better what to refine first. An index keeps its place, from
+ * 0 to below WIHUPYA_JOB_HELD, in the order in which the blocks are wanted; its record (WIHUPYA_CELL_...) has its levels and whether it is
+ * active.
+ *
+ * Along each axis the index one level higher is then wanted, if it is within level 8 and excess 12 and every index that is one level lower
+ * than it on some axis is refined: refining (2,1) makes (3,1) wanted, and (2,2) only if (1,2) is refined too. There may be none. Spent speaks of
+ * this place: another may have room.
+ *
+ * Refining takes the index's indicator out of the pending error. Where the index is at a ceiling, that is, where along at least one axis of the
+ * job it cannot be refined without passing level 8 or excess 12, the indicator joins the carried error instead, once, since what it stood for
+ * is not looked into there.
+ *
+ *   place    the place of the index to refine; any number
+ *   outcome  becomes WIHUPYA_SPENT, which leaves the work area as it was, or WIHUPYA_PROMOTED
+ *
+ * Refused with 3, 4, 6 or 11; outcome is then left as it was.
+ */
+uint32_t wihupya_promote(uint32_t job[WIHUPYA_JOB_WORDS], size_t place, uint32_t outcome[WIHUPYA_OUTCOME_WORDS], uint32_t *cells,
+                         size_t words, const int32_t *store, size_t readings);
 
 /*
  * Gives the counts of the job, its pending and its carried error and its scaled mean as they are recorded. Can be called at any time.

@@ -96,6 +96,21 @@ static uint32_t indicator(const int32_t *block, size_t count)
     return (uint32_t)(llabs(after - before) / 1024);
 }
 
+/*
+ * Chooses and promotes: refines where the indicator is largest. Returns WIHUPYA_PROMOTED while the job goes on, else how it ended; no
+ * answer of choose has the number of an outcome of promote. Who knows better what to refine first promotes another active place.
+ */
+static uint32_t refine(void)
+{
+    uint32_t choice[WIHUPYA_CHOICE_WORDS], outcome[WIHUPYA_OUTCOME_WORDS];
+    must("choose", wihupya_choose(area.job, choice, area.cells, WIHUPYA_CELLS, area.store, BUDGET));
+    if (choice[WIHUPYA_CHOICE_ANSWER] != WIHUPYA_CHOSEN)
+        return choice[WIHUPYA_CHOICE_ANSWER];
+    size_t place = choice[WIHUPYA_CHOICE_PLACE];
+    must("promote", wihupya_promote(area.job, place, outcome, area.cells, WIHUPYA_CELLS, area.store, BUDGET));
+    return outcome[0];
+}
+
 /* Runs the job to its end and says how it ended. */
 static uint32_t run(void)
 {
@@ -107,10 +122,9 @@ static uint32_t run(void)
             uint32_t matters = indicator(block, count);
             must("deliver", wihupya_deliver(area.job, block, count, matters, area.cells, WIHUPYA_CELLS, area.store, BUDGET));
         } else {
-            uint32_t outcome[WIHUPYA_OUTCOME_WORDS] = {0};
-            must("promote", wihupya_promote(area.job, outcome, area.cells, WIHUPYA_CELLS, area.store, BUDGET));
-            if (outcome[0] != WIHUPYA_PROMOTED)
-                return outcome[0];
+            uint32_t end = refine();
+            if (end != WIHUPYA_PROMOTED)
+                return end;
         }
     }
 }

@@ -1,4 +1,4 @@
-//! The library's nine functions, each behind a safe one that lends it slices.
+//! The library's ten functions, each behind a safe one that lends it slices.
 //! `include/wihupya.h` says what a call does, which numbers it returns, and what
 //! the words are.
 //!
@@ -20,7 +20,10 @@ pub const JOB_WORDS: usize = 12;
 pub type JobWords = [u32; JOB_WORDS];
 /// Points' words: how many points it wrote, and how many the block has.
 pub type PointsWords = [u32; 2];
-/// Promote's word: 0 met, 1 spent, 2 promoted, 3 capped.
+/// Choose's words: 0 met, 3 capped or 4 chosen; and the place that is chosen,
+/// else 0.
+pub type ChoiceWords = [u32; 2];
+/// Promote's word: 1 spent, 2 promoted.
 pub type OutcomeWord = [u32; 1];
 /// Result's words: pending error and scaled mean, the low word of each first,
 /// then old, active, wanted, reserved and ceiling, then the carried error, its
@@ -78,8 +81,18 @@ extern "C" {
         readings: usize,
     ) -> u32;
 
+    fn wihupya_choose(
+        job: *const JobWords,
+        choice: *mut ChoiceWords,
+        cells: *const u32,
+        words: usize,
+        store: *const i32,
+        readings: usize,
+    ) -> u32;
+
     fn wihupya_promote(
         job: *mut JobWords,
+        place: usize,
         outcome: *mut OutcomeWord,
         cells: *mut u32,
         words: usize,
@@ -177,8 +190,17 @@ pub fn deliver(
     unsafe { wihupya_deliver(job, block, count, indicator, cells, words, store, readings) }
 }
 
+pub fn choose(job: &JobWords, choice: &mut ChoiceWords, cells: &[u32], store: &[i32]) -> u32 {
+    let (words, readings) = (cells.len(), store.len());
+    let (cells, store) = (cells.as_ptr(), store.as_ptr());
+    // SAFETY: each pointer is that of a borrowed slice and stands before its
+    // length; choose writes the choice alone, which is borrowed mutably.
+    unsafe { wihupya_choose(job, choice, cells, words, store, readings) }
+}
+
 pub fn promote(
     job: &mut JobWords,
+    place: usize,
     outcome: &mut OutcomeWord,
     cells: &mut [u32],
     store: &[i32],
@@ -188,7 +210,7 @@ pub fn promote(
     // SAFETY: each pointer is that of a borrowed slice and stands before its
     // length; promote writes the job record, the outcome and the cells, all
     // borrowed mutably.
-    unsafe { wihupya_promote(job, outcome, cells, words, store, readings) }
+    unsafe { wihupya_promote(job, place, outcome, cells, words, store, readings) }
 }
 
 pub fn result(job: &JobWords, counts: &mut CountWords, cells: &[u32], store: &[i32]) -> u32 {

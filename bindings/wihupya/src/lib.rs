@@ -3,11 +3,11 @@
 //!
 //! The integrator decides which points to measure and averages the readings;
 //! the caller measures. While a block is wanted, the caller asks for its
-//! points and delivers their readings; else it promotes, until the job is met,
-//! capped or spent:
+//! points and delivers their readings; else it chooses, and promotes the place
+//! that is chosen or any other, until the job is met, capped or spent:
 //!
 //! ```
-//! use wihupya::{Integrator, Promotion, Refusal, CELLS, SCALE};
+//! use wihupya::{Choice, Integrator, Promotion, Refusal, CELLS, SCALE};
 //!
 //! /// The reading at (x, y) is x squared plus y.
 //! fn reading(point: &[u8]) -> i32 {
@@ -27,9 +27,12 @@
 //!             let indicator = readings.len() as u32 * 30;
 //!             job.deliver(&readings, indicator)?;
 //!         }
-//!         Err(Refusal::NoBlockWanted) => match job.promote()? {
-//!             Promotion::Promoted => {}
-//!             Promotion::Met | Promotion::Capped | Promotion::Spent => break,
+//!         Err(Refusal::NoBlockWanted) => match job.choose()? {
+//!             Choice::Place(place) => match job.promote(place)? {
+//!                 Promotion::Promoted => {}
+//!                 Promotion::Spent => break,
+//!             },
+//!             Choice::Met | Choice::Capped => break,
 //!         },
 //!         Err(refusal) => return Err(refusal),
 //!     }
@@ -86,19 +89,27 @@ pub struct Integrator<'a> {
     store: &'a mut [i32],
 }
 
-/// How a promotion came out.
+/// Whether a job goes on, and where.
 #[derive(Clone, Copy, Debug, PartialEq, Eq, Hash)]
-pub enum Promotion {
+pub enum Choice {
     /// Pending and carried error together are at most the threshold: the job is
     /// done.
     Met,
     /// The pending error is at most the threshold, but not together with the
     /// carried error, which no refining takes away: it lies at the ceilings.
     Capped,
-    /// The next refinement would take more readings than the budget, or more
-    /// than 512 indices.
+    /// The pending error is above the threshold: the place of the active index
+    /// of largest indicator, the lowest of several.
+    Place(usize),
+}
+
+/// How a promotion came out.
+#[derive(Clone, Copy, Debug, PartialEq, Eq, Hash)]
+pub enum Promotion {
+    /// Refining there would take more readings than the budget, or more than
+    /// 512 indices; nothing changed.
     Spent,
-    /// The active index of largest indicator is refined.
+    /// The index is refined.
     Promoted,
 }
 
@@ -261,20 +272,57 @@ impl<'a> Integrator<'a> {
         Refusal::judge(exported::deliver(job, readings, indicator, cells, store))
     }
 
-    /// Refines the active index of largest indicator if the pending error is
-    /// above the threshold, whatever is carried. Where the job is met, capped or
+    /// Tells the place of the active index of largest indicator if the pending
+    /// error is above the threshold, whatever is carried; else whether the job
+    /// is met or capped. Changes nothing.
+    pub fn choose(&self) -> Result<Choice, Refusal> {
+        let mut choice = [u32::MAX; 2];
+        Refusal::judge(exported::choose(&self.job, &mut choice, self.cells, self.store))?;
+        Ok(match choice {
+            [0, _] => Choice::Met,
+            [3, _] => Choice::Capped,
+            [4, place] => Choice::Place(place as usize),
+            [other, _] => panic!("{other} is no answer of choose"),
+        })
+    }
+
+    /// Refines the active index at a place, whatever the threshold is: the one
+    /// that [`choose`](Integrator::choose) tells, or any other. Where the job is
     /// spent, it changes nothing.
     ///
     /// Refining takes the index's indicator out of the pending error; where the
     /// index is at a ceiling, the indicator joins the carried error.
-    pub fn promote(&mut self) -> Result<Promotion, Refusal> {
+    ///
+    /// An index keeps its place, from 0, in the order in which the blocks are
+    /// wanted. Here the first axis is known to be the trouble, so it is refined
+    /// first, whatever the indicators say:
+    ///
+    /// ```
+    /// # use wihupya::{Choice, Integrator, Promotion, Refusal, CELLS};
+    /// # fn main() -> Result<(), Refusal> {
+    /// # let (mut cells, mut store) = (vec![0; CELLS], vec![0; 64]);
+    /// # let mut job = Integrator::new(&mut cells, &mut store);
+    /// job.start(2, 0, 64)?;
+    /// job.deliver(&[10], 1)?;
+    /// assert_eq!(job.promote(0)?, Promotion::Promoted);
+    /// // Place 1 has (2,1), place 2 has (1,2).
+    /// job.deliver(&[10, 10], 3)?;
+    /// job.deliver(&[20, 20], 5)?;
+    /// assert_eq!(job.choose()?, Choice::Place(2));
+    /// assert_eq!(job.promote(1)?, Promotion::Promoted);
+    /// // It is refined now, and no longer active.
+    /// job.deliver(&[10, 10], 0)?;
+    /// assert_eq!(job.promote(1), Err(Refusal::NotActive));
+    /// # Ok(())
+    /// # }
+    /// ```
+    pub fn promote(&mut self, place: usize) -> Result<Promotion, Refusal> {
         let mut outcome = [u32::MAX];
-        Refusal::judge(exported::promote(&mut self.job, &mut outcome, self.cells, self.store))?;
+        let Integrator { job, cells, store } = self;
+        Refusal::judge(exported::promote(job, place, &mut outcome, cells, store))?;
         Ok(match outcome {
-            [0] => Promotion::Met,
             [1] => Promotion::Spent,
             [2] => Promotion::Promoted,
-            [3] => Promotion::Capped,
             [other] => panic!("{other} is no outcome of promote"),
         })
     }
@@ -309,7 +357,7 @@ impl<'a> Integrator<'a> {
     /// # let mut job = Integrator::new(&mut cells, &mut store);
     /// job.start(1, 0, 64)?;
     /// job.deliver(&[0], 1)?;
-    /// job.promote()?;
+    /// job.promote(0)?;
     /// job.deliver(&[-3, -4], 7)?;
     /// let doubles = job.doubles()?;
     /// // The second block brings a quarter of -3 - 2 * 0 - 4.

@@ -22,7 +22,7 @@ pub enum Refusal {
     NotSound = 4,
     /// Point, points, deliver: all blocks are delivered.
     NoBlockWanted = 5,
-    /// Promote: a block is not delivered yet.
+    /// Choose, promote: a block is not delivered yet.
     BlockWanted = 6,
     /// Deliver: the block has another number of readings.
     WrongCount = 7,
@@ -30,11 +30,14 @@ pub enum Refusal {
     ReadingOutOfRange = 8,
     /// Point, points: the number is not below that of the block's points.
     NoSuchPoint = 9,
+    /// Promote: the place is not that of an active index. It is refined
+    /// already, or no index is there.
+    NotActive = 11,
 }
 
 impl Refusal {
     /// Every cause, in the order of the numbers.
-    pub const ALL: [Refusal; 9] = [
+    pub const ALL: [Refusal; 10] = [
         Refusal::AxesOutOfRange,
         Refusal::BudgetOutOfRange,
         Refusal::TooShort,
@@ -44,6 +47,7 @@ impl Refusal {
         Refusal::WrongCount,
         Refusal::ReadingOutOfRange,
         Refusal::NoSuchPoint,
+        Refusal::NotActive,
     ];
 
     /// The number of the cause.
@@ -76,6 +80,7 @@ impl Display for Refusal {
             Refusal::WrongCount => "the block has another number of readings",
             Refusal::ReadingOutOfRange => "a reading is outside -1,048,576 to 1,048,576",
             Refusal::NoSuchPoint => "the block has no point of this number",
+            Refusal::NotActive => "the place is not that of an active index",
         };
         write!(text, "refused with {}: {said}", self.number())
     }
@@ -90,8 +95,8 @@ mod tests {
     #[test]
     fn a_number_names_its_cause() {
         assert_eq!(Refusal::judge(0), Ok(()));
-        for (before, cause) in Refusal::ALL.into_iter().enumerate() {
-            assert_eq!(cause.number() as usize, before + 1);
+        assert_eq!(Refusal::ALL.map(Refusal::number), [1, 2, 3, 4, 5, 6, 7, 8, 9, 11]);
+        for cause in Refusal::ALL {
             assert_eq!(Refusal::judge(cause.number()), Err(cause));
         }
     }
@@ -105,8 +110,8 @@ mod tests {
     #[test]
     fn each_cause_says_its_number_and_something_of_its_own() {
         let texts = Refusal::ALL.map(|cause| cause.to_string());
-        for (before, text) in texts.iter().enumerate() {
-            assert!(text.starts_with(&format!("refused with {}: ", before + 1)), "{text}");
+        for (cause, text) in Refusal::ALL.iter().zip(&texts) {
+            assert!(text.starts_with(&format!("refused with {}: ", cause.number())), "{text}");
             let said = text.split_once(": ").map(|(_, said)| said);
             let alike = texts.iter().filter(|other| other.split_once(": ").map(|(_, s)| s) == said);
             assert_eq!(alike.count(), 1, "{text}");

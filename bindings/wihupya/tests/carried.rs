@@ -4,14 +4,14 @@
 mod support;
 
 use support::{refused, run, Storage};
-use wihupya::{Counts, Promotion, Refusal, RECORD_CELLS, SCALE};
+use wihupya::{Choice, Counts, Promotion, Refusal, RECORD_CELLS, SCALE};
 
 /// The cell of a record that holds its indicator.
 const INDICATOR: usize = 9;
 
 /// One axis and readings all 3. The budget is what the axis takes up to its
 /// highest level.
-fn one_axis(threshold: u64, indicator: impl Fn(u32) -> u32) -> (Storage, Promotion) {
+fn one_axis(threshold: u64, indicator: impl Fn(u32) -> u32) -> (Storage, Choice) {
     run((1, threshold, 129), 3, |levels| indicator(levels[0]))
 }
 
@@ -19,18 +19,15 @@ fn one_axis(threshold: u64, indicator: impl Fn(u32) -> u32) -> (Storage, Promoti
 /// carried.
 fn capped() -> Storage {
     let (storage, end) = one_axis(9, |_| 10);
-    assert_eq!(end, Promotion::Capped);
+    assert_eq!(end, Choice::Capped);
     storage
 }
 
-/// Promotes in a copy of the area with another threshold, which is sound too.
-fn promoted_with(storage: &Storage, threshold: u64) -> Promotion {
+/// Chooses in a copy of the area with another threshold, which is sound too.
+fn chosen_with(storage: &Storage, threshold: u64) -> Choice {
     let mut storage = storage.clone();
     storage.job.threshold = threshold;
-    let before = storage.clone();
-    let promotion = storage.call(|job| job.promote()).unwrap();
-    assert!(storage == before, "{promotion:?} changes nothing");
-    promotion
+    storage.call(|job| job.choose()).unwrap()
 }
 
 #[test]
@@ -49,17 +46,30 @@ fn a_job_whose_last_refinement_is_at_a_ceiling_is_capped() {
     assert_eq!(storage.call(|job| job.result()), Ok(expected));
     assert_eq!(storage.call(|job| job.cross_total()), Ok(3 * SCALE));
     assert_eq!(storage.job.carried_error, 10);
-    assert_eq!(promoted_with(&storage, 9), Promotion::Capped);
+    assert_eq!(storage.call(|job| job.choose()), Ok(Choice::Capped));
 }
 
 /// The highest level is active, so its indicator is pending and not carried.
 #[test]
 fn a_pending_error_equal_to_the_threshold_is_met_with_nothing_carried() {
     let (mut storage, end) = one_axis(10, |level| if level < 8 { 11 } else { 10 });
-    assert_eq!(end, Promotion::Met);
+    assert_eq!(end, Choice::Met);
     let counts = storage.call(|job| job.result()).unwrap();
     assert_eq!((counts.pending_error, counts.carried_error), (10, 0));
     assert_eq!((counts.old, counts.active, counts.ceiling), (7, 1, 0));
+}
+
+/// A job that promotes only what is chosen never comes to this. Here the highest
+/// level is refined although the job is met already.
+#[test]
+fn a_job_refined_beyond_its_end_is_met_with_something_carried() {
+    let (mut storage, end) = one_axis(10, |level| if level < 8 { 11 } else { 10 });
+    assert_eq!(end, Choice::Met);
+    assert_eq!(storage.call(|job| job.promote(7)), Ok(Promotion::Promoted));
+    let counts = storage.call(|job| job.result()).unwrap();
+    assert_eq!((counts.pending_error, counts.carried_error), (0, 10));
+    assert_eq!((counts.old, counts.active, counts.ceiling), (8, 0, 1));
+    assert_eq!(storage.call(|job| job.choose()), Ok(Choice::Met));
 }
 
 /// (8,1) is refined before (1,2), which is still active at the end.
@@ -71,20 +81,20 @@ fn pending_and_carried_error_count_together() {
         _ => 100,
     };
     let (mut storage, end) = run((2, 9, 131), 1, indicator);
-    assert_eq!(end, Promotion::Capped);
+    assert_eq!(end, Choice::Capped);
     let counts = storage.call(|job| job.result()).unwrap();
     assert_eq!((counts.pending_error, counts.carried_error), (5, 6));
     assert_eq!((counts.old, counts.active, counts.ceiling), (8, 1, 1));
-    let outcomes = [
-        // The job would go on, whatever is carried; for that its budget is spent.
-        (4, Promotion::Spent),
-        (5, Promotion::Capped),
-        (10, Promotion::Capped),
-        (11, Promotion::Met),
-        (u64::MAX, Promotion::Met),
+    let choices = [
+        // The job goes on, whatever is carried.
+        (4, Choice::Place(2)),
+        (5, Choice::Capped),
+        (10, Choice::Capped),
+        (11, Choice::Met),
+        (u64::MAX, Choice::Met),
     ];
-    for (threshold, promotion) in outcomes {
-        assert_eq!(promoted_with(&storage, threshold), promotion, "threshold {threshold}");
+    for (threshold, choice) in choices {
+        assert_eq!(chosen_with(&storage, threshold), choice, "threshold {threshold}");
     }
 }
 
@@ -94,7 +104,7 @@ fn pending_and_carried_error_count_together() {
 fn an_index_at_a_ceiling_along_two_axes_counts_once() {
     let indicator = |levels: &[u32]| if levels.contains(&8) { 0 } else { 10 };
     let (mut storage, end) = run((2, 9, 4_353), 1, indicator);
-    assert_eq!(end, Promotion::Capped);
+    assert_eq!(end, Choice::Capped);
     let counts = storage.call(|job| job.result()).unwrap();
     assert_eq!((counts.pending_error, counts.carried_error), (0, 10));
     assert_eq!((counts.old, counts.active, counts.ceiling), (49, 2, 2));
@@ -111,7 +121,7 @@ fn nothing_is_carried_before_an_index_at_a_ceiling_is_refined() {
         let readings = vec![3; storage.call(|job| job.wanted_block().unwrap().len())];
         storage.call(|job| job.deliver(&readings, 10)).unwrap();
         assert_eq!((storage.job.pending_error, storage.job.carried_error), (10, 0));
-        assert_eq!(storage.call(|job| job.promote()), Ok(Promotion::Promoted));
+        assert_eq!(storage.call(|job| job.promote(level - 1)), Ok(Promotion::Promoted));
         let carried = if level == 8 { 10 } else { 0 };
         assert_eq!((storage.job.pending_error, storage.job.carried_error), (0, carried));
         assert!(storage.call(|job| job.check()));
@@ -129,7 +139,8 @@ fn another_carried_error_is_not_sound() {
         refused(&mut storage, cause, |job| job.points(0, &mut [0; 1]));
         refused(&mut storage, cause, |job| job.wanted_block().map(|block| block.len()));
         refused(&mut storage, cause, |job| job.deliver(&[0], 1));
-        refused(&mut storage, cause, |job| job.promote());
+        refused(&mut storage, cause, |job| job.choose());
+        refused(&mut storage, cause, |job| job.promote(7));
         refused(&mut storage, cause, |job| job.result());
         refused(&mut storage, cause, |job| job.doubles());
         refused(&mut storage, cause, |job| job.cross_total());

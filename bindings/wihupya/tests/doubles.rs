@@ -3,7 +3,7 @@
 
 mod support;
 
-use support::Storage;
+use support::{promote_chosen, Storage};
 use wihupya::{Doubles, Integrator, LARGEST_READING, SCALE};
 
 /// Bit by bit, so that -0 is not taken for 0.
@@ -26,7 +26,7 @@ fn one_axis(root: i32, ends: [i32; 2], indicator: u32) -> Storage {
     let mut storage = Storage::started(1, 0, 64);
     storage.call(|job| {
         job.deliver(&[root], 1).unwrap();
-        job.promote().unwrap();
+        job.promote(0).unwrap();
         job.deliver(&ends, indicator).unwrap();
     });
     storage
@@ -44,7 +44,7 @@ fn the_documents_job() {
     ];
     for (indicator, readings, expected) in deliveries {
         if storage.call(|job| job.wanted_block().is_err()) {
-            storage.call(|job| job.promote()).unwrap();
+            storage.call(promote_chosen);
         }
         storage.call(|job| job.deliver(readings, indicator)).unwrap();
         assert_doubles(&mut storage, expected);

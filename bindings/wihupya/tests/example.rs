@@ -1,6 +1,6 @@
 //! The scope document's job of 100 bytes, run by calls.
 
-use wihupya::{Counts, Doubles, Integrator, JobRecord, Promotion, Refusal, CELLS, SCALE};
+use wihupya::{Choice, Counts, Doubles, Integrator, JobRecord, Promotion, Refusal, CELLS, SCALE};
 
 /// Indicators in the order in which the job wants the blocks.
 const INDICATORS: [u32; 4] = [100, 50, 0, 10];
@@ -37,12 +37,12 @@ fn the_documents_job_comes_to_the_documents_figures() {
             delivered += 1;
             continue;
         }
-        match job.promote() {
-            Ok(Promotion::Promoted) => {}
+        match job.choose() {
+            Ok(Choice::Place(place)) => assert_eq!(job.promote(place), Ok(Promotion::Promoted)),
             end => break end,
         }
     };
-    assert_eq!(end, Ok(Promotion::Met));
+    assert_eq!(end, Ok(Choice::Met));
     assert_eq!(delivered, 4, "no entry is left over");
     let scaled_mean = 5_972_688_896;
     let expected = Counts {
@@ -82,7 +82,7 @@ fn a_copied_work_area_goes_on_as_the_first_one_does() {
     assert_eq!(job.deliver(&[4_160], 100), Ok(()));
     let (mut cells, mut store) = (job.cells().to_vec(), job.store().to_vec());
     let mut copy = Integrator::resume(job.job(), &mut cells, &mut store);
-    assert_eq!(copy.promote(), Ok(Promotion::Promoted));
+    assert_eq!(copy.promote(0), Ok(Promotion::Promoted));
     assert_eq!(copy.result().map(|counts| (counts.old, counts.wanted)), Ok((1, 2)));
     assert_eq!(job.result().map(|counts| (counts.old, counts.wanted)), Ok((0, 0)));
 }

@@ -18,7 +18,7 @@ static struct area {
 } area, before;
 
 static uint8_t position[WIHUPYA_MOST_AXES], positions[WIHUPYA_LARGEST_BLOCK * WIHUPYA_MOST_AXES];
-static uint32_t written[WIHUPYA_POINTS_WORDS], outcome[WIHUPYA_OUTCOME_WORDS];
+static uint32_t written[WIHUPYA_POINTS_WORDS], choice[WIHUPYA_CHOICE_WORDS], outcome[WIHUPYA_OUTCOME_WORDS];
 static uint32_t counts[WIHUPYA_COUNT_WORDS], total[WIHUPYA_TOTAL_WORDS];
 static double report[WIHUPYA_DOUBLES_LENGTH];
 
@@ -48,9 +48,29 @@ static uint32_t deliver(const int32_t *block, size_t count, uint32_t indicator)
     return wihupya_deliver(area.job, block, count, indicator, WHOLE);
 }
 
-static void promote(void)
+static uint32_t choose(void)
 {
-    EXPECT(wihupya_promote(area.job, outcome, WHOLE) == WIHUPYA_ACCEPTED && outcome[0] == WIHUPYA_PROMOTED);
+    return wihupya_choose(area.job, choice, WHOLE);
+}
+
+static uint32_t promote(size_t place)
+{
+    return wihupya_promote(area.job, place, outcome, WHOLE);
+}
+
+/* Whether choose is accepted, leaves the area, and writes this answer and this place. */
+static bool choice_is(uint32_t answer, uint32_t place)
+{
+    before = area;
+    choice[WIHUPYA_CHOICE_ANSWER] = choice[WIHUPYA_CHOICE_PLACE] = MARK;
+    EXPECT(choose() == WIHUPYA_ACCEPTED && memcmp(&before, &area, sizeof area) == 0);
+    return choice[WIHUPYA_CHOICE_ANSWER] == answer && choice[WIHUPYA_CHOICE_PLACE] == place;
+}
+
+/* Whether promote is accepted there, and is promoted. */
+static bool promoted(size_t place)
+{
+    return promote(place) == WIHUPYA_ACCEPTED && outcome[0] == WIHUPYA_PROMOTED;
 }
 
 static void test_start(void)
@@ -115,14 +135,11 @@ static void test_steps(void)
     const int32_t root[1] = {-WIHUPYA_LARGEST_READING}, ends[2] = {5, WIHUPYA_LARGEST_READING};
     const int32_t beyond[2] = {5, -WIHUPYA_LARGEST_READING - 1};
     EXPECT(start(0) == WIHUPYA_ACCEPTED);
-    outcome[0] = MARK;
-    REFUSED(WIHUPYA_BLOCK_WANTED, wihupya_promote(area.job, outcome, WHOLE));
-    EXPECT(outcome[0] == MARK);
     EXPECT(deliver(root, 1, UINT32_MAX) == WIHUPYA_ACCEPTED);
     EXPECT(area.cells[WIHUPYA_CELL_INDICATOR] == UINT32_MAX && area.store[0] == root[0]);
     REFUSED(WIHUPYA_NO_BLOCK_WANTED, wihupya_point(area.job, 0, WHOLE, position, AXES));
     REFUSED(WIHUPYA_NO_BLOCK_WANTED, points(0, AXES));
-    promote();
+    EXPECT(promoted(0));
 
     memset(position, MARK, sizeof position);
     REFUSED(WIHUPYA_TOO_SHORT, wihupya_point(area.job, 0, WHOLE, position, AXES - 1));
@@ -169,10 +186,60 @@ static void test_negative_mean(void)
     EXPECT(start(UINT32_MAX) == WIHUPYA_ACCEPTED && deliver(root, 1, UINT32_MAX) == WIHUPYA_ACCEPTED);
     EXPECT(wihupya_signed_at(area.job, WIHUPYA_JOB_MEAN) == -WIHUPYA_SCALE);
     EXPECT(wihupya_cross_total(area.job, total, WHOLE) == WIHUPYA_ACCEPTED && wihupya_signed_at(total, 0) == -WIHUPYA_SCALE);
-    EXPECT(wihupya_promote(area.job, outcome, WHOLE) == WIHUPYA_ACCEPTED && outcome[0] == WIHUPYA_MET);
+    EXPECT(choice_is(WIHUPYA_MET, 0));
 }
 
-/* Runs a job to its end, with readings all 3 and this indicator for every block but that of (2,2), which has 0. */
+/* Choose and promote are refused with this number, lent so much of the area, and leave their words. */
+static void test_both_refused(uint32_t number, size_t place, size_t words, size_t readings)
+{
+    choice[WIHUPYA_CHOICE_ANSWER] = choice[WIHUPYA_CHOICE_PLACE] = outcome[0] = MARK;
+    REFUSED(number, wihupya_choose(area.job, choice, LENT(words, readings)));
+    REFUSED(number, wihupya_promote(area.job, place, outcome, LENT(words, readings)));
+    EXPECT(choice[WIHUPYA_CHOICE_ANSWER] == MARK && choice[WIHUPYA_CHOICE_PLACE] == MARK && outcome[0] == MARK);
+}
+
+/* The order of the causes, each time with the next one present too; then the places that are not active. */
+static void test_causes_of_choosing(void)
+{
+    const int32_t root[1] = {3};
+    EXPECT(start(40) == WIHUPYA_ACCEPTED);
+    test_both_refused(WIHUPYA_BLOCK_WANTED, SIZE_MAX, WIHUPYA_CELLS, BUDGET);
+    area.job[WIHUPYA_JOB_PENDING] ^= 1;
+    test_both_refused(WIHUPYA_NOT_SOUND, 0, WIHUPYA_CELLS, BUDGET);
+    test_both_refused(WIHUPYA_TOO_SHORT, 0, WIHUPYA_CELLS - 1, BUDGET);
+    test_both_refused(WIHUPYA_TOO_SHORT, 0, WIHUPYA_CELLS, BUDGET - 1);
+
+    EXPECT(start(40) == WIHUPYA_ACCEPTED && deliver(root, 1, 40) == WIHUPYA_ACCEPTED);
+    REFUSED(WIHUPYA_NOT_ACTIVE, promote(1));
+    REFUSED(WIHUPYA_NOT_ACTIVE, promote(WIHUPYA_RECORDS));
+    REFUSED(WIHUPYA_NOT_ACTIVE, promote((size_t)1 << 32));
+    REFUSED(WIHUPYA_NOT_ACTIVE, promote(SIZE_MAX));
+    EXPECT(outcome[0] == MARK);
+}
+
+/* After these: the job is met with its root, and is refined all the same. */
+static void test_choosing(void)
+{
+    const int32_t root[1] = {3}, ends[2] = {3, 3};
+    const uint32_t *last = area.cells + 3 * WIHUPYA_RECORD_CELLS + WIHUPYA_CELL_LEVELS;
+    EXPECT(choice_is(WIHUPYA_MET, 0));
+    EXPECT(promoted(0));
+    EXPECT(deliver(ends, 2, 30) == WIHUPYA_ACCEPTED && deliver(ends, 2, 30) == WIHUPYA_ACCEPTED);
+    EXPECT(choice_is(WIHUPYA_CHOSEN, 1));
+    REFUSED(WIHUPYA_NOT_ACTIVE, promote(0));
+    REFUSED(WIHUPYA_NOT_ACTIVE, promote((size_t)1 << 32 | 2));
+    EXPECT(promoted(2));
+    EXPECT(area.job[WIHUPYA_JOB_HELD] == 4 && last[0] == 1 && last[1] == 3);
+
+    /* A budget of 4 has no room for the root's neighbours. */
+    EXPECT(wihupya_start(area.job, AXES, 0, 4, WHOLE) == WIHUPYA_ACCEPTED && deliver(root, 1, 0) == WIHUPYA_ACCEPTED);
+    EXPECT(choice_is(WIHUPYA_MET, 0));
+    before = area;
+    EXPECT(promote(0) == WIHUPYA_ACCEPTED && outcome[0] == WIHUPYA_SPENT);
+    EXPECT(memcmp(&before, &area, sizeof area) == 0);
+}
+
+/* Runs a job until it is met or capped, with readings all 3 and this indicator for every block but that of (2,2), which has 0. */
 static uint32_t run(uint32_t axes, uint64_t threshold, uint32_t indicator)
 {
     int32_t block[64];
@@ -181,9 +248,10 @@ static uint32_t run(uint32_t axes, uint64_t threshold, uint32_t indicator)
     EXPECT(wihupya_start(area.job, axes, threshold, BUDGET, WHOLE) == WIHUPYA_ACCEPTED);
     for (size_t place = 0;;) {
         if (place == area.job[WIHUPYA_JOB_HELD]) {
-            EXPECT(wihupya_promote(area.job, outcome, WHOLE) == WIHUPYA_ACCEPTED);
-            if (outcome[0] != WIHUPYA_PROMOTED)
-                return outcome[0];
+            EXPECT(choose() == WIHUPYA_ACCEPTED);
+            if (choice[WIHUPYA_CHOICE_ANSWER] != WIHUPYA_CHOSEN)
+                return choice[WIHUPYA_CHOICE_ANSWER];
+            EXPECT(promoted(choice[WIHUPYA_CHOICE_PLACE]));
         } else {
             const uint32_t *levels = area.cells + place * WIHUPYA_RECORD_CELLS + WIHUPYA_CELL_LEVELS;
             EXPECT(points(0, sizeof positions) == WIHUPYA_ACCEPTED && written[WIHUPYA_POINTS_OF_BLOCK] <= 64);
@@ -204,7 +272,8 @@ static void test_altered_carried(uint32_t low, uint32_t high)
     REFUSED(WIHUPYA_NOT_SOUND, wihupya_point(area.job, 0, WHOLE, position, sizeof position));
     REFUSED(WIHUPYA_NOT_SOUND, points(0, sizeof positions));
     REFUSED(WIHUPYA_NOT_SOUND, deliver(block, 1, 1));
-    REFUSED(WIHUPYA_NOT_SOUND, wihupya_promote(area.job, outcome, WHOLE));
+    REFUSED(WIHUPYA_NOT_SOUND, choose());
+    REFUSED(WIHUPYA_NOT_SOUND, promote(0));
     REFUSED(WIHUPYA_NOT_SOUND, wihupya_result(area.job, counts, WHOLE));
     REFUSED(WIHUPYA_NOT_SOUND, wihupya_doubles(area.job, report, WHOLE));
     REFUSED(WIHUPYA_NOT_SOUND, wihupya_cross_total(area.job, total, WHOLE));
@@ -225,12 +294,10 @@ static void test_carried(void)
     test_altered_carried(0, 0);
     test_altered_carried(10, 1);
 
-    /* Capped leaves the area. With another threshold the area is still sound, and with 10 it is met. */
-    before = area;
-    EXPECT(wihupya_promote(area.job, outcome, WHOLE) == WIHUPYA_ACCEPTED && outcome[0] == WIHUPYA_CAPPED);
-    EXPECT(memcmp(&before, &area, sizeof area) == 0);
+    /* With another threshold the area is still sound, and with 10 it is met. */
+    EXPECT(choice_is(WIHUPYA_CAPPED, 0));
     area.job[WIHUPYA_JOB_THRESHOLD] = 10;
-    EXPECT(wihupya_promote(area.job, outcome, WHOLE) == WIHUPYA_ACCEPTED && outcome[0] == WIHUPYA_MET);
+    EXPECT(choice_is(WIHUPYA_MET, 0));
 
     /* Above 32 bits. */
     EXPECT(run(AXES, 0, UINT32_MAX) == WIHUPYA_CAPPED);
@@ -258,9 +325,9 @@ static void test_doubles_of_example(void)
 {
     const int32_t root[1] = {4160}, first[2] = {64, 16448}, second[2] = {4096, 4224}, third[2] = {1088, 9280};
     EXPECT(start(40) == WIHUPYA_ACCEPTED && deliver(root, 1, 100) == WIHUPYA_ACCEPTED);
-    promote();
+    EXPECT(promoted(0));
     EXPECT(deliver(first, 2, 50) == WIHUPYA_ACCEPTED && deliver(second, 2, 0) == WIHUPYA_ACCEPTED);
-    promote();
+    EXPECT(promoted(1));
     EXPECT(deliver(third, 2, 10) == WIHUPYA_ACCEPTED);
     EXPECT(doubles_are(5696.0, 10.0, 4160.0));
 
@@ -279,7 +346,7 @@ static void test_doubles_of_example(void)
 static void run_one_axis(int32_t root, const int32_t ends[2], uint32_t indicator)
 {
     EXPECT(wihupya_start(area.job, 1, 0, BUDGET, WHOLE) == WIHUPYA_ACCEPTED && deliver(&root, 1, 1) == WIHUPYA_ACCEPTED);
-    promote();
+    EXPECT(promoted(0));
     EXPECT(deliver(ends, 2, indicator) == WIHUPYA_ACCEPTED);
 }
 
@@ -311,6 +378,8 @@ int main(void)
     test_steps();
     test_result();
     test_negative_mean();
+    test_causes_of_choosing();
+    test_choosing();
     test_carried();
     test_doubles();
     return EXIT_SUCCESS;

@@ -78,27 +78,41 @@ fn the_job_records_words_are_the_headers() {
     assert_eq!(narrow, [7, 8, 9, 10]);
 }
 
-/// The words as the library writes them, and the outcome that the bindings make
-/// of the same area.
+/// One axis; the root is delivered with the indicator 5.
+fn root_delivered(threshold: u64, budget: u32) -> Storage {
+    let mut storage = Storage::started(1, threshold, budget);
+    storage.call(|job| job.deliver(&[0], 5)).unwrap();
+    storage
+}
+
+/// The words as the library writes them, and what the bindings make of them.
+#[test]
+fn choices_have_the_headers_numbers() {
+    let choices = [
+        ("MET", root_delivered(5, 1), 0, Choice::Met),
+        ("CAPPED", run((1, 9, 129), 0, |_| 10).0, 0, Choice::Capped),
+        ("CHOSEN", Storage::wanting_nothing(), 1, Choice::Place(1)),
+    ];
+    for (name, mut storage, place, choice) in choices {
+        let (cause, words) = storage.choice_words();
+        assert_eq!((cause, words.len()), (0, number("CHOICE_WORDS")));
+        assert_eq!(words[number("CHOICE_ANSWER")] as usize, number(name), "{name}");
+        assert_eq!(words[number("CHOICE_PLACE")], place, "{name}");
+        assert_eq!(storage.call(|job| job.choose()), Ok(choice), "{name}");
+    }
+}
+
 #[test]
 fn outcomes_have_the_headers_numbers() {
-    let delivered = |threshold, budget| {
-        let mut storage = Storage::started(1, threshold, budget);
-        storage.call(|job| job.deliver(&[0], 5)).unwrap();
-        storage
-    };
     let outcomes = [
-        ("MET", delivered(5, 1), Promotion::Met),
-        ("SPENT", delivered(4, 2), Promotion::Spent),
-        ("PROMOTED", delivered(4, 3), Promotion::Promoted),
-        ("CAPPED", run((1, 9, 129), 0, |_| 10).0, Promotion::Capped),
+        ("SPENT", root_delivered(4, 2), Promotion::Spent),
+        ("PROMOTED", root_delivered(4, 3), Promotion::Promoted),
     ];
     for (name, mut storage, promotion) in outcomes {
-        let Storage { job, mut cells, store } = storage.clone();
-        let mut outcome = [u32::MAX];
-        assert_eq!(wihupya_sys::promote(&mut job.to_words(), &mut outcome, &mut cells, &store), 0);
-        assert_eq!(outcome[0] as usize, number(name), "{name}");
-        assert_eq!(storage.call(|job| job.promote()), Ok(promotion), "{name}");
+        let (cause, words) = storage.clone().outcome_word(0);
+        assert_eq!((cause, words.len()), (0, number("OUTCOME_WORDS")));
+        assert_eq!(words[0] as usize, number(name), "{name}");
+        assert_eq!(storage.call(|job| job.promote(0)), Ok(promotion), "{name}");
     }
 }
 

@@ -4,7 +4,7 @@
 mod support;
 
 use support::{refused, refused_in, Storage};
-use wihupya::{Integrator, JobRecord, Refusal, CELLS};
+use wihupya::{Integrator, JobRecord, Promotion, Refusal, CELLS};
 
 /// Makes a call in a part of the storage, where it must be refused.
 type Refused = fn(&mut Storage, (usize, usize), Refusal);
@@ -25,7 +25,10 @@ fn calls_on_an_area() -> Vec<(Storage, Refused)> {
             refused_in(storage, part, cause, |job| job.deliver(&[64, 16_448], 1))
         }),
         (Storage::wanting_nothing(), |storage, part, cause| {
-            refused_in(storage, part, cause, |job| job.promote())
+            refused_in(storage, part, cause, |job| job.choose())
+        }),
+        (Storage::wanting_nothing(), |storage, part, cause| {
+            refused_in(storage, part, cause, |job| job.promote(1))
         }),
         (Storage::wanting_two(), |storage, part, cause| {
             refused_in(storage, part, cause, |job| job.result())
@@ -131,8 +134,10 @@ fn no_block_wanted() {
 
 #[test]
 fn a_block_wanted() {
-    refused(&mut Storage::started(2, 0, 64), Refusal::BlockWanted, |job| job.promote());
-    refused(&mut Storage::wanting_two(), Refusal::BlockWanted, |job| job.promote());
+    for mut storage in [Storage::started(2, 0, 64), Storage::wanting_two()] {
+        refused(&mut storage, Refusal::BlockWanted, |job| job.choose());
+        refused(&mut storage, Refusal::BlockWanted, |job| job.promote(0));
+    }
 }
 
 #[test]
@@ -161,4 +166,14 @@ fn no_such_point() {
             refused_from(&mut storage, n, length, Refusal::NoSuchPoint);
         }
     }
+}
+
+/// Place 0 is old; places 1 and 2 are active, and no more are held.
+#[test]
+fn not_active() {
+    let mut storage = Storage::wanting_nothing();
+    for place in [0, 3, 511, 512, usize::MAX] {
+        refused(&mut storage, Refusal::NotActive, |job| job.promote(place));
+    }
+    assert_eq!(storage.call(|job| job.promote(2)), Ok(Promotion::Promoted));
 }

@@ -3,7 +3,7 @@
 mod support;
 
 use support::{run, Storage};
-use wihupya::{JobRecord, Promotion, LARGEST_READING, SCALE};
+use wihupya::{Choice, JobRecord, LARGEST_READING, SCALE};
 
 #[test]
 fn every_twelve_words_are_a_job_record() {
@@ -31,7 +31,7 @@ fn a_threshold_keeps_its_64_bits() {
         let mut storage = Storage::started(1, threshold, 64);
         assert_eq!(storage.job.threshold, threshold);
         storage.call(|job| job.deliver(&[0], u32::MAX)).unwrap();
-        assert_eq!(storage.call(|job| job.promote()), Ok(Promotion::Met));
+        assert_eq!(storage.call(|job| job.choose()), Ok(Choice::Met));
     }
 }
 
@@ -52,7 +52,7 @@ fn a_pending_error_passes_32_bits() {
 fn a_carried_error_passes_32_bits() {
     let indicator = |levels: &[u32]| if levels == [2, 2] { 0 } else { u32::MAX };
     let (mut storage, end) = run((2, 0, 261), 1, indicator);
-    assert_eq!(end, Promotion::Capped);
+    assert_eq!(end, Choice::Capped);
     let counts = storage.call(|job| job.result()).unwrap();
     assert_eq!((counts.old, counts.ceiling, counts.pending_error), (15, 2, 0));
     assert_eq!(counts.carried_error, 2 * u64::from(u32::MAX));

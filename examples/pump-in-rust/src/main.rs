@@ -4,7 +4,7 @@
 //! report of the job, with `--doubles` its figures for a plotting package, or
 //! with `--job` the job as a text, from which `jobtext pack` makes a job file.
 
-use wihupya::{Counts, Doubles, Integrator, Point, Promotion, Refusal, CELLS};
+use wihupya::{Choice, Counts, Doubles, Integrator, Point, Promotion, Refusal, CELLS};
 
 const AXES: u32 = 4;
 const BUDGET: u32 = 2_000;
@@ -74,6 +74,20 @@ fn indicator(job: &Integrator, readings: &[i32]) -> Result<u32, Refusal> {
     Ok(u32::try_from(moved / 1_024).expect("a block moves the scaled mean by at most 2^40"))
 }
 
+/// Chooses and promotes: refines where the indicator is largest. Says how the
+/// job ended, if it does not go on. Who knows better what to refine first
+/// promotes another active place.
+fn refine(job: &mut Integrator) -> Result<Option<&'static str>, Refusal> {
+    Ok(match job.choose()? {
+        Choice::Met => Some("met"),
+        Choice::Capped => Some("capped"),
+        Choice::Place(place) => match job.promote(place)? {
+            Promotion::Spent => Some("spent"),
+            Promotion::Promoted => None,
+        },
+    })
+}
+
 /// Runs the job to its end; says how it ended, and what was delivered.
 fn run(job: &mut Integrator) -> Result<(&'static str, Vec<Entry>), Refusal> {
     let mut entries = Vec::new();
@@ -84,15 +98,9 @@ fn run(job: &mut Integrator) -> Result<(&'static str, Vec<Entry>), Refusal> {
             let indicator = indicator(job, &readings)?;
             job.deliver(&readings, indicator)?;
             entries.push(Entry { indicator, readings });
-            continue;
+        } else if let Some(end) = refine(job)? {
+            return Ok((end, entries));
         }
-        let end = match job.promote()? {
-            Promotion::Promoted => continue,
-            Promotion::Met => "met",
-            Promotion::Capped => "capped",
-            Promotion::Spent => "spent",
-        };
-        return Ok((end, entries));
     }
 }
 

@@ -5,10 +5,12 @@
 
 use std::fmt::Debug;
 use wihupya::{
-    Integrator, JobRecord, Promotion, Refusal, CELLS, JOB_WORDS, LARGEST_BUDGET, RECORD_CELLS,
+    Choice, Integrator, JobRecord, Promotion, Refusal, CELLS, JOB_WORDS, LARGEST_BUDGET,
+    RECORD_CELLS,
 };
+use wihupya_sys::{ChoiceWords, OutcomeWord};
 
-const MARK: u32 = 0xa5a5_a5a5;
+pub const MARK: u32 = 0xa5a5_a5a5;
 
 /// A work area of the test's own, so that it can be altered and lent in part.
 #[derive(Clone, Debug, PartialEq, Eq)]
@@ -36,7 +38,7 @@ impl Storage {
     pub fn wanting_two() -> Storage {
         let mut storage = Storage::started(2, 0, 64);
         storage.call(|job| job.deliver(&[4_160], 100)).unwrap();
-        assert_eq!(storage.call(|job| job.promote()), Ok(Promotion::Promoted));
+        assert_eq!(storage.call(|job| job.promote(0)), Ok(Promotion::Promoted));
         storage
     }
 
@@ -66,6 +68,31 @@ impl Storage {
         self.job = job.job();
         answer
     }
+
+    /// Choose's number, and its words, which held marks before.
+    pub fn choice_words(&self) -> (u32, ChoiceWords) {
+        let mut choice = [MARK; 2];
+        let Storage { job, cells, store } = self;
+        (wihupya_sys::choose(&job.to_words(), &mut choice, cells, store), choice)
+    }
+
+    /// Promote's number, and its word, which held a mark before.
+    pub fn outcome_word(&mut self, place: usize) -> (u32, OutcomeWord) {
+        let (mut words, mut outcome) = (self.job.to_words(), [MARK]);
+        let Storage { cells, store, .. } = self;
+        let number = wihupya_sys::promote(&mut words, place, &mut outcome, cells, store);
+        self.job = JobRecord::from_words(words);
+        (number, outcome)
+    }
+}
+
+/// Chooses, and promotes the place that is chosen.
+pub fn promote_chosen(job: &mut Integrator) -> Choice {
+    let choice = job.choose().unwrap();
+    if let Choice::Place(place) = choice {
+        assert_eq!(job.promote(place), Ok(Promotion::Promoted));
+    }
+    choice
 }
 
 /// A job that goes straight to an index: it refines those of no level above the
@@ -79,7 +106,7 @@ pub fn grow(axes: u32, target: &[u32], mut look: impl FnMut(&Integrator)) -> Sto
         let mut delivered = 0;
         loop {
             if delivered == job.job().held as usize {
-                assert_eq!(job.promote(), Ok(Promotion::Promoted));
+                assert!(matches!(promote_chosen(job), Choice::Place(_)));
                 continue;
             }
             look(job);
@@ -96,13 +123,14 @@ pub fn grow(axes: u32, target: &[u32], mut look: impl FnMut(&Integrator)) -> Sto
     storage
 }
 
-/// A job run to its end, and how it ended. All readings are this one; a block's
-/// indicator comes from its levels.
+/// A job that promotes what is chosen until it is met or capped, and which of
+/// them it is. All readings are this one; a block's indicator comes from its
+/// levels.
 pub fn run(
     (axes, threshold, budget): (u32, u64, u32),
     reading: i32,
     indicator: impl Fn(&[u32]) -> u32,
-) -> (Storage, Promotion) {
+) -> (Storage, Choice) {
     let mut storage = Storage::marked();
     storage.store.resize(budget as usize, 0);
     let end = storage.call(|job| {
@@ -110,8 +138,8 @@ pub fn run(
         let mut delivered = 0;
         loop {
             if delivered == job.job().held as usize {
-                match job.promote().unwrap() {
-                    Promotion::Promoted => continue,
+                match promote_chosen(job) {
+                    Choice::Place(_) => continue,
                     end => break end,
                 }
             }
@@ -124,7 +152,7 @@ pub fn run(
 }
 
 /// The levels of a held index. Blocks are wanted in the order of the places.
-fn levels(job: &Integrator, place: usize) -> Vec<u32> {
+pub fn levels(job: &Integrator, place: usize) -> Vec<u32> {
     let record = &job.cells()[place * RECORD_CELLS..];
     record[..job.job().axes as usize].to_vec()
 }
