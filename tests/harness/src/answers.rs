@@ -2,12 +2,12 @@
 //! reference, with the same slots for what it gives back, so that both sides'
 //! answers can be compared word for word.
 
-use crate::calls::{self, CountWords, OutcomeWord, PointsWords, TotalWords};
+use crate::calls::{self, ChoiceWords, CountWords, OutcomeWord, PointsWords, TotalWords};
 use crate::doubles;
 use crate::lent::Loan;
 use reference::area::Area;
 use reference::call::{self, Answer, Call};
-use reference::calls::{PointCounts, Promotion, Totals};
+use reference::calls::{Choice, PointCounts, Promotion, Totals};
 use reference::grid::MOST_AXES;
 
 /// What a call answers at once.
@@ -28,6 +28,7 @@ pub const BEHIND: usize = MOST_AXES;
 #[derive(Clone, Debug, PartialEq, Eq)]
 pub struct Slots {
     pub points: PointsWords,
+    pub choice: ChoiceWords,
     pub outcome: OutcomeWord,
     pub counts: CountWords,
     pub total: TotalWords,
@@ -49,7 +50,8 @@ pub fn of_library(loan: Loan, call: &Call, slots: &mut Slots) -> ReturnValue {
         Call::Point { n, .. } => calls::point(loan, *n as usize, buffer),
         Call::Points { n, .. } => calls::points(loan, *n as usize, &mut slots.points, buffer),
         Call::Deliver { readings, indicator } => calls::deliver(loan, readings, *indicator),
-        Call::Promote => calls::promote(loan, &mut slots.outcome),
+        Call::Choose => calls::choose(loan, &mut slots.choice),
+        Call::Promote { place } => calls::promote(loan, *place as usize, &mut slots.outcome),
         Call::Result => calls::result(loan, &mut slots.counts),
         Call::CrossTotal => calls::cross_total(loan, &mut slots.total),
         Call::Doubles => doubles::call(loan, &mut slots.doubles),
@@ -63,6 +65,7 @@ pub fn of_reference(area: &mut Area, call: &Call, slots: &mut Slots) -> Answer {
     let answer = call::perform(area, call, &mut slots.buffer[..lent(call)]);
     match &answer {
         Answer::Points { counts, .. } => slots.points = point_words(counts),
+        Answer::Choice(choice) => slots.choice = choice_words(*choice),
         Answer::Promotion(promotion) => slots.outcome = [outcome_word(*promotion)],
         Answer::Totals(totals) => slots.counts = count_words(totals),
         Answer::CrossTotal(total) => slots.total = total_words(*total),
@@ -85,12 +88,18 @@ pub fn point_words(counts: &PointCounts) -> PointsWords {
     [counts.written, counts.block]
 }
 
+pub fn choice_words(choice: Choice) -> ChoiceWords {
+    match choice {
+        Choice::Met => [0, 0],
+        Choice::Capped => [3, 0],
+        Choice::Place(place) => [4, place.try_into().expect("a held place is below 512")],
+    }
+}
+
 pub fn outcome_word(promotion: Promotion) -> u32 {
     match promotion {
-        Promotion::Met => 0,
         Promotion::Spent => 1,
         Promotion::Promoted => 2,
-        Promotion::Capped => 3,
     }
 }
 
@@ -105,4 +114,20 @@ pub fn count_words(totals: &Totals) -> CountWords {
 
 pub fn total_words(total: i64) -> TotalWords {
     [total as u32, (total >> 32) as u32]
+}
+
+#[cfg(test)]
+mod tests {
+    use super::*;
+
+    /// By the header's numbers, for the comparison takes these words for right.
+    #[test]
+    fn choose_and_promote_have_the_words_of_the_header() {
+        assert_eq!(choice_words(Choice::Met), [0, 0]);
+        assert_eq!(choice_words(Choice::Capped), [3, 0]);
+        assert_eq!(choice_words(Choice::Place(0)), [4, 0]);
+        assert_eq!(choice_words(Choice::Place(511)), [4, 511]);
+        assert_eq!(outcome_word(Promotion::Spent), 1);
+        assert_eq!(outcome_word(Promotion::Promoted), 2);
+    }
 }

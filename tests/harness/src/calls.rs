@@ -1,4 +1,4 @@
-//! The exported calls on storage that is lent. The eight that can be refused
+//! The exported calls on storage that is lent. The nine that can be refused
 //! give 0 or the number of the cause. Storage that a call is lent shared must
 //! come back as it was; the functions assert that.
 
@@ -8,7 +8,9 @@ use std::fmt::Debug;
 use std::hint::black_box;
 use wihupya_sys as exported;
 
-pub use wihupya_sys::{CountWords, DoublesReport, OutcomeWord, PointsWords, TotalWords};
+pub use wihupya_sys::{
+    ChoiceWords, CountWords, DoublesReport, OutcomeWord, PointsWords, TotalWords,
+};
 
 /// Check on an area whose cells end with its last record.
 pub fn check(area: &Area) -> bool {
@@ -57,10 +59,17 @@ pub fn deliver(loan: Loan, readings: &[i32], indicator: u32) -> u32 {
     number
 }
 
-pub fn promote(loan: Loan, outcome: &mut OutcomeWord) -> u32 {
+pub fn choose(loan: Loan, choice: &mut ChoiceWords) -> u32 {
+    let kept = Snapshot::of(&loan);
+    let number = exported::choose(loan.job, choice, loan.cells, loan.store);
+    kept.assert_unchanged("choose", &loan);
+    number
+}
+
+pub fn promote(loan: Loan, place: usize, outcome: &mut OutcomeWord) -> u32 {
     let Loan { job, cells, store } = loan;
     let kept = store.to_vec();
-    let number = exported::promote(job, outcome, cells, store);
+    let number = exported::promote(job, place, outcome, cells, store);
     assert_same("promote", store, &kept);
     number
 }

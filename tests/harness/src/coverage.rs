@@ -1,11 +1,12 @@
 //! What the lists of calls have seen, and what a long run has to have seen: a
 //! comparison in which a cause is never returned says nothing of that cause.
 
+use crate::choosing;
 use crate::doubles;
 use crate::lent::Part;
 use reference::area::{Area, WORDS};
 use reference::call::{Answer, Call};
-use reference::calls::{self, PointCounts, Promotion};
+use reference::calls::{Cause, PointCounts};
 use reference::grid::HELD_LIMIT;
 use std::collections::BTreeMap;
 use std::fmt::{self, Display, Formatter};
@@ -14,35 +15,16 @@ use std::fmt::{self, Display, Formatter};
 pub const LONG_RUN: u64 = 200_000;
 
 /// Every number that a call can be refused with.
-pub const REFUSALS: [(&str, &[u32]); 8] = [
+pub const REFUSALS: [(&str, &[u32]); 9] = [
     ("start", &[1, 2, 3]),
     ("point", &[3, 4, 5, 9]),
     ("points", &[3, 4, 5, 9]),
     ("deliver", &[3, 4, 5, 7, 8]),
-    ("promote", &[3, 4, 6]),
+    ("choose", &[3, 4, 6]),
+    ("promote", &[3, 4, 6, 11]),
     ("result", &[3, 4]),
     ("cross total", &[3, 4]),
     ("doubles", &[3, 4]),
-];
-
-const OUTCOMES: [&str; 7] = [
-    "met",
-    "capped",
-    "promoted",
-    "promoted with nothing admitted",
-    "spent by the budget",
-    "spent by the limit of 512",
-    "spent by both limits",
-];
-
-/// How promote ended or went on beside a carried error. Met takes an altered
-/// area.
-const CARRIED: [&str; 5] = [
-    "capped with pending above 0",
-    "capped with the threshold equal to the pending error",
-    "met with carried above 0",
-    "promoted with carried above 0",
-    "spent with carried above 0",
 ];
 
 /// Accepted calls on storage that is just enough, or goes on a little; the
@@ -82,6 +64,10 @@ pub struct Circumstances<'a> {
     pub part: Part,
     /// Whether the area is sound and was altered since the job was started.
     pub altered: bool,
+    /// Whether an alteration broke the area of a job.
+    pub broken: bool,
+    /// The names of a choose or a promote, by the area before it.
+    pub names: Vec<&'static str>,
 }
 
 #[derive(Default)]
@@ -124,9 +110,13 @@ impl Coverage {
         if let Call::Points { buffer, .. } = call {
             self.count_seen(BUFFERS, [*buffer == 0, *buffer > LARGEST_BLOCK]);
         }
+        on.names.iter().for_each(|&name| self.count(name));
         match answer {
             Answer::Refused(cause) => {
                 self.count(format!("refused {} by {}", cause.number(), call.name()));
+                if on.broken && *cause == Cause::AreaNotSound {
+                    self.count(broken(call.name()));
+                }
                 return;
             }
             Answer::Sound(sound) => self.count(if *sound { "check yes" } else { "check no" }),
@@ -135,7 +125,6 @@ impl Coverage {
         match answer {
             Answer::Started => self.count(format!("jobs of {} axes", on.area.job.axes)),
             Answer::Points { counts, .. } => self.note_points(call, *counts, on.area),
-            Answer::Promotion(promotion) => self.note_promotion(*promotion, on.area),
             Answer::Totals(totals) => self.highest("ceiling count", totals.ceiling),
             Answer::CrossTotal(total) => self.note_cross_total(*total, on.area),
             Answer::Doubles(report) => {
@@ -191,48 +180,15 @@ impl Coverage {
         self.highest("delivered at a cross total", delivered as u32);
     }
 
-    fn note_promotion(&mut self, promotion: Promotion, area: &Area) {
-        self.note_carried(promotion, area);
-        let outcome = match promotion {
-            Promotion::Met => "met",
-            Promotion::Capped => "capped",
-            Promotion::Promoted if calls::first_wanted(area).is_none() => {
-                self.count("promoted with nothing admitted");
-                "promoted"
-            }
-            Promotion::Promoted => "promoted",
-            // The area is as it was, so the limits can still be asked for.
-            Promotion::Spent => match calls::limits_passed(area) {
-                (true, true) => "spent by both limits",
-                (true, false) => "spent by the limit of 512",
-                _ => "spent by the budget",
-            },
-        };
-        self.count(outcome);
-    }
-
-    fn note_carried(&mut self, promotion: Promotion, area: &Area) {
-        let job = &area.job;
-        let capped = promotion == Promotion::Capped;
-        let beside = |outcome: Promotion| promotion == outcome && job.carried > 0;
-        let seen = [
-            capped && job.pending > 0,
-            capped && job.threshold == job.pending,
-            beside(Promotion::Met),
-            beside(Promotion::Promoted),
-            beside(Promotion::Spent),
-        ];
-        self.count_seen(CARRIED, seen);
-    }
-
     /// What a long run has to see and this one didn't.
     pub fn missing(&self) -> Vec<String> {
-        let calls = [&OUTCOMES[..], &CARRIED, &LENT, &POINTS, &BUFFERS];
-        let lists = [&calls[..], &[&CROSS_TOTALS, &doubles::SEEN]].concat();
-        let mut due: Vec<String> = lists.concat().into_iter().map(String::from).collect();
+        let lists = [&LENT[..], &POINTS, &BUFFERS, &CROSS_TOTALS, &doubles::SEEN].concat();
+        let names = lists.into_iter().chain(choosing::due());
+        let mut due: Vec<String> = names.map(String::from).collect();
         for (call, numbers) in REFUSALS {
             due.push(format!("accepted {call}"));
             due.extend(numbers.iter().map(|number| format!("refused {number} by {call}")));
+            due.extend(numbers.contains(&4).then(|| broken(call)));
         }
         due.extend((1..=8).map(|axes| format!("jobs of {axes} axes")));
         due.extend(
@@ -250,6 +206,12 @@ impl Coverage {
         }
         due
     }
+}
+
+/// A call that is refused for what was done to the area of a job; in storage full of
+/// anything cause 4 comes of itself.
+fn broken(call: &str) -> String {
+    format!("refused 4 by {call} on an altered area")
 }
 
 impl Display for Coverage {
@@ -271,9 +233,10 @@ mod tests {
     #[test]
     fn a_run_that_saw_nothing_lacks_everything() {
         let refusals: usize = REFUSALS.iter().map(|(_, numbers)| 1 + numbers.len()).sum();
+        let altered = REFUSALS.len() - 1;
         let points = POINTS.len() + BUFFERS.len();
         let figures = CROSS_TOTALS.len() + doubles::SEEN.len();
-        let lists = OUTCOMES.len() + CARRIED.len() + LENT.len() + points + figures;
-        assert_eq!(Coverage::default().missing().len(), lists + refusals + 8 + 3 + 3);
+        let lists = choosing::due().count() + LENT.len() + points + figures;
+        assert_eq!(Coverage::default().missing().len(), lists + refusals + altered + 8 + 3 + 3);
     }
 }

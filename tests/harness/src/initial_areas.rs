@@ -7,6 +7,7 @@ use reference::area::{Area, IndexRecord, JobRecord, WORDS};
 use reference::calls::{self, Promotion};
 use reference::choice::{Chooser, Parameters};
 use reference::grid::{self, BUDGET_LIMIT, HELD_LIMIT, MOST_AXES};
+use reference::places::Places;
 use reference::rng::Rng;
 use reference::sample;
 use reference::style::{self, IndicatorStyle, ReadingStyle};
@@ -63,7 +64,7 @@ impl InitialAreas {
         let axes = rng.between(5, MOST_AXES as i64) as usize;
         let areas = self.nearly_full.entry(axes).or_insert_with(|| grow(axes));
         let last = areas.len() - 1;
-        let mut area = areas[if rng.percent(40) { last } else { rng.place(areas.len()) }].clone();
+        let mut area = areas[if rng.percent(60) { last } else { rng.place(areas.len()) }].clone();
         let reserved = area.job.reserved;
         area.job.budget = rng.pick(&[BUDGET_LIMIT, BUDGET_LIMIT, reserved, reserved + 20]);
         area
@@ -95,7 +96,7 @@ fn grow(axes: usize) -> Vec<Area> {
             let readings = style::readings(ReadingStyle::Any, &mut rng, axes, &levels);
             assert_eq!(calls::deliver(&mut area, &readings, indicator), Ok(()));
         }
-        if calls::promote(&mut area) != Ok(Promotion::Promoted) {
+        if promote_largest(&mut area) == Promotion::Spent {
             areas.push(area);
             return areas;
         }
@@ -103,6 +104,13 @@ fn grow(axes: usize) -> Vec<Area> {
             areas.push(area.clone());
         }
     }
+}
+
+/// Promotes where the rule does, the threshold being 0. Choose isn't asked, which
+/// would look through the whole area once more.
+fn promote_largest(area: &mut Area) -> Promotion {
+    let largest = Places::of_area(area).largest.expect("an index is active");
+    calls::promote(area, largest).expect("no block is wanted")
 }
 
 /// A job that goes straight for an index whose block has 1,024 points, the most
@@ -115,7 +123,7 @@ pub fn large_block(rng: &mut Rng) -> Area {
     assert_eq!(calls::start(&mut area, axes as u32, 0, BUDGET_LIMIT), Ok(()));
     loop {
         let Some(place) = calls::first_wanted(&area) else {
-            assert_eq!(calls::promote(&mut area), Ok(Promotion::Promoted));
+            assert_eq!(promote_largest(&mut area), Promotion::Promoted);
             continue;
         };
         let levels = area.records[place].levels;

@@ -10,13 +10,14 @@
 //!   them;
 //! - [`answers`], [`pair`]: a call on both sides, and the comparison after it;
 //! - [`initial_areas`], [`lists`], [`coverage`]: lists of calls by seed, and what was
-//!   seen of them;
+//!   seen of them, [`choosing`] of choose and promote;
 //! - [`records`]: lists of calls over lent record structs, for the program of
 //!   tests/records.
 
 pub mod answers;
 pub mod calls;
 pub mod check_cases;
+pub mod choosing;
 pub mod coverage;
 pub mod doubles;
 pub mod initial_areas;

@@ -2,17 +2,19 @@
 //! on storage lent whole or in part, with alterations of the area in between.
 
 use crate::answers::{Slots, BEHIND};
+use crate::choosing;
 use crate::coverage::{Circumstances, Coverage};
 use crate::doubles;
 use crate::initial_areas::{InitialArea, InitialAreas};
 use crate::lent::Part;
 use crate::pair::Pair;
 use reference::alter;
-use reference::area::{Area, WORDS};
+use reference::area::{Area, ACTIVE, WORDS};
 use reference::call::{Answer, Call};
-use reference::calls::{self, Promotion};
+use reference::calls::{self, Choice, Promotion};
 use reference::choice::{Block, Chooser};
-use reference::grid::{self, HELD_LIMIT, MOST_AXES};
+use reference::grid::HELD_LIMIT;
+use reference::places::Places;
 use reference::rng::Rng;
 
 struct List {
@@ -49,13 +51,20 @@ pub fn run(
 impl List {
     fn step(&mut self, coverage: &mut Coverage) -> Result<(), String> {
         self.alter(coverage);
-        let call = self.choose();
+        let call = self.next_call();
         let part = self.lend(&call);
         let slots = self.slots(&call);
+        let (altered, broken) = (self.sound && self.altered, self.kept.is_some());
+        let names = match self.sound {
+            true => choosing::names(self.pair.area(), &call, part),
+            false => Vec::new(),
+        };
         let answer = self.pair.call(&call, part, &slots).map_err(|fault| {
             format!("{} lent {part:?} of {:?}: {fault}", described(&call), self.pair.whole())
         })?;
-        self.note(&call, part, &answer, coverage);
+        self.note(&answer);
+        let area = self.pair.area();
+        coverage.note(&call, &answer, &Circumstances { area, part, altered, broken, names });
         self.cross(&answer)
     }
 
@@ -102,17 +111,9 @@ impl List {
         }
     }
 
-    /// The first wanted block, as far as the area makes sense.
-    fn wanted(&self) -> Option<Block> {
+    fn next_call(&mut self) -> Call {
         let area = self.pair.area();
-        let levels = area.records[calls::first_wanted(area)?].levels;
-        let axes = MOST_AXES.min(area.job.axes as usize);
-        let fits = grid::within_ceilings(&levels) && levels[axes..].iter().all(|&l| l == 1);
-        fits.then_some(Block { axes, levels })
-    }
-
-    fn choose(&mut self) -> Call {
-        let wanted = self.wanted();
+        let (wanted, places) = (Block::of_area(area), Places::of_area(area));
         let chooser = &mut self.chooser;
         let due = match (self.sound, self.ended) {
             (false, _) => 12,
@@ -124,28 +125,30 @@ impl List {
             return chooser.start();
         }
         if self.sound && chooser.rng.percent(chooser.parameters.steps) {
-            return chooser.carry_on(wanted);
+            return chooser.carry_on(wanted, &places);
         }
         match chooser.rng.below(100) {
             0..=9 => chooser.point(wanted),
-            10..=16 => chooser.damaged_point(wanted),
-            17..=27 => chooser.points(wanted),
-            28..=35 => chooser.damaged_points(wanted),
-            36..=46 => chooser.damaged_deliver(wanted),
-            47..=56 => self.deliver_or_any(wanted),
-            57..=68 => Call::Promote,
-            69..=75 => Call::Result,
-            76..=81 => Call::CrossTotal,
-            82..=88 => Call::Doubles,
-            89..=94 => Call::Check,
+            10..=15 => chooser.damaged_point(wanted),
+            16..=25 => chooser.points(wanted),
+            26..=32 => chooser.damaged_points(wanted),
+            33..=42 => chooser.damaged_deliver(wanted),
+            43..=50 => self.deliver_or_any(wanted, &places),
+            51..=56 => Call::Choose,
+            57..=60 => chooser.promote(&places),
+            61..=70 => chooser.damaged_promote(&places),
+            71..=76 => Call::Result,
+            77..=82 => Call::CrossTotal,
+            83..=89 => Call::Doubles,
+            90..=95 => Call::Check,
             _ => chooser.damaged_start(),
         }
     }
 
     /// The wanted block, or a delivery where nothing is wanted.
-    fn deliver_or_any(&mut self, wanted: Option<Block>) -> Call {
+    fn deliver_or_any(&mut self, wanted: Option<Block>, places: &Places) -> Call {
         match wanted {
-            Some(_) => self.chooser.carry_on(wanted),
+            Some(_) => self.chooser.carry_on(wanted, places),
             None => {
                 let readings = vec![5; self.chooser.rng.pick(&[0, 1, 2, 4])];
                 Call::Deliver { readings, indicator: self.chooser.rng.number() as u32 }
@@ -181,6 +184,7 @@ impl List {
         let length = call.buffer_length().unwrap_or(0) + BEHIND;
         Slots {
             points: std::array::from_fn(|_| rng.number() as u32),
+            choice: std::array::from_fn(|_| rng.number() as u32),
             outcome: [rng.number() as u32],
             counts: std::array::from_fn(|_| rng.number() as u32),
             total: std::array::from_fn(|_| rng.number() as u32),
@@ -189,17 +193,22 @@ impl List {
         }
     }
 
-    fn note(&mut self, call: &Call, part: Part, answer: &Answer, coverage: &mut Coverage) {
-        let altered = self.sound && self.altered;
+    /// What an answer says of the job.
+    fn note(&mut self, answer: &Answer) {
         match answer {
             Answer::Started => {
                 (self.sound, self.altered, self.ended, self.kept) = (true, false, false, None);
             }
+            Answer::Choice(Choice::Met | Choice::Capped) => self.ended |= !self.goes_on(),
             Answer::Promotion(promotion) => self.ended = *promotion != Promotion::Promoted,
             _ => {}
         }
-        let area = self.pair.area();
-        coverage.note(call, answer, &Circumstances { area, part, altered });
+    }
+
+    /// Whether a job that is met or capped is meant to go on, and has where to.
+    fn goes_on(&self) -> bool {
+        let mut held = self.pair.area().held().iter();
+        self.chooser.parameters.past_the_end && held.any(|record| record.state == ACTIVE)
     }
 }
 

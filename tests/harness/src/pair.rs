@@ -47,6 +47,7 @@ impl Pair {
         let return_value = answers::of_library(self.library.part(part), call, &mut by_library);
         same("the answer", return_value, answers::return_value(&answer))?;
         same_each("point count word", &by_library.points, &by_reference.points)?;
+        same_each("choice word", &by_library.choice, &by_reference.choice)?;
         same("the outcome word", by_library.outcome, by_reference.outcome)?;
         same_each("count word", &by_library.counts, &by_reference.counts)?;
         same_each("total word", &by_library.total, &by_reference.total)?;

@@ -2,16 +2,18 @@
 //! tests/records reads them, and the lines that it has to print: the
 //! reference's answers, with a digest of the area after each call.
 
-use crate::answers::{outcome_word, BEHIND};
+use crate::answers::{choice_words, outcome_word, BEHIND};
 use crate::check_cases::near_ceiling;
 use crate::initial_areas::{garbage, large_block, InitialAreas};
 use reference::area::{Area, IndexRecord, JobRecord, WORDS};
 use reference::call::{self, Answer, Call};
-use reference::calls;
+use reference::calls::Choice;
 use reference::choice::{Block, Chooser, LONGEST_BUFFER};
-use reference::grid::{self, BUDGET_LIMIT, HELD_LIMIT, MOST_AXES, READING_LIMIT};
-use reference::reports::{self, Case};
+use reference::grid::{BUDGET_LIMIT, HELD_LIMIT, MOST_AXES, READING_LIMIT};
+use reference::places::Places;
+use reference::reports;
 use reference::rng::Rng;
+use reference::steps;
 use std::collections::BTreeMap;
 
 /// What the program has room for: one more than a job can hold, of each.
@@ -57,7 +59,8 @@ impl Lists {
             Call::Point { n: 0, buffer: MOST_AXES + 1 },
             Call::Points { n: 0, buffer: MOST_AXES + 1 },
             Call::Deliver { readings: vec![1], indicator: 1 },
-            Call::Promote,
+            Call::Choose,
+            Call::Promote { place: 0 },
             Call::Result,
             Call::CrossTotal,
             Call::Doubles,
@@ -72,7 +75,8 @@ impl Lists {
         let refused = [
             Call::Point { n: 1, buffer: MOST_AXES },
             Call::Points { n: 1, buffer: MOST_AXES },
-            Call::Promote,
+            Call::Choose,
+            Call::Promote { place: 0 },
             Call::Deliver { readings: vec![1, 2], indicator: 1 },
             Call::Deliver { readings: vec![READING_LIMIT + 1], indicator: 1 },
         ];
@@ -85,13 +89,12 @@ impl Lists {
     /// Each call once, on 511, 512 and 513 records in turn, from storage full of
     /// zeros: few steps, for the interpreter.
     pub fn each_call(&mut self) {
-        let start = Call::Start { axes: 1, threshold: 0, budget: 3 };
         let calls = [
-            (start.clone(), HELD_LIMIT - 1),
-            (start, HELD_LIMIT),
+            (Call::Start { axes: 1, threshold: 0, budget: 3 }, HELD_LIMIT),
             (Call::Point { n: 0, buffer: 2 }, RECORDS),
             (Call::Deliver { readings: vec![-5], indicator: 9 }, RECORDS),
-            (Call::Promote, HELD_LIMIT),
+            (Call::Choose, RECORDS),
+            (Call::Promote { place: 0 }, HELD_LIMIT),
             (Call::Points { n: 0, buffer: 3 }, RECORDS),
             (Call::Check, HELD_LIMIT - 1),
             (Call::Result, HELD_LIMIT),
@@ -136,10 +139,20 @@ impl Lists {
     /// Doubles on the areas by name, which have means of all sizes, differences
     /// of one size and causes to refuse.
     pub fn reports_by_name(&mut self) {
-        for Case { area, .. } in reports::cases() {
+        for reports::Case { area, .. } in reports::cases() {
             let (records, readings) = (area.records.len(), area.store.len());
             self.content(area);
             self.call(&Call::Doubles, records, readings);
+        }
+    }
+
+    /// Choose and promote on the areas by name, which have places of all kinds, both
+    /// ends and causes to refuse.
+    pub fn steps_by_name(&mut self) {
+        for steps::Case { area, call, .. } in steps::cases() {
+            let (records, readings) = (area.records.len(), area.store.len());
+            self.content(area);
+            self.call(&call, records, readings);
         }
     }
 
@@ -155,23 +168,7 @@ impl Lists {
 
     fn carry_on(&mut self, chooser: &mut Chooser, count: usize) {
         for _ in 0..count {
-            let wanted = self.wanted();
-            let call = match chooser.rng.below(100) {
-                // Few blocks are wanted for long, so they are asked for while they are.
-                0..=24 if wanted.is_some() => chooser.points(wanted),
-                0..=43 => chooser.carry_on(wanted),
-                44..=50 => chooser.point(wanted),
-                51..=54 => chooser.damaged_point(wanted),
-                55..=64 => chooser.points(wanted),
-                65..=69 => chooser.damaged_points(wanted),
-                70..=75 => chooser.damaged_deliver(wanted),
-                76..=81 => Call::Promote,
-                82..=85 => Call::Result,
-                86..=88 => Call::CrossTotal,
-                89..=92 => Call::Doubles,
-                93..=95 => Call::Check,
-                _ => chooser.damaged_start(),
-            };
+            let call = self.next_call(chooser);
             let lent = chooser.rng.pick(&[511, 512, 512, 512, 513, 513, 513, 513]);
             let budget = self.area.job.budget.min(BUDGET_LIMIT) as usize;
             let store = chooser.rng.pick(&[READINGS, READINGS, READINGS, budget, budget / 2]);
@@ -179,12 +176,26 @@ impl Lists {
         }
     }
 
-    fn wanted(&self) -> Option<Block> {
-        let place = calls::first_wanted(&self.area)?;
-        let levels = self.area.records[place].levels;
-        let axes = MOST_AXES.min(self.area.job.axes as usize);
-        let fits = grid::within_ceilings(&levels) && levels[axes..].iter().all(|&l| l == 1);
-        fits.then_some(Block { axes, levels })
+    fn next_call(&self, chooser: &mut Chooser) -> Call {
+        let (wanted, places) = (Block::of_area(&self.area), Places::of_area(&self.area));
+        match chooser.rng.below(100) {
+            // Few blocks are wanted for long, so they are asked for while they are.
+            0..=24 if wanted.is_some() => chooser.points(wanted),
+            0..=41 => chooser.carry_on(wanted, &places),
+            42..=47 => chooser.point(wanted),
+            48..=51 => chooser.damaged_point(wanted),
+            52..=60 => chooser.points(wanted),
+            61..=65 => chooser.damaged_points(wanted),
+            66..=71 => chooser.damaged_deliver(wanted),
+            72..=75 => Call::Choose,
+            76..=78 => chooser.promote(&places),
+            79..=82 => chooser.damaged_promote(&places),
+            83..=86 => Call::Result,
+            87..=89 => Call::CrossTotal,
+            90..=92 => Call::Doubles,
+            93..=95 => Call::Check,
+            _ => chooser.damaged_start(),
+        }
     }
 
     /// Another content of the whole area.
@@ -266,13 +277,14 @@ fn kind(call: &Call) -> u32 {
         Call::Start { .. } => 1,
         Call::Point { .. } => 2,
         Call::Deliver { .. } => 3,
-        Call::Promote => 4,
+        Call::Promote { .. } => 4,
         Call::Result => 5,
         Call::CrossTotal => 6,
         Call::Check => 7,
         // 8 is a content.
         Call::Points { .. } => 9,
         Call::Doubles => 10,
+        Call::Choose => 11,
     }
 }
 
@@ -288,15 +300,18 @@ fn arguments(call: &Call) -> Vec<u32> {
             .into_iter()
             .chain(readings.iter().map(|&reading| reading as u32))
             .collect(),
+        Call::Promote { place } => wide(*place).to_vec(),
         _ => Vec::new(),
     }
 }
 
-/// The numbers that the program prints for an answer.
+/// The numbers that the program prints for an answer. What choose and promote answer
+/// is 20 above the word of the exported call.
 fn printed(answer: &Answer) -> Vec<u64> {
     match answer {
         Answer::Started | Answer::Point(_) | Answer::Delivered => vec![0],
         Answer::Points { counts, .. } => vec![0, counts.written.into(), counts.block.into()],
+        Answer::Choice(choice) => choice_numbers(*choice),
         Answer::Promotion(promotion) => vec![20 + u64::from(outcome_word(*promotion))],
         Answer::Totals(totals) => [0, totals.old.into(), totals.active.into()]
             .into_iter()
@@ -308,4 +323,14 @@ fn printed(answer: &Answer) -> Vec<u64> {
         Answer::Sound(sound) => vec![30 + u64::from(*sound)],
         Answer::Refused(cause) => vec![cause.number().into()],
     }
+}
+
+/// The place is printed only where one is chosen.
+fn choice_numbers(choice: Choice) -> Vec<u64> {
+    let [word, _] = choice_words(choice);
+    let place = match choice {
+        Choice::Place(place) => Some(place),
+        Choice::Met | Choice::Capped => None,
+    };
+    [20 + u64::from(word)].into_iter().chain(place).collect()
 }

@@ -27,11 +27,11 @@ fn a_threshold_equal_to_the_pending_error_is_met_with_nothing_carried() {
     let mut equal = started(2, 7, 64);
     deliver(&mut equal, &[5], 7);
     let before = equal.clone();
-    assert_eq!(promote(&mut equal), MET);
+    assert_eq!(choose(&mut equal), MET);
     assert!(equal == before, "met changes nothing");
     let mut below = started(2, 6, 64);
     deliver(&mut below, &[5], 7);
-    assert_eq!(promote(&mut below), PROMOTED);
+    assert_eq!(choose(&mut below), chosen(0));
 }
 
 /// One axis, its readings all 3 and its indicators all 10, refined up to level 8.
@@ -41,7 +41,7 @@ fn refined_to_the_ceiling() -> Lent {
     assert_eq!(calls::start(lent.all(), 1, 9, 129), 0);
     for points in [1, 2, 2, 4, 8, 16, 32, 64] {
         deliver(&mut lent, &vec![3; points], 10);
-        assert_eq!(promote(&mut lent), PROMOTED);
+        promote_chosen(&mut lent);
     }
     lent
 }
@@ -50,7 +50,7 @@ fn refined_to_the_ceiling() -> Lent {
 fn a_job_whose_error_lies_at_a_ceiling_is_capped() {
     let mut lent = refined_to_the_ceiling();
     let before = lent.clone();
-    assert_eq!(promote(&mut lent), CAPPED);
+    assert_eq!(choose(&mut lent), CAPPED);
     assert!(lent == before, "capped changes nothing");
     assert_eq!(lent.job[CARRIED..], [10, 0]);
     assert_eq!(counts(&mut lent), [0, 0, 3 << 20, 0, 8, 0, 0, 129, 1, 10, 0]);
@@ -62,8 +62,8 @@ fn another_carried_error_is_not_sound() {
         let mut lent = refined_to_the_ceiling();
         lent.job[word] = value;
         assert!(!calls::check_lent(&mut lent));
-        let others = [Call::Promote, Call::Result, Call::CrossTotal, Call::Doubles];
-        for call in [point(0), points(0), delivery(&[3])].into_iter().chain(others) {
+        let others = [Call::Choose, Call::Result, Call::CrossTotal, Call::Doubles];
+        for call in [point(0), points(0), delivery(&[3]), promotion(7)].into_iter().chain(others) {
             refused(&mut lent, &call, 4);
         }
         accepted(&lent, &start(1, 129));
@@ -75,7 +75,7 @@ fn with_two_axes_a_budget_of_4_is_spent_at_the_first_promotion() {
     let mut lent = started(2, 0, 4);
     deliver(&mut lent, &[5], 1);
     let before = lent.clone();
-    assert_eq!(promote(&mut lent), SPENT);
+    assert_eq!(promote(&mut lent, 0), SPENT);
     assert!(lent == before, "spent changes nothing");
 }
 
@@ -83,7 +83,7 @@ fn with_two_axes_a_budget_of_4_is_spent_at_the_first_promotion() {
 fn with_two_axes_a_budget_of_5_is_not_spent_at_the_first_promotion() {
     let mut lent = started(2, 0, 5);
     deliver(&mut lent, &[5], 1);
-    assert_eq!(promote(&mut lent), PROMOTED);
+    assert_eq!(promote(&mut lent, 0), PROMOTED);
     assert_eq!(counts(&mut lent)[4..], [1, 0, 2, 5, 0, 0, 0]);
 }
 
@@ -93,7 +93,7 @@ fn the_example_job_is_met_with_its_counts_and_scaled_mean() {
         [(100, &[4_160]), (50, &[64, 16_448]), (0, &[4_096, 4_224]), (10, &[1_088, 9_280])];
     let mut entries = entries.into_iter();
     let mut lent = started(2, 40, 64);
-    let outcome = loop {
+    let ending = loop {
         let wanted = counts(&mut lent)[6];
         if wanted > 0 {
             let (indicator, readings) = entries.next().expect("an entry for each wanted block");
@@ -101,13 +101,13 @@ fn the_example_job_is_met_with_its_counts_and_scaled_mean() {
             assert_eq!(asked, readings);
             deliver(&mut lent, readings, indicator);
         } else {
-            match promote(&mut lent) {
-                PROMOTED => {}
-                outcome => break outcome,
+            match choose(&mut lent) {
+                [4, place] => assert_eq!(promote(&mut lent, place as usize), PROMOTED),
+                ending => break ending,
             }
         }
     };
-    assert_eq!(outcome, MET);
+    assert_eq!(ending, MET);
     assert_eq!(entries.next(), None);
     let mean = 5_972_688_896u64;
     assert_eq!(counts(&mut lent), [10, 0, mean as u32, (mean >> 32) as u32, 2, 2, 0, 7, 0, 0, 0]);
@@ -197,7 +197,8 @@ fn each_call() -> Vec<(Lent, Call)> {
         (wanting_two(), point(0)),
         (wanting_two(), points(0)),
         (wanting_two(), delivery(&[64, 16_448])),
-        (wanting_nothing(), Call::Promote),
+        (wanting_nothing(), Call::Choose),
+        (wanting_nothing(), promotion(1)),
         (wanting_two(), Call::Result),
         (wanting_two(), Call::CrossTotal),
         (wanting_two(), Call::Doubles),
@@ -270,9 +271,11 @@ fn cause_5_point_points_and_deliver_where_no_block_is_wanted() {
 }
 
 #[test]
-fn cause_6_promote_while_a_block_is_wanted() {
-    refused(&mut started(2, 0, 64), &Call::Promote, 6);
-    refused(&mut wanting_two(), &Call::Promote, 6);
+fn cause_6_choose_and_promote_while_a_block_is_wanted() {
+    for call in [Call::Choose, promotion(0), promotion(1)] {
+        refused(&mut started(2, 0, 64), &call, 6);
+        refused(&mut wanting_two(), &call, 6);
+    }
 }
 
 #[test]
@@ -303,4 +306,17 @@ fn cause_9_a_point_number_not_below_the_blocks_size() {
     }
     accepted(&lent, &point(1));
     accepted(&lent, &points(1));
+}
+
+/// An old place, the number of those held and all past it, and active places past 32
+/// and 63 bits.
+#[test]
+fn cause_11_promote_where_no_active_index_is() {
+    let mut lent = wanting_nothing();
+    let past = [3, 511, 512, 1 << 32, (1 << 32) + 1, (1 << 63) + 2, u64::MAX];
+    for place in [0].into_iter().chain(past) {
+        refused(&mut lent, &promotion(place), 11);
+    }
+    accepted(&lent, &promotion(1));
+    accepted(&lent, &promotion(2));
 }

@@ -51,7 +51,7 @@ fn assert_as_reference(area: &Area, what: &str) {
 fn one_axis(root: i32, ends: [i32; 2], indicator: u32) -> Lent {
     let mut lent = started(1, 0, 64);
     deliver(&mut lent, &[root], 1);
-    assert_eq!(promote(&mut lent), PROMOTED);
+    assert_eq!(promote(&mut lent, 0), PROMOTED);
     deliver(&mut lent, &ends, indicator);
     lent
 }
@@ -78,13 +78,13 @@ fn the_scope_document_job() {
     assert_reported(&mut lent, [0.0; 3]);
     deliver(&mut lent, &[4_160], 100);
     assert_reported(&mut lent, [4160.0, 100.0, 4160.0]);
-    assert_eq!(promote(&mut lent), PROMOTED);
+    promote_chosen(&mut lent);
     deliver(&mut lent, &[64, 16_448], 50);
     deliver(&mut lent, &[4_096, 4_224], 0);
     assert_reported(&mut lent, [6208.0, 50.0, 4160.0]);
-    assert_eq!(promote(&mut lent), PROMOTED);
+    promote_chosen(&mut lent);
     deliver(&mut lent, &[1_088, 9_280], 10);
-    assert_eq!(promote(&mut lent), MET);
+    assert_eq!(choose(&mut lent), MET);
     assert_reported(&mut lent, [5696.0, 10.0, 4160.0]);
 }
 

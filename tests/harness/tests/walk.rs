@@ -40,7 +40,7 @@ fn wanting(levels: &[u32]) -> Lent {
                 let readings = vec![0; wanted_points(&mut lent)];
                 deliver(&mut lent, &readings, u32::from(lower));
             }
-            None => assert_eq!(promote(&mut lent), PROMOTED),
+            None => promote_chosen(&mut lent),
         }
     }
 }

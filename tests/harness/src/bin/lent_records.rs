@@ -7,13 +7,15 @@ use harness::records::Lists;
 use std::path::Path;
 use std::process::ExitCode;
 
-/// Of each call every cause and accepted, the outcomes, and check's no and yes.
-const DUE: [(&str, &[u64]); 9] = [
+/// Of each call every cause and accepted, what choose and promote answer, and check's
+/// no and yes.
+const DUE: [(&str, &[u64]); 10] = [
     ("start", &[0, 1, 2, 3]),
     ("point", &[0, 3, 4, 5, 9]),
     ("points", &[0, 3, 4, 5, 9]),
     ("deliver", &[0, 3, 4, 5, 7, 8]),
-    ("promote", &[3, 4, 6, 20, 21, 22, 23]),
+    ("choose", &[3, 4, 6, 20, 23, 24]),
+    ("promote", &[3, 4, 6, 11, 21, 22]),
     ("result", &[0, 3, 4]),
     ("cross total", &[0, 3, 4]),
     ("doubles", &[0, 3, 4]),
@@ -31,6 +33,7 @@ fn long_lists(seed: u64) -> Result<Lists, String> {
         lists.from_large_block(seed + number, 12);
     }
     lists.reports_by_name();
+    lists.steps_by_name();
     let due = DUE.iter().flat_map(|(call, numbers)| numbers.iter().map(|&number| (*call, number)));
     let missing: Vec<_> = due.filter(|answer| !lists.seen.contains_key(answer)).collect();
     match missing.is_empty() {

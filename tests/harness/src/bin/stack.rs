@@ -9,6 +9,7 @@ use harness::lent::Lent;
 use reference::area::Area;
 use reference::calls;
 use reference::grid;
+use reference::places::Places;
 use reference::rng::Rng;
 use reference::sample;
 use std::collections::BTreeMap;
@@ -59,44 +60,55 @@ impl Deepest {
 
     /// Each call on an area; those that write get a copy.
     fn calls_on(&mut self, area: &Area) {
-        let mut lent = Lent::of(area);
-        let axes = area.job.axes;
-        let (mut buffer, mut counts, mut total, mut outcome) = ([0; 8], [0; 11], [0; 2], [0]);
-        let Lent { job, cells, store } = &mut lent;
+        self.looks_at(&Lent::of(area));
+        if let Some(place) = calls::first_wanted(area) {
+            let readings = vec![1; grid::block_size(&area.records[place].levels)];
+            let Lent { mut job, mut cells, mut store } = Lent::of(area);
+            self.note("deliver", || {
+                black_box(exported::deliver(&mut job, &readings, 1, &mut cells, &mut store));
+            });
+        }
+        // An active place where there is one: the chosen one, and the last of them.
+        let places = Places::of_area(area);
+        let last = places.active.last().copied();
+        for place in [places.largest, last].map(|place| place.unwrap_or(0) as usize) {
+            let (Lent { mut job, mut cells, store }, mut outcome) = (Lent::of(area), [0]);
+            self.note("promote", || {
+                black_box(exported::promote(&mut job, place, &mut outcome, &mut cells, &store));
+            });
+        }
+        let Lent { mut job, mut cells, store } = Lent::of(area);
+        self.note("start", || {
+            black_box(exported::start(&mut job, area.job.axes, 0, 8192, &mut cells, &store));
+        });
+    }
+
+    /// The calls that write no part of the area.
+    fn looks_at(&mut self, Lent { job, cells, store }: &Lent) {
         self.note("check", || {
             black_box(exported::check(job, cells, store));
         });
+        let (mut counts, mut total, mut report) = ([0; 11], [0; 2], [0.0; 3]);
         self.note("result", || {
             black_box(exported::result(job, &mut counts, cells, store));
         });
         self.note("cross total", || {
             black_box(exported::cross_total(job, &mut total, cells, store));
         });
-        let mut report = [0.0; 3];
         self.note("doubles", || {
             black_box(exported::doubles(job, &mut report, cells, store));
         });
+        // Room for the largest block whole.
+        let (mut buffer, mut positions, mut written) = ([0; 8], vec![0; 16_384], [0; 2]);
         self.note("point", || {
             black_box(exported::point(job, 0, cells, store, &mut buffer));
         });
-        // Room for the largest block whole.
-        let (mut positions, mut written) = (vec![0; 16_384], [0; 2]);
         self.note("points", || {
             black_box(exported::points(job, 0, &mut written, cells, store, &mut positions));
         });
-        if let Some(place) = calls::first_wanted(area) {
-            let readings = vec![1; grid::block_size(&area.records[place].levels)];
-            self.note("deliver", || {
-                black_box(exported::deliver(job, &readings, 1, cells, store));
-            });
-        }
-        let mut lent = Lent::of(area);
-        let Lent { job, cells, store } = &mut lent;
-        self.note("promote", || {
-            black_box(exported::promote(job, &mut outcome, cells, store));
-        });
-        self.note("start", || {
-            black_box(exported::start(job, axes, 0, 8192, cells, store));
+        let mut choice = [0; 2];
+        self.note("choose", || {
+            black_box(exported::choose(job, &mut choice, cells, store));
         });
     }
 }

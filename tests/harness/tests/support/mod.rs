@@ -5,17 +5,17 @@
 #![allow(dead_code)]
 
 use harness::answers::{self, ReturnValue, Slots, BEHIND};
-use harness::calls::{self, CountWords, PointsWords};
+use harness::calls::{self, ChoiceWords, CountWords, PointsWords};
 use harness::doubles::Bits;
 use harness::lent::{Lent, Part};
 use reference::area::WORDS;
 use reference::call::Call;
 use wihupya_sys::JOB_WORDS;
 
-pub const MET: u32 = 0;
+pub const MET: ChoiceWords = [0, 0];
+pub const CAPPED: ChoiceWords = [3, 0];
 pub const SPENT: u32 = 1;
 pub const PROMOTED: u32 = 2;
-pub const CAPPED: u32 = 3;
 pub const RECORDS: usize = 512;
 /// The place of the pending error's low word in the job words.
 pub const PENDING: usize = 2;
@@ -48,10 +48,28 @@ pub fn deliver(lent: &mut Lent, readings: &[i32], indicator: u32) {
     assert_eq!(calls::deliver(lent.all(), readings, indicator), 0);
 }
 
-pub fn promote(lent: &mut Lent) -> u32 {
+/// What choose writes where it answers a place.
+pub fn chosen(place: u32) -> ChoiceWords {
+    [4, place]
+}
+
+pub fn choose(lent: &mut Lent) -> ChoiceWords {
+    let mut choice = [MARK; 2];
+    assert_eq!(calls::choose(lent.all(), &mut choice), 0);
+    choice
+}
+
+pub fn promote(lent: &mut Lent, place: usize) -> u32 {
     let mut outcome = [MARK];
-    assert_eq!(calls::promote(lent.all(), &mut outcome), 0);
+    assert_eq!(calls::promote(lent.all(), place, &mut outcome), 0);
     outcome[0]
+}
+
+/// A promotion of the chosen place.
+pub fn promote_chosen(lent: &mut Lent) {
+    let [answer, place] = choose(lent);
+    assert_eq!([answer, place], chosen(place));
+    assert_eq!(promote(lent, place as usize), PROMOTED);
 }
 
 pub fn counts(lent: &mut Lent) -> CountWords {
@@ -81,14 +99,21 @@ pub fn cross_total(lent: &mut Lent) -> i64 {
 pub fn wanting_two() -> Lent {
     let mut lent = started(2, 0, 64);
     deliver(&mut lent, &[4_160], 100);
-    assert_eq!(promote(&mut lent), PROMOTED);
+    assert_eq!(promote(&mut lent, 0), PROMOTED);
+    lent
+}
+
+/// The same job when the first of them has come: the index at place 0 is old, the
+/// one at 1 active and the one at 2 wanted.
+pub fn wanting_one() -> Lent {
+    let mut lent = wanting_two();
+    deliver(&mut lent, &[64, 16_448], 50);
     lent
 }
 
 /// The same job when both have come and nothing is wanted.
 pub fn wanting_nothing() -> Lent {
-    let mut lent = wanting_two();
-    deliver(&mut lent, &[64, 16_448], 50);
+    let mut lent = wanting_one();
     deliver(&mut lent, &[4_096, 4_224], 0);
     lent
 }
@@ -122,14 +147,19 @@ pub fn points(n: u64) -> Call {
     Call::Points { n, buffer: 24 }
 }
 
+pub fn promotion(place: u64) -> Call {
+    Call::Promote { place }
+}
+
 pub fn delivery(readings: &[i32]) -> Call {
     Call::Deliver { readings: readings.to_vec(), indicator: 9 }
 }
 
 /// All marks, so that a word is seen to be written or left.
-fn slots(buffer: usize) -> Slots {
+pub fn slots(buffer: usize) -> Slots {
     Slots {
         points: [MARK; 2],
+        choice: [MARK; 2],
         outcome: [MARK],
         counts: [MARK; 11],
         total: [MARK; 2],
