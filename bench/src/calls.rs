@@ -1,10 +1,10 @@
-//! The nine calls on any lent storage. Each but check looks for a cause to
+//! The ten calls on any lent storage. Each but check looks for a cause to
 //! refuse first, and a refused call changes nothing.
 
 use crate::area::{self, IndexRecord, JobRecord, BUDGET_LIMIT};
 use crate::check::{self, storage_short};
 use crate::index::{self, Levels, MOST_AXES};
-use crate::steps::{self, Counts, Doubles, PointCounts, Promotion};
+use crate::steps::{self, Choice, Counts, Doubles, PointCounts, Promotion};
 
 pub use crate::check::check;
 
@@ -21,6 +21,7 @@ pub enum Cause {
     ReadingOutOfRange = 8,
     PointNumberTooLarge = 9,
     JobFileMalformed = 10,
+    PlaceNotActive = 11,
 }
 
 /// Causes 1 and 2.
@@ -64,6 +65,15 @@ fn judge_point<'a>(
         return Err(Cause::PointNumberTooLarge);
     }
     Ok(levels)
+}
+
+/// Causes 3, 4 and 6.
+fn judge_choice(job: &JobRecord, records: &[IndexRecord], store: &[i32]) -> Result<(), Cause> {
+    judge_area(job, records, store)?;
+    match steps::first_wanted(job, records) {
+        Some(_) => Err(Cause::BlockWanted),
+        None => Ok(()),
+    }
 }
 
 /// Causes 7 and 8.
@@ -135,16 +145,22 @@ pub fn deliver(
     Ok(())
 }
 
+pub fn choose(job: &JobRecord, records: &[IndexRecord], store: &[i32]) -> Result<Choice, Cause> {
+    judge_choice(job, records, store)?;
+    Ok(steps::choose(job, records))
+}
+
 pub fn promote(
     job: &mut JobRecord,
     records: &mut [IndexRecord],
     store: &[i32],
+    place: usize,
 ) -> Result<Promotion, Cause> {
-    judge_area(job, records, store)?;
-    if steps::first_wanted(job, records).is_some() {
-        return Err(Cause::BlockWanted);
+    judge_choice(job, records, store)?;
+    if !steps::is_active(job, records, place) {
+        return Err(Cause::PlaceNotActive);
     }
-    Ok(steps::promote(job, records))
+    Ok(steps::promote(job, records, place))
 }
 
 pub fn result(job: &JobRecord, records: &[IndexRecord], store: &[i32]) -> Result<Counts, Cause> {

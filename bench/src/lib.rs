@@ -6,7 +6,7 @@
 //! - [`quadrature`]: differences, full tensor rules, coefficients;
 //! - [`check`]: whether an area is sound, by following links;
 //! - [`steps`]: what the calls do on an area that is known to be sound;
-//! - [`calls`]: the nine calls, which refuse;
+//! - [`calls`]: the ten calls, which refuse;
 //! - [`jobfile`], [`program`]: from a file's bytes to the report.
 //!
 //! The other side of the comparison is the package `wihupya-sys`.

@@ -3,7 +3,7 @@
 use crate::area::{self, IndexRecord, JobRecord, BUDGET_LIMIT, HELD_LIMIT};
 use crate::calls::{self, Cause};
 use crate::jobfile::{JobFile, Malformed};
-use crate::steps::{self, Promotion};
+use crate::steps::{self, Choice, Promotion};
 
 struct Refusal {
     cause: Cause,
@@ -45,7 +45,7 @@ fn run(bytes: &[u8]) -> Result<String, Refusal> {
     ))
 }
 
-/// Delivers the next entry while a block is wanted, else promotes. Gives how
+/// Delivers the next entry while a block is wanted, else refines. Gives how
 /// many entries were used, and how the job ended.
 fn carry_out(
     file: &JobFile,
@@ -65,14 +65,22 @@ fn carry_out(
                 .map_err(|cause| Refusal { cause, byte: byte_of(file, used, cause) })?;
             steps::deliver(job, records, &mut store, place, block, entry.indicator);
             used += 1;
-        } else {
-            match steps::promote(job, records) {
-                Promotion::Met => return Ok((used, "met")),
-                Promotion::Capped => return Ok((used, "capped")),
-                Promotion::Spent => return Ok((used, "spent")),
-                Promotion::Promoted => {}
-            }
+        } else if let Some(ending) = refine(job, records) {
+            return Ok((used, ending));
         }
+    }
+}
+
+/// Chooses, and promotes the place that is chosen. Gives how the job ended, if
+/// it does not go on.
+fn refine(job: &mut JobRecord, records: &mut [IndexRecord]) -> Option<&'static str> {
+    match steps::choose(job, records) {
+        Choice::Met => Some("met"),
+        Choice::Capped => Some("capped"),
+        Choice::Place(place) => match steps::promote(job, records, place) {
+            Promotion::Spent => Some("spent"),
+            Promotion::Promoted => None,
+        },
     }
 }
 

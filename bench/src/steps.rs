@@ -6,10 +6,16 @@ use crate::area::{self, IndexRecord, JobRecord, ACTIVE, HELD_LIMIT, OLD, WANTED}
 use crate::index::{self, Levels, MOST_AXES, ROOT};
 use crate::quadrature::{Readings, SCALE};
 
+/// What choose gives: that the job is done, or the place to refine next.
 #[derive(Clone, Copy, Debug, PartialEq, Eq)]
-pub enum Promotion {
+pub enum Choice {
     Met,
     Capped,
+    Place(usize),
+}
+
+#[derive(Clone, Copy, Debug, PartialEq, Eq)]
+pub enum Promotion {
     Spent,
     Promoted,
 }
@@ -97,20 +103,20 @@ pub fn deliver(
     job.mean += readings(job, records, store).difference(&records[place].levels);
 }
 
-/// Met or capped, or the selected index refined, unless that is spent. No block
-/// is wanted.
-pub fn promote(job: &mut JobRecord, records: &mut [IndexRecord]) -> Promotion {
+pub fn is_active(job: &JobRecord, records: &[IndexRecord], place: usize) -> bool {
+    held(job, records).get(place).is_some_and(|record| record.state == ACTIVE)
+}
+
+/// Met or capped, or the selected place. No block is wanted.
+pub fn choose(job: &JobRecord, records: &[IndexRecord]) -> Choice {
     if job.pending + job.carried <= job.threshold {
-        return Promotion::Met;
+        return Choice::Met;
     }
     if job.pending <= job.threshold {
-        return Promotion::Capped;
+        return Choice::Capped;
     }
     // A pending error above the threshold comes from some active index.
-    match select(held(job, records)) {
-        Some(selected) => refine(job, records, selected),
-        None => Promotion::Met,
-    }
+    select(held(job, records)).map_or(Choice::Met, Choice::Place)
 }
 
 /// The active place of largest indicator. Of equal ones the last is taken, so
@@ -120,13 +126,14 @@ fn select(held: &[IndexRecord]) -> Option<usize> {
     active.max_by_key(|(_, record)| record.indicator).map(|(place, _)| place)
 }
 
-fn refine(job: &mut JobRecord, records: &mut [IndexRecord], selected: usize) -> Promotion {
+/// Refines an active index, unless that is spent. No block is wanted.
+pub fn promote(job: &mut JobRecord, records: &mut [IndexRecord], place: usize) -> Promotion {
     let axes = job.axes as usize;
-    let IndexRecord { levels, indicator, .. } = records[selected];
+    let IndexRecord { levels, indicator, .. } = records[place];
     let held = held(job, records);
     let admitted: [Option<Levels>; MOST_AXES] = std::array::from_fn(|axis| {
         let neighbour = (axis < axes).then(|| index::forward_neighbour(&levels, axis));
-        neighbour.filter(|neighbour| admissible(axes, held, selected, neighbour))
+        neighbour.filter(|neighbour| admissible(axes, held, place, neighbour))
     });
     let admitted = admitted.iter().flatten();
     let size: usize = admitted.clone().map(index::block_size).sum();
@@ -134,7 +141,7 @@ fn refine(job: &mut JobRecord, records: &mut [IndexRecord], selected: usize) -> 
     if past_held || job.reserved as usize + size > job.budget as usize {
         return Promotion::Spent;
     }
-    records[selected].state = OLD;
+    records[place].state = OLD;
     job.pending -= u64::from(indicator);
     if index::at_ceiling(&levels) {
         job.carried += u64::from(indicator);
@@ -146,12 +153,12 @@ fn refine(job: &mut JobRecord, records: &mut [IndexRecord], selected: usize) -> 
 }
 
 /// Whether an index is within the ceilings and all its backward neighbours are
-/// old, the selected place included.
-fn admissible(axes: usize, held: &[IndexRecord], selected: usize, levels: &Levels) -> bool {
+/// old, the promoted place included.
+fn admissible(axes: usize, held: &[IndexRecord], promoted: usize, levels: &Levels) -> bool {
     index::within_ceilings(levels)
         && (0..axes).filter_map(|axis| index::backward_neighbour(levels, axis)).all(|backward| {
             area::lookup(held, &backward)
-                .is_some_and(|place| place == selected || held[place].state == OLD)
+                .is_some_and(|place| place == promoted || held[place].state == OLD)
         })
 }
 

@@ -7,12 +7,14 @@ mod support;
 use reference::alter;
 use reference::area::{Area, IndexRecord, JobRecord, WORDS};
 use reference::call::{Answer, Call, Lengths};
-use reference::calls;
+use reference::calls::{self, Choice};
 use reference::choice::{Block, Chooser};
-use reference::grid::{self, BUDGET_LIMIT, HELD_LIMIT, MOST_AXES};
+use reference::grid::{BUDGET_LIMIT, HELD_LIMIT, MOST_AXES};
+use reference::places::Places;
 use reference::reports;
 use reference::rng::Rng;
 use reference::sample;
+use reference::steps;
 use std::collections::BTreeMap;
 use support::{Lent, Pair};
 
@@ -62,13 +64,15 @@ impl List {
             alter::alter(&mut area, &mut self.chooser.rng);
             self.pair = Pair::new(area);
         }
-        let call = self.choose(sound);
+        let call = self.next_call(sound);
         let lengths = self.lend(&call);
         let length = call.buffer_length().unwrap_or(0);
         let buffer: Vec<u8> = (0..length).map(|_| self.chooser.rng.number() as u8).collect();
         let answer = self.pair.call(&call, lengths, &buffer);
         let said = match answer {
             Answer::Refused(cause) => format!("{} refused {}", call.name(), cause.number()),
+            Answer::Choice(Choice::Place(_)) => "choose Place".to_string(),
+            Answer::Choice(end) => format!("choose {end:?}"),
             Answer::Promotion(promotion) => format!("promote {promotion:?}"),
             Answer::Sound(sound) => format!("check {sound}"),
             _ => format!("{} accepted", call.name()),
@@ -76,24 +80,16 @@ impl List {
         *self.seen.entry(said).or_insert(0) += 1;
     }
 
-    /// The first wanted block, as far as the area makes sense.
-    fn wanted(&self) -> Option<Block> {
+    fn next_call(&mut self, sound: bool) -> Call {
         let area = self.pair.area();
-        let levels = area.records[calls::first_wanted(area)?].levels;
-        let axes = MOST_AXES.min(area.job.axes as usize);
-        let fits = grid::within_ceilings(&levels) && levels[axes..].iter().all(|&l| l == 1);
-        fits.then_some(Block { axes, levels })
-    }
-
-    fn choose(&mut self, sound: bool) -> Call {
-        let wanted = self.wanted();
+        let (wanted, places) = (Block::of_area(area), Places::of_area(area));
         let chooser = &mut self.chooser;
         if chooser.rng.percent(if sound { 2 } else { 15 }) {
             chooser.draw_parameters();
             return chooser.start();
         }
         if sound && chooser.rng.percent(chooser.parameters.steps) {
-            return chooser.carry_on(wanted);
+            return chooser.carry_on(wanted, &places);
         }
         match chooser.rng.below(100) {
             0..=7 => chooser.point(wanted),
@@ -101,8 +97,9 @@ impl List {
             16..=20 => chooser.damaged_point(wanted),
             21..=25 => chooser.damaged_points(wanted),
             26..=39 => chooser.damaged_deliver(wanted),
-            40..=51 => chooser.carry_on(wanted),
-            52..=65 => Call::Promote,
+            40..=49 => chooser.carry_on(wanted, &places),
+            50..=56 => Call::Choose,
+            57..=65 => chooser.damaged_promote(&places),
             66..=72 => Call::Result,
             73..=79 => Call::CrossTotal,
             80..=86 => Call::Doubles,
@@ -163,13 +160,18 @@ fn lists_of_calls_leave_what_the_reference_leaves() {
         "deliver refused 5",
         "deliver refused 7",
         "deliver refused 8",
-        "promote Met",
-        "promote Capped",
+        "choose Met",
+        "choose Capped",
+        "choose Place",
+        "choose refused 3",
+        "choose refused 4",
+        "choose refused 6",
         "promote Spent",
         "promote Promoted",
         "promote refused 3",
         "promote refused 4",
         "promote refused 6",
+        "promote refused 11",
         "result accepted",
         "result refused 3",
         "result refused 4",
@@ -190,14 +192,28 @@ fn lists_of_calls_leave_what_the_reference_leaves() {
     }
 }
 
+/// The answer of both sides to a call on all of an area.
+fn answered(area: Area, call: &Call) -> Answer {
+    let lengths = Lengths { records: area.records.len(), store: area.store.len() };
+    Pair::new(area).call(call, lengths, &[])
+}
+
 /// Answers worked out by hand, among them some to differences of equal size and
 /// to recorded means that are not those of the readings.
 #[test]
 fn doubles_says_of_the_areas_by_name_what_it_must() {
     for reports::Case { name, area, answer } in reports::cases() {
-        let lengths = Lengths { records: area.records.len(), store: area.store.len() };
         let expected = answer.map_or_else(Answer::Refused, Answer::Doubles);
-        assert_eq!(Pair::new(area).call(&Call::Doubles, lengths, &[]), expected, "{name}");
+        assert_eq!(answered(area, &Call::Doubles), expected, "{name}");
+    }
+}
+
+/// Answers worked out by hand, among them promotions though the job is met, and
+/// places that are not active.
+#[test]
+fn choose_and_promote_say_of_the_areas_by_name_what_they_must() {
+    for steps::Case { name, area, call, answer, .. } in steps::cases() {
+        assert_eq!(answered(area, &call), answer, "{name}");
     }
 }
 

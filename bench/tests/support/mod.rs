@@ -3,7 +3,7 @@
 
 use bench::area::{IndexRecord, JobRecord};
 use bench::calls::{self, Cause};
-use bench::steps::{Counts, Doubles, PointCounts, Promotion};
+use bench::steps::{Choice, Counts, Doubles, PointCounts, Promotion};
 use reference::area::{self, Area};
 use reference::call::{self, Answer, Call, Lengths};
 use reference::calls as reference_calls;
@@ -101,7 +101,10 @@ impl Pair {
                 calls::deliver(job, records, store, readings, *indicator)
                     .map(|()| Answer::Delivered)
             }
-            Call::Promote => calls::promote(job, records, store).map(promotion),
+            Call::Choose => calls::choose(job, records, store).map(choice),
+            Call::Promote { place } => {
+                calls::promote(job, records, store, *place as usize).map(promotion)
+            }
             Call::Result => calls::result(job, records, store).map(totals),
             Call::Doubles => calls::doubles(job, records, store).map(report),
             Call::CrossTotal => calls::cross_total(job, records, store).map(Answer::CrossTotal),
@@ -118,10 +121,16 @@ fn written(PointCounts { written, block }: PointCounts, axes: u32, buffer: &[u8]
     }
 }
 
+fn choice(choice: Choice) -> Answer {
+    Answer::Choice(match choice {
+        Choice::Met => reference_calls::Choice::Met,
+        Choice::Capped => reference_calls::Choice::Capped,
+        Choice::Place(place) => reference_calls::Choice::Place(place as u64),
+    })
+}
+
 fn promotion(promotion: Promotion) -> Answer {
     Answer::Promotion(match promotion {
-        Promotion::Met => reference_calls::Promotion::Met,
-        Promotion::Capped => reference_calls::Promotion::Capped,
         Promotion::Spent => reference_calls::Promotion::Spent,
         Promotion::Promoted => reference_calls::Promotion::Promoted,
     })

@@ -29,13 +29,18 @@ pub fn print(job: &Job) {
     print_growth("growth of check from 128 to 512 held", &rows[1], &rows[2]);
 }
 
-/// The whole job, and its parts; by `call` it asks for points.
-fn full_job(job: &Job, asking: Asking, call: &str) -> [Row; 4] {
+/// The whole job, and its parts; by `call` it asks for points. Choose and
+/// promote are one step of a job, so they come together first.
+fn full_job(job: &Job, asking: Asking, call: &str) -> [Row; 6] {
     let asked = format!("{call} calls");
-    let mut rows = ["all calls", &asked, "deliver calls", "promote calls"].map(Row::new);
-    let mut note = |times: [f64; 3], pick: fn(&mut Row) -> &mut Vec<f64>| {
-        pick(&mut rows[0]).push(times.iter().sum());
-        for (row, time) in rows[1..].iter_mut().zip(times) {
+    let together = "choose and promote calls";
+    let names = ["all calls", &asked, "deliver calls", together, "choose calls", "promote calls"];
+    let mut rows = names.map(Row::new);
+    let mut note = |times: [f64; 4], pick: fn(&mut Row) -> &mut Vec<f64>| {
+        let [points, delivers, chooses, promotes] = times;
+        let all = times.iter().sum();
+        let times = [all, points, delivers, chooses + promotes, chooses, promotes];
+        for (row, time) in rows.iter_mut().zip(times) {
             pick(row).push(time);
         }
     };
@@ -52,14 +57,15 @@ fn full_job(job: &Job, asking: Asking, call: &str) -> [Row; 4] {
     rows
 }
 
-/// What points, delivers and promotes of the job took.
-fn parts<S: Side>(job: &Job, asking: Asking) -> [f64; 3] {
-    let mut times = [0.0; 3];
+/// What points, delivers, chooses and promotes of the job took.
+fn parts<S: Side>(job: &Job, asking: Asking) -> [f64; 4] {
+    let mut times = [0.0; 4];
     job.go_through::<S>(asking, |part, work| {
         let slot = match part {
             Part::Points => 0,
             Part::Delivers => 1,
-            Part::Promotes => 2,
+            Part::Chooses => 2,
+            Part::Promotes => 3,
         };
         times[slot] += timed(work);
     });

@@ -26,10 +26,11 @@ impl Counts {
 }
 
 /// The parts of the full job; its points are asked for in two ways.
-const PARTS: [(&str, &str); 4] = [
+const PARTS: [(&str, &str); 5] = [
     ("point", "full job: point calls"),
     ("points", "full job: points calls"),
     ("delivers", "full job: deliver calls"),
+    ("chooses", "full job: choose calls"),
     ("promotes", "full job: promote calls"),
 ];
 
@@ -64,6 +65,7 @@ fn perform<S: Side>(subject: &str) -> Result<(), String> {
         "point" => Some((Asking::ByPoint, Part::Points)),
         "points" => Some((Asking::ByPoints, Part::Points)),
         "delivers" => Some((Asking::ByPoints, Part::Delivers)),
+        "chooses" => Some((Asking::ByPoints, Part::Chooses)),
         "promotes" => Some((Asking::ByPoints, Part::Promotes)),
         _ => None,
     };
@@ -91,16 +93,21 @@ fn perform<S: Side>(subject: &str) -> Result<(), String> {
 
 pub fn print_calls() {
     print_head("instructions of the calls");
-    let [point, points, delivers, promotes] = PARTS.map(print_subject);
-    let with = |asked: [Counts; 2]| {
-        std::array::from_fn(|side| asked[side].and(delivers[side]).and(promotes[side]))
-    };
-    print_row("full job by point: all calls", with(point));
-    print_row("full job by points: all calls", with(points));
+    let [point, points, delivers, chooses, promotes] = PARTS.map(print_subject);
+    let refining = together(chooses, promotes);
+    print_row("full job: choose and promote calls", refining);
+    let rest = together(delivers, refining);
+    print_row("full job by point: all calls", together(point, rest));
+    print_row("full job by points: all calls", together(points, rest));
     for single in SINGLES {
         print_subject(single);
     }
     println!();
+}
+
+/// On each side, what both take.
+fn together(one: [Counts; 2], other: [Counts; 2]) -> [Counts; 2] {
+    std::array::from_fn(|side| one[side].and(other[side]))
 }
 
 /// Counts a subject on both sides and prints its row.

@@ -4,7 +4,7 @@
 use crate::sides::{Idiomatic, Side, ANY_BLOCK};
 use bench::area::BUDGET_LIMIT;
 use bench::index::{Levels, MOST_AXES};
-use bench::steps;
+use bench::steps::{self, Promotion};
 use reference::jobfile::{Entry, JobFile};
 use reference::rng::Rng;
 use reference::style::{self, IndicatorStyle, ReadingStyle};
@@ -14,7 +14,7 @@ use reference::style::{self, IndicatorStyle, ReadingStyle};
 const PACES: Levels = [2, 7, 3, 8, 9, 7, 2, 4];
 
 /// A job with the threshold 0 and the whole budget, carried on until it is
-/// spent: the deliveries before each promote.
+/// spent: the deliveries before each choose, whose place is then promoted.
 pub struct Job {
     pub axes: u32,
     pub batches: Vec<Vec<Entry>>,
@@ -34,6 +34,7 @@ pub enum Asking {
 pub enum Part {
     Points,
     Delivers,
+    Chooses,
     Promotes,
 }
 
@@ -60,7 +61,8 @@ impl Job {
                 batch.push(Entry { indicator, readings });
             }
             batches.push(batch);
-            if steps::promote(&mut side.job, &mut side.records) != steps::Promotion::Promoted {
+            let place = side.choose();
+            if steps::promote(&mut side.job, &mut side.records, place) == Promotion::Spent {
                 return Job { axes: axes as u32, batches };
             }
         }
@@ -75,7 +77,7 @@ impl Job {
     }
 
     /// Goes through the whole job, each part by way of `perform`: every point
-    /// of every block, deliver, and promote, the last of which is spent.
+    /// of every block, deliver, choose, and promote, the last of which is spent.
     pub fn go_through<S: Side>(
         &self,
         asking: Asking,
@@ -97,7 +99,9 @@ impl Job {
                 });
                 perform(Part::Delivers, &mut || side.deliver(readings, *indicator));
             }
-            perform(Part::Promotes, &mut || side.promote());
+            let mut place = 0;
+            perform(Part::Chooses, &mut || place = side.choose());
+            perform(Part::Promotes, &mut || side.promote(place));
         }
         side
     }
@@ -116,7 +120,7 @@ impl Job {
                 break;
             }
             before = side.clone();
-            side.promote();
+            side.promote_chosen();
         }
         before
     }
@@ -192,8 +196,8 @@ mod tests {
                 proved.deliver(readings, *indicator);
                 idiomatic.deliver(readings, *indicator);
             }
-            proved.promote();
-            idiomatic.promote();
+            proved.promote_chosen();
+            idiomatic.promote_chosen();
         }
     }
 

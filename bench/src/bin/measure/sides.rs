@@ -3,12 +3,15 @@
 
 use bench::area::{IndexRecord, JobRecord, BUDGET_LIMIT, HELD_LIMIT};
 use bench::calls;
-use bench::steps::PointCounts;
+use bench::steps::{Choice, PointCounts};
 use std::hint::black_box;
 use wihupya_sys::{self as proved, JobWords, JOB_WORDS};
 
 /// Words in an index record of the proved library.
 const WORDS: usize = 27;
+
+/// Choose's first word where it tells a place.
+const CHOSEN: u32 = 4;
 
 /// Room for the points of any block.
 pub const ANY_BLOCK: usize = 16_384;
@@ -24,12 +27,19 @@ pub trait Side: Clone {
     /// All points of the wanted block, and how many they are.
     fn points(&self, buffer: &mut [u8; ANY_BLOCK]) -> u32;
     fn deliver(&mut self, readings: &[i32], indicator: u32);
-    fn promote(&mut self);
+    /// The place that is chosen; no job that is measured is met or capped.
+    fn choose(&self) -> usize;
+    fn promote(&mut self, place: usize);
     fn result(&self);
     fn doubles(&self);
     fn cross_total(&self);
     fn check(&self);
     fn held(&self) -> u32;
+
+    fn promote_chosen(&mut self) {
+        let place = self.choose();
+        self.promote(place);
+    }
 }
 
 #[derive(Clone)]
@@ -85,10 +95,17 @@ impl Side for Proved {
         accepted(proved::deliver(job, readings, indicator, cells, store));
     }
 
-    fn promote(&mut self) {
+    fn choose(&self) -> usize {
+        let mut choice = [0; 2];
+        accepted(proved::choose(&self.job, &mut choice, &self.cells, &self.store));
+        assert_eq!(choice[0], CHOSEN, "the job goes on");
+        choice[1] as usize
+    }
+
+    fn promote(&mut self, place: usize) {
         let Proved { job, cells, store } = self;
         let mut outcome = [0];
-        accepted(proved::promote(job, &mut outcome, cells, store));
+        accepted(proved::promote(job, place, &mut outcome, cells, store));
         black_box(outcome);
     }
 
@@ -149,9 +166,16 @@ impl Side for Idiomatic {
         calls::deliver(job, records, store, readings, indicator).expect("accepted");
     }
 
-    fn promote(&mut self) {
+    fn choose(&self) -> usize {
+        match calls::choose(&self.job, &self.records, &self.store).expect("accepted") {
+            Choice::Place(place) => place,
+            end => panic!("the job goes on, and is not {end:?}"),
+        }
+    }
+
+    fn promote(&mut self, place: usize) {
         let Idiomatic { job, records, store } = self;
-        black_box(calls::promote(job, records, store).expect("accepted"));
+        black_box(calls::promote(job, records, store, place).expect("accepted"));
     }
 
     fn result(&self) {
