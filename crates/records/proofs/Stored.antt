@@ -1,5 +1,5 @@
 -- What a call stores back is what it changed: the records then held where it changed the area, and none where it did not.
--- The idea: no call writes a record past the last then held (`CallFacts.past`), and a refused, a met, a capped and a spent one writes none.
+-- The idea: no call writes a record past the last then held (`CallFacts.past`), and a refused and a spent one writes none, nor does one that only reads.
 -- Assumes nothing.
 use mathlib.Core.Path.{_≡_, refl, ap, sym, _∙_, subst}
 use mathlib.Core.Logic.{inl, inr}

@@ -73,8 +73,8 @@ fn deserialize(records: &mut [area::IndexRecord], n: usize, cells: &[u32])
     }
 }
 
-// So many records, or 512 if they are more: no job holds more.
-fn capped(count: usize) -> usize
+// How many of so many records a call looks at: 512 at most, since no job holds more.
+fn looked_at(count: usize) -> usize
     ensures { λ r. ⌜ r ≡ min count 512 ⌝ }
 {
     if count < MOST { count } else { MOST }
@@ -108,7 +108,7 @@ fn no_words() -> [u32; 13824] {
 fn flatten(records: &[area::IndexRecord]) -> Flat
     ensures { λ r. ⌜ (r .count ≡ min (length (now (records .entry))) 512) × (front (r .count) (r .words) ≡ take (r .count) (now (records .entry))) ⌝ }
 {
-    let n = capped(count(records));
+    let n = looked_at(count(records));
     let mut words = no_words();
     serialize(records, n, &mut words);
     Flat { count: n, words }
@@ -133,7 +133,7 @@ fn flat_start(
 ) -> FlatOutput
     ensures { λ r. ⌜ (r .stored ≤ min count 512) × StartedOver job settings count r (now (store .entry)) ⌝ }
 {
-    let n = capped(count);
+    let n = looked_at(count);
     let mut words = no_words();
     let answer = calls::start(job, settings, &mut words[..n * 27], store);
     let stored = to_store(answer, n);

@@ -21,24 +21,24 @@ use Rattle.records.proofs.flat_start.Tie as tie
 at-most : (n m : ℕ) → n ≡ min m 512 → n ≤ 512
 at-most n m e = subst (λ (k : ℕ). k ≤ 512) (sym e) (min-right m 512)
 
-capped-requires : tie.Need-capped-requires
-capped-requires c κs = search needs
+looked-at-requires : tie.Need-looked-at-requires
+looked-at-requires c κs = search needs
 
 no-words-requires : tie.Need-no-words-requires
 no-words-requires c κs = search needs
 
 mul-words : tie.Need-mul-words
-mul-words c = omega (arith, at-most (c .before .capped .result) (c .before .before .args .count) (c .before .capped .ensures))
+mul-words c = omega (arith, at-most (c .before .looked-at .result) (c .before .before .args .count) (c .before .looked-at .ensures))
 
 array-borrow-prefix-words : tie.Need-array-borrow-prefix-words
 array-borrow-prefix-words c =
     let count : length (c .no-words .result) ≡ 13824 = search needs in
-    room-for (c .before .capped .result) (c .no-words .result) (at-most (c .before .capped .result) (c .before .before .args .count) (c .before .capped .ensures)) count
+    room-for (c .before .looked-at .result) (c .no-words .result) (at-most (c .before .looked-at .result) (c .before .before .args .count) (c .before .looked-at .ensures)) count
 
 slice-aggregate-start : tie.Need-slice-aggregate-start
 slice-aggregate-start c =
     let count : length (c .before .no-words .result) ≡ 13824 = search needs in
-    cut-count (c .before .before .capped .result) (c .before .no-words .result) (at-most (c .before .before .capped .result) (c .before .before .before .args .count) (c .before .before .capped .ensures)) count
+    cut-count (c .before .before .looked-at .result) (c .before .no-words .result) (at-most (c .before .before .looked-at .result) (c .before .before .before .args .count) (c .before .before .looked-at .ensures)) count
 
 start-requires : tie.Need-start-requires
 start-requires c κs = search needs
@@ -50,8 +50,8 @@ returns : tie.Need-returns
 returns c =
     let s = c .before .before .before .before .before .before in
     let store = now (s .args .store) in
-    let n = c .before .before .before .before .before .capped .result in
-    let n-is : n ≡ min (s .args .count) 512 = c .before .before .before .before .before .capped .ensures in
+    let n = c .before .before .before .before .before .looked-at .result in
+    let n-is : n ≡ min (s .args .count) 512 = c .before .before .before .before .before .looked-at .ensures in
     let small : n ≤ 512 = at-most n (s .args .count) n-is in
     let w = c .before .before .before .before .no-words .result in
     let count : length w ≡ 13824 = search needs in
@@ -70,7 +70,7 @@ pub flat-start-spec : {M : Type 1} → statement M
 flat-start-spec =
     tie.close
     (tie.spec
-    capped-requires
+    looked-at-requires
     no-words-requires
     mul-words
     array-borrow-prefix-words

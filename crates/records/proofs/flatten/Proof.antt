@@ -56,10 +56,10 @@ use Rattle.records.proofs.count as count
 use Rattle.records.proofs.count.Symbol as count-def
 use Rattle.records.proofs.count.Symbol.{name as #records·count}
 use Rattle.records.proofs.count.Met as count-thm
-use Rattle.records.proofs.capped as capped
-use Rattle.records.proofs.capped.Symbol as capped-def
-use Rattle.records.proofs.capped.Symbol.{name as #records·capped}
-use Rattle.records.proofs.capped.Met as capped-thm
+use Rattle.records.proofs.looked_at as looked-at
+use Rattle.records.proofs.looked_at.Symbol as looked-at-def
+use Rattle.records.proofs.looked_at.Symbol.{name as #records·looked-at}
+use Rattle.records.proofs.looked_at.Met as looked-at-thm
 use Rattle.records.proofs.no_words as no-words
 use Rattle.records.proofs.no_words.Symbol as no-words-def
 use Rattle.records.proofs.no_words.Symbol.{name as #records·no-words}
@@ -87,8 +87,8 @@ module _ {M : Type 1} (𝓤 : URA M) (H : Heap 𝓤) (A : Atoms 𝓤) (mem : Mem
   abbrev Count : Contract 𝓤
   Count = tripleOf 𝓤 H A count.signature (count.spec 𝓤 H A mem run)
 
-  abbrev Capped : Contract 𝓤
-  Capped = tripleOf 𝓤 H A capped.signature (capped.spec 𝓤 H A mem run)
+  abbrev LookedAt : Contract 𝓤
+  LookedAt = tripleOf 𝓤 H A looked-at.signature (looked-at.spec 𝓤 H A mem run)
 
   abbrev NoWords : Contract 𝓤
   NoWords = tripleOf 𝓤 H A no-words.signature (no-words.spec 𝓤 H A mem run)
@@ -99,8 +99,8 @@ module _ {M : Type 1} (𝓤 : URA M) (H : Heap 𝓤) (A : Atoms 𝓤) (mem : Mem
   count-of : (κ : Lft) (x : RefT (List IndexRecord)) (k : ℕ) → ent 𝓤 (ensured 𝓤 H A count.ended (count.clauses 𝓤 H A mem run) (κ, tt) (x, tt) tt k) (fact 𝓤 (k ≡ length (x .now)))
   count-of κ x k = exE 𝓤 _ (λ ws. snd∗ 𝓤 (sem 𝓤 H A (lasts count.ended (κ, tt) (x, tt) ws)) (fact 𝓤 (k ≡ length (x .now))))
 
-  capped-of : (k n : ℕ) → ent 𝓤 (ensured 𝓤 H A capped.ended (capped.clauses 𝓤 H A mem run) tt (k, tt) tt n) (fact 𝓤 (n ≡ min k 512))
-  capped-of k n = exE 𝓤 _ (λ ws. snd∗ 𝓤 (sem 𝓤 H A (lasts capped.ended tt (k, tt) ws)) (fact 𝓤 (n ≡ min k 512)))
+  looked-at-of : (k n : ℕ) → ent 𝓤 (ensured 𝓤 H A looked-at.ended (looked-at.clauses 𝓤 H A mem run) tt (k, tt) tt n) (fact 𝓤 (n ≡ min k 512))
+  looked-at-of k n = exE 𝓤 _ (λ ws. snd∗ 𝓤 (sem 𝓤 H A (lasts looked-at.ended tt (k, tt) ws)) (fact 𝓤 (n ≡ min k 512)))
 
 module _ {M : Type 1} (𝓤 : URA M) (H : Heap 𝓤) (A : Atoms 𝓤) (W : Given 𝓤 H A) (mem : Memory → SProp 𝓤) (run : Routine → Fun 𝓤) (κ : Lft) (q : Share) (b o : ℕ) (γ : GName) (ys : List IndexRecord) (room : Room R (length ys)) where
   abbrev x : RefT (List IndexRecord)
@@ -133,11 +133,11 @@ module _ {M : Type 1} (𝓤 : URA M) (H : Heap 𝓤) (A : Atoms 𝓤) (W : Given
   goes-count =
       qed W (‵ (flft κ q) ∷ ‵ Own ∷ []) ∵ nothing ! $ move ! (1 ∷ 0 ∷ []) $ join ! $ nothing ! $ move ! (2 ∷ 0 ∷ []) $ fjoin ! $ move ! (1 ∷ 0 ∷ []) $ join ! $ nothing ! $ move ! (1 ∷ 0 ∷ []) $ done !
 
-  abbrev to-capped : ℕ → Capped 𝓤 H A mem run .Ghost
-  to-capped k = ((tt, tt, tt, (k, tt), (vint w64 k ∷ [], tt)), tt)
+  abbrev to-looked-at : ℕ → LookedAt 𝓤 H A mem run .Ghost
+  to-looked-at k = ((tt, tt, tt, (k, tt), (vint w64 k ∷ [], tt)), tt)
 
-  goes-capped : (k : ℕ) → k < 2 ^ 64 → ent 𝓤 (sem 𝓤 H A ftrue) (Capped 𝓤 H A mem run .pre (to-capped k))
-  goes-capped k fits =
+  goes-looked-at : (k : ℕ) → k < 2 ^ 64 → ent 𝓤 (sem 𝓤 H A ftrue) (LookedAt 𝓤 H A mem run .pre (to-looked-at k))
+  goes-looked-at k fits =
       qed W (‵ ftrue ∷ []) ∵ nothing ! $ nothing ! $ owned ! usize (Is usize) (uint-makes 𝓤 H A W w64) k _ (refl, fits) $ fjoin ! $ move ! (1 ∷ 0 ∷ []) $ join ! $ done !
 
   abbrev to-no-words : NoWords 𝓤 H A mem run .Ghost
@@ -186,7 +186,7 @@ module _ {M : Type 1} (𝓤 : URA M) (H : Heap 𝓤) (A : Atoms 𝓤) (W : Given
     holds : (xs ws : List ℕ) → runOf ws ≡ overRun n ys (runOf xs) → (n ≡ min (length ys) 512) × (front n ws ≡ take n ys)
     holds xs ws e = (e₂ ∙ ap (λ (m : ℕ). min m 512) e₁, flat-front ys n xs ws within e)
 
-  module _ (C : Calls 𝓤 H) (Λ : Loops 𝓤 H) (fm : FmC 𝓤 H (W .laws) C) (known-count : Triple 𝓤 (C #records·count) (Count 𝓤 H A mem run)) (known-capped : Triple 𝓤 (C #records·capped) (Capped 𝓤 H A mem run))
+  module _ (C : Calls 𝓤 H) (Λ : Loops 𝓤 H) (fm : FmC 𝓤 H (W .laws) C) (known-count : Triple 𝓤 (C #records·count) (Count 𝓤 H A mem run)) (known-looked-at : Triple 𝓤 (C #records·looked-at) (LookedAt 𝓤 H A mem run))
       (known-no-words : Triple 𝓤 (C #records·no-words) (NoWords 𝓤 H A mem run)) (known-serialize : Triple 𝓤 (C #records·serialize) (Serialize 𝓤 H A mem run)) where
     walk : ent 𝓤 (onEntry 𝓤 H A flatten.signature (κ, tt) (q, tt) (x, tt) at) (WpFn 𝓤 H C Λ code.function (s ∷ []) Post)
     walk =
@@ -204,11 +204,11 @@ module _ {M : Type 1} (𝓤 : URA M) (H : Heap 𝓤) (A : Atoms 𝓤) (W : Given
         split ! $ move ! (1 ∷ []) $ use1 W (raw (fact 𝓤 (k ≡ length ys))) (count-of 𝓤 H A mem run κ x k) $ heard ! (k ≡ length ys) (λ e₁. split ! $ move ! (1 ∷ []) $
         facts ! usize (Is usize) (shows 𝓤 H A usize) k (u ∷ []) (λ is₁. land ! (from ! (stop !)) (init ! 9 refl (subst (λ (c : Val). Holds (hasTy word c) × WT c) (sym (ap only (is₁ .0))) (tt, record { fits = is₁ .1 }))) $
         rewrite ! 9 (λ (c : Val). ‵ (fat fullShare word l₄ 0 c)) (ap only (is₁ .0)) refl $
-        -- `capped`: [the token; _8; …; _0; …; the slice; the slice]
-        nothing ! $ use1 W (raw (Capped 𝓤 H A mem run .pre (to-capped k))) (goes-capped k (is₁ .1)) $
-        calls-at ! fm (Capped 𝓤 H A mem run) known-capped (to-capped k) (and-then ! (load ! (from ! (stop !)) (look ! 10 refl)) (no-more !)) (λ u₂.
-        use1 W (later (some (λ (n : ℕ). (‵ ftrue ⊛ ‵ (usize .own n (u₂ ∷ []))) ⊛ raw (ensured 𝓤 H A capped.ended (capped.clauses 𝓤 H A mem run) tt (k, tt) tt n)))) (id⊢ 𝓤 _) $ await ! tt $ pick ! (λ n.
-        split ! $ move ! (1 ∷ []) $ use1 W (raw (fact 𝓤 (n ≡ min k 512))) (capped-of 𝓤 H A mem run k n) $ heard ! (n ≡ min k 512) (λ e₂. split ! $ drop ! $
+        -- `looked_at`: [the token; _8; …; _0; …; the slice; the slice]
+        nothing ! $ use1 W (raw (LookedAt 𝓤 H A mem run .pre (to-looked-at k))) (goes-looked-at k (is₁ .1)) $
+        calls-at ! fm (LookedAt 𝓤 H A mem run) known-looked-at (to-looked-at k) (and-then ! (load ! (from ! (stop !)) (look ! 10 refl)) (no-more !)) (λ u₂.
+        use1 W (later (some (λ (n : ℕ). (‵ ftrue ⊛ ‵ (usize .own n (u₂ ∷ []))) ⊛ raw (ensured 𝓤 H A looked-at.ended (looked-at.clauses 𝓤 H A mem run) tt (k, tt) tt n)))) (id⊢ 𝓤 _) $ await ! tt $ pick ! (λ n.
+        split ! $ move ! (1 ∷ []) $ use1 W (raw (fact 𝓤 (n ≡ min k 512))) (looked-at-of 𝓤 H A mem run k n) $ heard ! (n ≡ min k 512) (λ e₂. split ! $ drop ! $
         facts ! usize (Is usize) (shows 𝓤 H A usize) n (u₂ ∷ []) (λ is₂. land ! (from ! (stop !)) (init ! 13 refl (subst (λ (c : Val). Holds (hasTy word c) × WT c) (sym (ap only (is₂ .0))) (tt, record { fits = is₂ .1 }))) $
         rewrite ! 13 (λ (c : Val). ‵ (fat fullShare word l₂ 0 c)) (ap only (is₂ .0)) refl $
         -- `no_words`
@@ -248,11 +248,11 @@ module _ {M : Type 1} (𝓤 : URA M) (H : Heap 𝓤) (A : Atoms 𝓤) (W : Given
         move ! (20 ∷ 21 ∷ []) $ free1 ! $ move ! (18 ∷ 19 ∷ []) $ free1 ! $ move ! (16 ∷ 17 ∷ []) $ free1 ! $ move ! (0 ∷ 15 ∷ []) $ free1 ! $ move ! (12 ∷ 13 ∷ []) $ free1 ! $ move ! (10 ∷ 11 ∷ []) $ free1 ! $ move ! (8 ∷ 9 ∷ []) $ free1 ! $ move ! (6 ∷ 7 ∷ []) $ free1 ! $ move ! (4 ∷ 5 ∷ []) $ free1 ! $ free0 ! $
         keep ! (1 ∷ 4 ∷ []) $ by ! (exits (record { count = n; words = ws .1 .1 .0 }) (holds k n e₁ e₂ xs (ws .1 .1 .0) e₄) f-is)))))))))))))))))))))))))))))))
 
-module _ {M : Type 1} (𝓤 : URA M) (H : Heap 𝓤) (A : Atoms 𝓤) (W : Given 𝓤 H A) (mem : Memory → SProp 𝓤) (run : Routine → Fun 𝓤) (𝓣 : Tables 𝓤 H) (known-count : Triple 𝓤 (𝓣 .C #records·count) (Count 𝓤 H A mem run)) (known-capped : Triple 𝓤 (𝓣 .C #records·capped) (Capped 𝓤 H A mem run))
+module _ {M : Type 1} (𝓤 : URA M) (H : Heap 𝓤) (A : Atoms 𝓤) (W : Given 𝓤 H A) (mem : Memory → SProp 𝓤) (run : Routine → Fun 𝓤) (𝓣 : Tables 𝓤 H) (known-count : Triple 𝓤 (𝓣 .C #records·count) (Count 𝓤 H A mem run)) (known-looked-at : Triple 𝓤 (𝓣 .C #records·looked-at) (LookedAt 𝓤 H A mem run))
     (known-no-words : Triple 𝓤 (𝓣 .C #records·no-words) (NoWords 𝓤 H A mem run)) (known-serialize : Triple 𝓤 (𝓣 .C #records·serialize) (Serialize 𝓤 H A mem run)) where
   flatten-walks : Walks 𝓤 H A flatten.ended stayed (WpFn 𝓤 H (𝓣 .C) (𝓣 .Λ) code.function) (flatten.clauses 𝓤 H A mem run)
   flatten-walks = walked 𝓤 H A flatten.ended stayed (flatten.clauses 𝓤 H A mem run) (WpFn 𝓤 H (𝓣 .C) (𝓣 .Λ) code.function) (λ κs. (slice-vals, tt)) (λ κs. (shr-slice-tells (named 0) (κs .0) R, tt))
-      (λ κs qs bounds a g are. via 𝓤 _ (fst∗ 𝓤 _ (emp 𝓤)) (walk 𝓤 H A W mem run (κs .0) (qs .0) (a .0 .ptr .0) (a .0 .ptr .1) (a .0 .name) (a .0 .now) (are .0 .0 .1) (𝓣 .C) (𝓣 .Λ) (fmOf 𝓤 H (W .laws) 𝓣) known-count known-capped known-no-words known-serialize))
+      (λ κs qs bounds a g are. via 𝓤 _ (fst∗ 𝓤 _ (emp 𝓤)) (walk 𝓤 H A W mem run (κs .0) (qs .0) (a .0 .ptr .0) (a .0 .ptr .1) (a .0 .name) (a .0 .now) (are .0 .0 .1) (𝓣 .C) (𝓣 .Λ) (fmOf 𝓤 H (W .laws) 𝓣) known-count known-looked-at known-no-words known-serialize))
 
   flatten-meets : Meets 𝓤 H A flatten.signature (WpFn 𝓤 H (𝓣 .C) (𝓣 .Λ) code.function) (flatten.spec 𝓤 H A mem run)
   flatten-meets =
@@ -266,6 +266,6 @@ flatten-spec 𝓤 H 𝓜 𝓖 𝓡 =
     (tables 𝓤 H 𝓜 𝓡 code.env .C) (tables 𝓤 H 𝓜 𝓡 code.env .Λ) #records·flatten code.function (code.unfolded 𝓤 H 𝓜 𝓡)
     (flatten-meets 𝓤 H (𝓖 .A) (givenOf 𝓤 H 𝓜 𝓖) (𝓜 .mem) (𝓡 .run) (tablesOf 𝓤 H 𝓜 (tables 𝓤 H 𝓜 𝓡 code.env))
     (cited 𝓤 H (Count 𝓤 H (𝓖 .A) (𝓜 .mem) (𝓡 .run)) 𝓜 𝓡 code.env #records·count count-def.routine code.calls-records·count (count-thm.met 𝓤 H 𝓜 𝓖 𝓡))
-    (cited 𝓤 H (Capped 𝓤 H (𝓖 .A) (𝓜 .mem) (𝓡 .run)) 𝓜 𝓡 code.env #records·capped capped-def.routine code.calls-records·capped (capped-thm.met 𝓤 H 𝓜 𝓖 𝓡))
+    (cited 𝓤 H (LookedAt 𝓤 H (𝓖 .A) (𝓜 .mem) (𝓡 .run)) 𝓜 𝓡 code.env #records·looked-at looked-at-def.routine code.calls-records·looked-at (looked-at-thm.met 𝓤 H 𝓜 𝓖 𝓡))
     (cited 𝓤 H (NoWords 𝓤 H (𝓖 .A) (𝓜 .mem) (𝓡 .run)) 𝓜 𝓡 code.env #records·no-words no-words-def.routine code.calls-records·no-words (no-words-thm.met 𝓤 H 𝓜 𝓖 𝓡))
     (cited 𝓤 H (Serialize 𝓤 H (𝓖 .A) (𝓜 .mem) (𝓡 .run)) 𝓜 𝓡 code.env #records·serialize serialize-def.routine code.calls-records·serialize (serialize-thm.met 𝓤 H 𝓜 𝓖 𝓡)))

@@ -1,8 +1,8 @@
--- `records::capped` meets its contract. Assumes nothing.
+-- `records::looked_at` meets its contract. Assumes nothing.
 use borrow.Author.Tests.{lt-ltb, le-ltb}
 use Rattle.records.specs.Lent.{min}
-use Rattle.records.proofs.capped.Statement.{statement}
-use Rattle.records.proofs.capped.Tie as tie
+use Rattle.records.proofs.looked_at.Statement.{statement}
+use Rattle.records.proofs.looked_at.Tie as tie
 
 returns : tie.Need-returns
 unfolding min
@@ -12,5 +12,5 @@ returns-2 : tie.Need-returns-2
 unfolding min
 returns-2 c = rw (le-ltb (c .before .args .count) 512 (c .if1 .left))
 
-pub capped-spec : {M : Type 1} → statement M
-capped-spec = tie.close (tie.spec returns returns-2)
+pub looked-at-spec : {M : Type 1} → statement M
+looked-at-spec = tie.close (tie.spec returns returns-2)
