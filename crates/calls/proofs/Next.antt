@@ -13,7 +13,7 @@ use Rattle.area.specs.Encoding.{Area, heldOf, machineOf, written}
 use Rattle.soundness.specs.Clauses.{isSound}
 use Rattle.encoding.specs.Encodes.{WellFormed}
 use Rattle.encoding.specs.Entries.{SoundMachine}
-use Rattle.machine.specs.Promote as rule
+use Rattle.machine.specs.Promote as refining
 use Rattle.machine.specs.Steps as steps
 use Rattle.machine.specs.Causes.{Lengths, firstCause, short, startCauses, deliverCauses, promoteCauses, resultCauses}
 use Rattle.machine.proofs.Answers.{promoted-settings}
@@ -82,10 +82,10 @@ module _ (z : Lengths) (sound : Bool) (m : Machine) (known : firstCause (resultC
         readings = subst (λ g. leastStore g ≤ z .readings) (sym (promoted-settings (m .log .settings .budget) (m .log) p)) (long .1);
       }
 
-  by-outcome : (o : rule.Outcome) (n : Machine) → Next z n → Allowed z (promotionEffect o n)
+  by-outcome : (o : refining.Outcome) (n : Machine) → Next z n → Allowed z (promotionEffect o n)
   unfolding promotionEffect
-  by-outcome rule.spent n x = tt
-  by-outcome rule.promoted n x = x
+  by-outcome refining.spent n x = tt
+  by-outcome refining.promoted n x = x
 
   pub allowed : (c : Call) → refusal z sound (m .log) c ≡ 0 → Allowed z (effectOf m (row c))
   unfolding refusal causesOf effectOf row deliverCauses promoteCauses
@@ -94,7 +94,7 @@ module _ (z : Lengths) (sound : Bool) (m : Machine) (known : firstCause (resultC
   allowed (points n buffer) none = tt
   allowed (deliver rs i) none = next-deliver rs i none
   allowed choose none = tt
-  allowed (promote p) none = by-outcome (rule.promoteAt (m .log) p .outcome) (steps.promoteStep m p) (next-promote p none)
+  allowed (promote p) none = by-outcome (refining.promoteAt (m .log) p .outcome) (steps.promoteStep m p) (next-promote p none)
   allowed result none = tt
   allowed doubles none = tt
   allowed crossTotal none = tt

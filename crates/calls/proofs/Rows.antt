@@ -12,7 +12,7 @@ use Rattle.area.specs.Encoding.{Area, entriesOf, machineOf, written}
 use Rattle.soundness.specs.Clauses.{isSound}
 use Rattle.machine.specs.Log.{wantedIndex}
 use Rattle.machine.specs.Choose as choice
-use Rattle.machine.specs.Promote as rule
+use Rattle.machine.specs.Promote as refining
 use Rattle.machine.specs.Promote.{Outcome, spent, promoted}
 use Rattle.machine.specs.Steps.{promoteStep}
 use Rattle.machine.specs.Points.{pointsFitting, positionsOf, writtenOver}
@@ -63,9 +63,9 @@ outcome-area a promoted m = refl
 -- whatever its outcome, a promotion leaves the state of the machine's promotion
 pub promote-effect : (m : Machine) (p : ℕ) → changed m (effectOf m (row (promote p))) ≡ promoteStep m p
 unfolding effectOf row changed promotionEffect
-promote-effect m p = split (rule.promoteAt (m .log) p .outcome) stays
+promote-effect m p = split (refining.promoteAt (m .log) p .outcome) stays
   where
-    stays : (rule.promoteAt (m .log) p .outcome ≡ promoted → ⊥) → m ≡ promoteStep m p
+    stays : (refining.promoteAt (m .log) p .outcome ≡ promoted → ⊥) → m ≡ promoteStep m p
     stays n = unfold promoteStep in sym (ap {B = Machine} (λ l. record { log = l; mean = m .mean }) (same-log (m .log .settings .budget) (m .log) p n))
 
     split : (o : Outcome) → ((o ≡ promoted → ⊥) → m ≡ promoteStep m p) → changed m (promotionEffect o (promoteStep m p)) ≡ promoteStep m p

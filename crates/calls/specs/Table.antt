@@ -12,7 +12,7 @@ use Rattle.area.specs.declared.Settings.{Settings}
 use Rattle.area.specs.Log.{Log, Machine}
 use Rattle.machine.specs.Log.{wantedIndex}
 use Rattle.machine.specs.Choose as choice
-use Rattle.machine.specs.Promote as rule
+use Rattle.machine.specs.Promote as refining
 use Rattle.machine.specs.Steps as steps
 use Rattle.machine.specs.Points.{pointsFitting, positionsOf, writtenOver}
 use Rattle.machine.specs.Causes.{Cause, Lengths, firstCause, short, jobCauses, startCauses, pointOwnCauses, pointBufferShort, deliverOwnCauses, chooseOwnCauses, promoteOwnCauses}
@@ -40,9 +40,9 @@ pub data Effect : Type 0 where
   becomes : Machine → Effect
 
 -- A promotion changes the state if it is *promoted*; spent changes nothing.
-unfoldable pub promotionEffect : rule.Outcome → Machine → Effect
-promotionEffect rule.spent m = unchanged
-promotionEffect rule.promoted m = becomes m
+unfoldable pub promotionEffect : refining.Outcome → Machine → Effect
+promotionEffect refining.spent m = unchanged
+promotionEffect refining.promoted m = becomes m
 
 -- The row of a call on a job, which asks for storage that is long enough and for a sound area before its own causes (`jobCauses`).
 pub record JobRow : Type 0 where
@@ -110,7 +110,7 @@ row choose = withoutBuffer (λ l. chooseOwnCauses l) (λ m. unchanged) (λ m. ch
 -- **Promote** takes a place, any number. It answers spent or promoted, whatever the threshold; promoted makes that active index old and appends
 -- the admitted.
 row (promote p) =
-    withoutBuffer (λ l. promoteOwnCauses l p) (λ m. promotionEffect (rule.promoteAt (m .log) p .outcome) (steps.promoteStep m p)) (λ m. promotion (rule.promoteAt (m .log) p .outcome))
+    withoutBuffer (λ l. promoteOwnCauses l p) (λ m. promotionEffect (refining.promoteAt (m .log) p .outcome) (steps.promoteStep m p)) (λ m. promotion (refining.promoteAt (m .log) p .outcome))
 -- **Result** gives the counts.
 row result = withoutBuffer (λ l. []) (λ m. unchanged) (λ m. counts (countsOf m))
 -- **Doubles** gives mean, pending error and largest delivered difference as doubles; it is refused as result is.

@@ -18,7 +18,7 @@ use Rattle.area.proofs.Readings.{reading-facts}
 use Rattle.area.specs.Log.{Log, Machine}
 use Rattle.machine.specs.Log.{firstWanted, wantedIndex, Active}
 use Rattle.machine.specs.Choose as choice
-use Rattle.machine.specs.Promote as rule
+use Rattle.machine.specs.Promote as refining
 use Rattle.machine.specs.Counts.{countOf}
 use Rattle.machine.specs.Steps as steps
 use Rattle.machine.specs.Causes.{Lengths, firstCause, short, inRange, deliverCauses, chooseCauses, promoteCauses, resultCauses}
@@ -111,7 +111,7 @@ module _ (z : Lengths) (l : Log) (enough : short z (l .settings) ≡ false) wher
       unfolding refusal causesOf row promoteCauses
       promote-clear = promote-active z true l p choose-none (place-facts .back (l .entries) p a)
 
-      pub promote-answer : answerBy z l (promote p) ≡ answer (promotion (rule.promoteAt l p .outcome))
+      pub promote-answer : answerBy z l (promote p) ≡ answer (promotion (refining.promoteAt l p .outcome))
       promote-answer = answer-clear (promote p) promote-clear ∙ unfold acceptedAnswer row stateOf in refl
 
 module _ (P : Problem) (x : LentCall) (m : Machine) (enough : short (lengthsLent (x .part)) (m .log .settings) ≡ false) where

@@ -9,7 +9,7 @@ use Rattle.area.specs.declared.Settings.{Settings}
 use Rattle.area.specs.Settings.{leastStore}
 use Rattle.area.specs.Log.{Log, Machine}
 use Rattle.machine.specs.Log.{firstWanted, Active}
-use Rattle.machine.specs.Promote as rule
+use Rattle.machine.specs.Promote as refining
 use Rattle.machine.specs.Counts.{countOf}
 use Rattle.machine.specs.Steps as steps
 use Rattle.encoding.specs.Entries.{SoundMachine}
@@ -87,7 +87,7 @@ module _ (x : Part) (P : Problem) (g : Settings) (long : 512 * 27 ≤ x .cells) 
       p = nextPlace (m .log)
 
       after : Log
-      after = rule.promoteAt (m .log) (nextPlace (m .log)) .log
+      after = refining.promoteAt (m .log) (nextPlace (m .log)) .log
 
       a : Active (m .log .entries) (nextPlace (m .log))
       a = choose-facts .place-active (m .log) p (made .0)
@@ -95,5 +95,5 @@ module _ (x : Part) (P : Problem) (g : Settings) (long : 512 * 27 ≤ x .cells) 
       chose : logStep (m .log) (lend choose) ≡ m .log
       chose = log-facts .after-choose (m .log) (lend choose) refl
 
-      stepped : logStep (m .log) (lend (promote (nextPlace (m .log)))) ≡ rule.promoteAt (m .log) (nextPlace (m .log)) .log
+      stepped : logStep (m .log) (lend (promote (nextPlace (m .log)))) ≡ refining.promoteAt (m .log) (nextPlace (m .log)) .log
       stepped = promote-accepted (m .log) (lend (promote p)) p refl (promote-clear (lengthsLent x) (m .log) (enough x P g long room measured m e) free p a)

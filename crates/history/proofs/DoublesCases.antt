@@ -20,7 +20,7 @@ use Rattle.area.specs.Settings.{readingsFor, readingCount, leastStore}
 use Rattle.soundness.specs.Test.{allFrom}
 use Rattle.machine.specs.Log.{wanted, firstWanted, anyWanted, activeAt}
 use Rattle.machine.specs.Choose as choice
-use Rattle.machine.specs.Promote as rule
+use Rattle.machine.specs.Promote as refining
 use Rattle.machine.specs.Steps as steps
 use Rattle.machine.specs.Causes.{firstCause, short, inRange}
 use Rattle.machine.specs.Means.{crossOf}
@@ -34,5 +34,5 @@ use Rattle.history.specs.Excluded.{fileCalls}
 use Rattle.history.specs.DoublesCases.{logThen, doublesThen, DoublesCases}
 
 pub doubles-cases : DoublesCases
-unfolding toBits logThen doublesThen fileCalls stateOf logStep logAfter answerBy promotionEffect row causesOf effectOf passesCheck acceptedAnswer refusedAnswer refusal answerOf changed stateAfter firstCause short inRange readingsFor readingCount leastStore wanted firstWanted anyWanted activeAt root steps.started steps.deliver steps.promoteStep steps.deliverAt steps.delivered rule.promoteWithin rule.refine rule.makeOld rule.madeOld choice.choose choice.selected choice.firstActive choice.largest choice.isOver choice.isMet rule.fits rule.admittedAxes rule.passing rule.admits rule.backwardOld rule.isOld within levelsWithin excess forward backward allFrom sameLevels reservedBy pendingOf carriedOf atCeiling crossOf grid-cross.crossTotal deliveredOf readingIn readingsOf coefficient sumOf subsets sign raisedOn isIn tensorRule tensorSum units unit sumTo wholeWeight endsOne endsMinusOne newCount behind blockSize inFront lower differenceWeight differenceProduct differenceSum scaledDifference larger largestDifference largestOf doublesOf reportOf double round size span climb smallest odd trailingZeros callOf exportAnswer exportAnswersBy numberOf doublesAfter
+unfolding toBits logThen doublesThen fileCalls stateOf logStep logAfter answerBy promotionEffect row causesOf effectOf passesCheck acceptedAnswer refusedAnswer refusal answerOf changed stateAfter firstCause short inRange readingsFor readingCount leastStore wanted firstWanted anyWanted activeAt root steps.started steps.deliver steps.promoteStep steps.deliverAt steps.delivered refining.promoteWithin refining.refine refining.makeOld refining.madeOld choice.choose choice.selected choice.firstActive choice.largest choice.isOver choice.isMet refining.fits refining.admittedAxes refining.passing refining.admits refining.backwardOld refining.isOld within levelsWithin excess forward backward allFrom sameLevels reservedBy pendingOf carriedOf atCeiling crossOf grid-cross.crossTotal deliveredOf readingIn readingsOf coefficient sumOf subsets sign raisedOn isIn tensorRule tensorSum units unit sumTo wholeWeight endsOne endsMinusOne newCount behind blockSize inFront lower differenceWeight differenceProduct differenceSum scaledDifference larger largestDifference largestOf doublesOf reportOf double round size span climb smallest odd trailingZeros callOf exportAnswer exportAnswersBy numberOf doublesAfter
 doubles-cases = record { file = refl; nothing = refl; equal-sizes = refl; negative = refl; altered = refl; while-wanted = refl; lent-doubles = λ given. refl }

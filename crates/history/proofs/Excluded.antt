@@ -23,7 +23,7 @@ use Rattle.area.specs.Settings.{axesFit, budgetFit, readingsFor, readingCount, 
 use Rattle.area.specs.Log.{Log}
 use Rattle.machine.specs.Log.{wanted, firstWanted, anyWanted, wantedIndex, Active, activeAt}
 use Rattle.machine.specs.Choose as choice
-use Rattle.machine.specs.Promote as rule
+use Rattle.machine.specs.Promote as refining
 use Rattle.machine.specs.Points.{pointsFitting, positionsOf, writtenOver}
 use Rattle.machine.proofs.ActivePlaces.{reads-active, place-facts}
 use Rattle.machine.proofs.Answers.{promoted-log}
@@ -98,7 +98,7 @@ module _ (a : Area) (s : ValidArea a) where
     choice-accepted : callOn a choose .answer ≡ answer (chosen (choice.choose l))
     choice-accepted = sym (choose-accepts a _ refl choice-clear)
 
-    promotion-accepted : (p : ℕ) → Active (entriesOf a) p → callOn a (promote p) .answer ≡ answer (promotion (rule.promoteAt l p .outcome))
+    promotion-accepted : (p : ℕ) → Active (entriesOf a) p → callOn a (promote p) .answer ≡ answer (promotion (refining.promoteAt l p .outcome))
     unfolding machineOf refineOn
     promotion-accepted p h =
         ap (λ (y : CallResult). y .answer)
@@ -168,14 +168,14 @@ excluded =
       ceiling-counted = unfold countsOf stateOf ceilingCount cappedAxes within levelsWithin excess forward pair in refl;
       chooses = choose-facts;
       promotes = admitted-facts;
-      four-held = unfold rule.promoteWithin rule.refine rule.makeOld rule.madeOld rule.fits rule.admittedAxes rule.passing rule.admits rule.backwardOld rule.isOld within levelsWithin excess forward backward allFrom sameLevels pair reservedBy blockSize newCount wanted in refl;
-      one-old = unfold rule.admits rule.backwardOld rule.isOld within levelsWithin excess forward backward allFrom sameLevels pair in refl;
-      both-old = unfold rule.admits rule.backwardOld rule.isOld within levelsWithin excess forward backward allFrom sameLevels pair in refl;
-      level-one = unfold rule.admits rule.backwardOld rule.isOld within levelsWithin excess forward backward allFrom sameLevels pair in refl;
+      four-held = unfold refining.promoteWithin refining.refine refining.makeOld refining.madeOld refining.fits refining.admittedAxes refining.passing refining.admits refining.backwardOld refining.isOld within levelsWithin excess forward backward allFrom sameLevels pair reservedBy blockSize newCount wanted in refl;
+      one-old = unfold refining.admits refining.backwardOld refining.isOld within levelsWithin excess forward backward allFrom sameLevels pair in refl;
+      both-old = unfold refining.admits refining.backwardOld refining.isOld within levelsWithin excess forward backward allFrom sameLevels pair in refl;
+      level-one = unfold refining.admits refining.backwardOld refining.isOld within levelsWithin excess forward backward allFrom sameLevels pair in refl;
       centre = unfold differenceWeight in refl;
       wanted-out = unfold coefficient deliveredOf sumOf subsets sign raisedOn isIn sameLevels pair in refl;
     }
 
 pub call-cases : CallCases
-unfolding answersAfter axesFit budgetFit readingsFor readingCount leastStore startCauses pointOf pointAfter turned newPoint answersBy answerBy answerOf acceptedAnswer refusedAnswer passesCheck refusal causesOf effectOf row promotionEffect changed stateAfter stateOf logStep fileCalls firstCause short inRange anyWanted activeAt firstWanted wanted root steps.started steps.deliver steps.promoteStep deliverAt delivered rule.promoteWithin rule.refine rule.makeOld rule.madeOld choice.choose choice.selected choice.firstActive choice.largest choice.isOver choice.isMet rule.fits rule.admittedAxes rule.passing rule.admits rule.backwardOld rule.isOld within levelsWithin excess forward backward allFrom sameLevels countsOf countOf cappedAxes atCeiling ceilingCount reservedBy pendingOf carriedOf crossOf grid-cross.crossTotal deliveredOf readingIn readingsOf coefficient sumOf subsets sign raisedOn isIn tensorRule tensorSum units unit sumTo wholeWeight endsOne newCount behind blockSize pointsFitting positionsOf writtenOver block blockAfter rows directed newPoints callOf verdictNumber exportAnswer exportAnswersBy fileExports lowWord highWord numberOf pointsAfter choiceWords choiceAfter outcomeWord outcomeAfter countsAfter totalAfter pair
+unfolding answersAfter axesFit budgetFit readingsFor readingCount leastStore startCauses pointOf pointAfter turned newPoint answersBy answerBy answerOf acceptedAnswer refusedAnswer passesCheck refusal causesOf effectOf row promotionEffect changed stateAfter stateOf logStep fileCalls firstCause short inRange anyWanted activeAt firstWanted wanted root steps.started steps.deliver steps.promoteStep deliverAt delivered refining.promoteWithin refining.refine refining.makeOld refining.madeOld choice.choose choice.selected choice.firstActive choice.largest choice.isOver choice.isMet refining.fits refining.admittedAxes refining.passing refining.admits refining.backwardOld refining.isOld within levelsWithin excess forward backward allFrom sameLevels countsOf countOf cappedAxes atCeiling ceilingCount reservedBy pendingOf carriedOf crossOf grid-cross.crossTotal deliveredOf readingIn readingsOf coefficient sumOf subsets sign raisedOn isIn tensorRule tensorSum units unit sumTo wholeWeight endsOne newCount behind blockSize pointsFitting positionsOf writtenOver block blockAfter rows directed newPoints callOf verdictNumber exportAnswer exportAnswersBy fileExports lowWord highWord numberOf pointsAfter choiceWords choiceAfter outcomeWord outcomeAfter countsAfter totalAfter pair
 call-cases = record { capped-word = refl; met-carried = refl; capped-together = refl; met-together = refl; large-carried = refl; large-pending = refl; number-returned = λ n. refl; between = refl; many-points = refl; mean-zero = refl; threshold-equal = refl; budget-four = refl; budget-five = refl; met-and-spent = refl; root-wanted = refl; any-place = refl; file = refl; start-order = refl; wanted-order = refl; delivered-order = refl; file-words = refl; other-words = refl; ceiling-axes = (refl, refl, refl) }

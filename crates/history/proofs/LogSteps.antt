@@ -7,7 +7,7 @@ use borrow.Author.Tests.{eqb-true, eqb-false, ne-eqb}
 use Prim.Native.Nat.{ℕ}
 use lib.Dec.{eqb}
 use Rattle.area.specs.Log.{Log, Machine}
-use Rattle.machine.specs.Promote as rule
+use Rattle.machine.specs.Promote as refining
 use Rattle.machine.specs.Steps as steps
 use Rattle.calls.specs.Table.{Call, start, point, points, deliver, choose, promote, result, doubles, crossTotal, check, unchanged, row, effectOf, refusal, changed, stateAfter}
 use Rattle.machine.proofs.Answers.{promoted-log, same-log}
@@ -37,7 +37,7 @@ refused-step : (l : Log) (x : LentCall) → (AcceptedBy l x → ⊥) → logStep
 unfolding logStep stateAfter stateOf
 refused-step l x f = ap (λ (t : Bool). cond t (changed (stateOf l) (effectOf (stateOf l) (row (x .call)))) (stateOf l) .log) (ne-eqb (refusalBy (lengthsLent (x .part)) l (x .call)) 0 f)
 
-pub promote-accepted : (l : Log) (x : LentCall) (p : ℕ) → x .call ≡ promote p → AcceptedBy l x → logStep l x ≡ rule.promoteAt l p .log
+pub promote-accepted : (l : Log) (x : LentCall) (p : ℕ) → x .call ≡ promote p → AcceptedBy l x → logStep l x ≡ refining.promoteAt l p .log
 promote-accepted l x p is none = accepted-step l x (promote p) is none ∙ ap (λ (m : Machine). m .log) (promote-effect (stateOf l) p) ∙ unfold steps.promoteStep stateOf in refl
 
 -- what holds before a call, and after it where it is accepted, holds after it
@@ -48,7 +48,7 @@ either-way P l x before after = split (eqb (refusalBy (lengthsLent (x .part)) l 
     split true e = after (eqb-true (refusalBy (lengthsLent (x .part)) l (x .call)) 0 e)
     split false e = subst P (sym (refused-step l x (eqb-false (refusalBy (lengthsLent (x .part)) l (x .call)) 0 e))) before
 
-promote-idle : (l : Log) (x : LentCall) (p : ℕ) → x .call ≡ promote p → (rule.promoteAt l p .outcome ≡ rule.promoted → ⊥) → logStep l x ≡ l
+promote-idle : (l : Log) (x : LentCall) (p : ℕ) → x .call ≡ promote p → (refining.promoteAt l p .outcome ≡ refining.promoted → ⊥) → logStep l x ≡ l
 promote-idle l x p is n = either-way (λ (m : Log). m ≡ l) l x refl (λ none. promote-accepted l x p is none ∙ same-log (l .settings .budget) l p n)
 
 pub log-facts : LogFacts

@@ -19,7 +19,7 @@ use Rattle.area.specs.declared.Settings.{Settings}
 use Rattle.area.specs.Log.{Log, Machine}
 use Rattle.machine.specs.Log.{firstWanted, anyWanted}
 use Rattle.machine.specs.Choose as choice
-use Rattle.machine.specs.Promote as rule
+use Rattle.machine.specs.Promote as refining
 use Rattle.machine.specs.Steps as steps
 use Rattle.machine.specs.Causes.{Lengths, deliverCauses, promoteCauses}
 use Rattle.machine.proofs.Wanted.{none-wanted, reads-wanted}
@@ -65,18 +65,18 @@ either-step P m is x before after = split (eqb (refusalBy (lengthsLent (x .part)
 
 -- and of a promotion, whether promoted or spent
 either-promotion : (P : Log → Made → Type 0) (m : Machine) (is : Made) (p : ℕ) → P (m .log) is
-    → (rule.promoteAt (m .log) p .outcome ≡ rule.promoted → P (answers.refinedLog (m .log) p) (withPromoted rule.promoted (entryAt (m .log .entries) p .levels) is))
-    → P (moved m (promote p) .log) (withPromoted (rule.promoteAt (m .log) p .outcome) (entryAt (m .log .entries) p .levels) is)
+    → (refining.promoteAt (m .log) p .outcome ≡ refining.promoted → P (answers.refinedLog (m .log) p) (withPromoted refining.promoted (entryAt (m .log .entries) p .levels) is))
+    → P (moved m (promote p) .log) (withPromoted (refining.promoteAt (m .log) p .outcome) (entryAt (m .log .entries) p .levels) is)
 either-promotion P m is p before after =
-    subst (λ (n : Machine). P (n .log) (withPromoted (rule.promoteAt (m .log) p .outcome) k is)) (sym (promote-effect m p))
+    subst (λ (n : Machine). P (n .log) (withPromoted (refining.promoteAt (m .log) p .outcome) k is)) (sym (promote-effect m p))
     (unfold steps.promoteStep in split (answers.answered (m .log .settings .budget) (m .log) p))
   where
     k : List ℕ
     k = entryAt (m .log .entries) p .levels
 
-    split : Answered (m .log .settings .budget) (m .log) p → P (rule.promoteAt (m .log) p .log) (withPromoted (rule.promoteAt (m .log) p .outcome) k is)
-    split (is-promoted e h) = subst (λ (y : rule.Promotion). P (y .log) (withPromoted (y .outcome) k is)) (sym e) (after (ap (λ (y : rule.Promotion). y .outcome) e))
-    split (is-spent e h) = subst (λ (y : rule.Promotion). P (y .log) (withPromoted (y .outcome) k is)) (sym e) (unfold withPromoted in before)
+    split : Answered (m .log .settings .budget) (m .log) p → P (refining.promoteAt (m .log) p .log) (withPromoted (refining.promoteAt (m .log) p .outcome) k is)
+    split (is-promoted e h) = subst (λ (y : refining.Promotion). P (y .log) (withPromoted (y .outcome) k is)) (sym e) (after (ap (λ (y : refining.Promotion). y .outcome) e))
+    split (is-spent e h) = subst (λ (y : refining.Promotion). P (y .log) (withPromoted (y .outcome) k is)) (sym e) (unfold withPromoted in before)
 
 -- ---- Fig. 1 led by the list
 
@@ -108,7 +108,7 @@ after-course m f is c (x ∷ xs) =
 -- ---- and by the rule
 
 module _ (m : Machine) (f : MachineInvariant m) (is : Made) (c : Course (m .log) is) where
-  moved-rule : ByRule (m .log) is → (z : Lengths) (x : Call) → refusalBy z (m .log) x ≡ 0 → ((p : ℕ) → x ≡ promote p → rule.promoteAt (m .log) p .outcome ≡ rule.promoted → choice.choose (m .log) ≡ choice.place p)
+  moved-rule : ByRule (m .log) is → (z : Lengths) (x : Call) → refusalBy z (m .log) x ≡ 0 → ((p : ℕ) → x ≡ promote p → refining.promoteAt (m .log) p .outcome ≡ refining.promoted → choice.choose (m .log) ≡ choice.place p)
       → ByRule (moved m x .log) (promotionsBy (m .log) x is)
   unfolding refusal causesOf effectOf row changed deliverCauses promoteCauses promotionsBy
   moved-rule r z (start g) e h = unfold steps.started in start-rule g
@@ -127,7 +127,7 @@ module _ (m : Machine) (f : MachineInvariant m) (is : Made) (c : Course (m .log)
   step-rule : ByRule (m .log) is → (x : LentCall) → PlaceChosen (m .log) x → ByRule (machineStep m x .log) (promotionsStep (m .log) is x)
   step-rule r x chosen =
       either-step ByRule m is x r (λ e.
-      moved-rule r (lengthsLent (x .part)) (x .call) e (λ p i o. chosen p i (answers-so (lengthsLent (x .part)) (m .log) p rule.promoted (ap (refusalBy (lengthsLent (x .part)) (m .log)) (sym i) ∙ e) o)))
+      moved-rule r (lengthsLent (x .part)) (x .call) e (λ p i o. chosen p i (answers-so (lengthsLent (x .part)) (m .log) p refining.promoted (ap (refusalBy (lengthsLent (x .part)) (m .log)) (sym i) ∙ e) o)))
 
   -- an accepted start begins anew
   start-again : (x : LentCall) (g : Settings) → x .call ≡ start g → refusalBy (lengthsLent (x .part)) (m .log) (x .call) ≡ 0 → ByRule (machineStep m x .log) (promotionsStep (m .log) is x)

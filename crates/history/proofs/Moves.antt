@@ -10,7 +10,7 @@ use Rattle.grid.specs.Difference.{scaledDifference}
 use Rattle.area.specs.Entry.{readingIn}
 use Rattle.area.specs.Log.{Log, Machine}
 use Rattle.machine.specs.Log.{wantedIndex}
-use Rattle.machine.specs.Promote as rule
+use Rattle.machine.specs.Promote as refining
 use Rattle.machine.specs.Steps as steps
 use Rattle.encoding.specs.Entries.{SoundMachine}
 use Rattle.machine.specs.Means.{meanOf, crossOf}
@@ -41,7 +41,7 @@ moved-log m n e (deliver rs i) = unfold steps.deliver in ap (λ (l : Log). steps
 moved-log m n e choose = e
 moved-log m n e (promote p) =
     ap (λ (y : Machine). y .log) (promote-effect m p)
-    ∙ unfold steps.promoteStep in ap (λ (l : Log). rule.promoteAt l p .log) e
+    ∙ unfold steps.promoteStep in ap (λ (l : Log). refining.promoteAt l p .log) e
     ∙ ap (λ (y : Machine). y .log) (sym (promote-effect n p))
 moved-log m n e result = e
 moved-log m n e doubles = e

@@ -13,7 +13,7 @@ use Rattle.area.specs.Log.{Log}
 use Rattle.encoding.specs.Entries.{entryAt}
 use Rattle.machine.specs.Log.{Active}
 use Rattle.machine.specs.Choose as choice
-use Rattle.machine.specs.Promote as rule
+use Rattle.machine.specs.Promote as refining
 use Rattle.machine.specs.Causes.{Lengths, promoteCauses}
 use Rattle.calls.specs.Replies.{refused, chosen, promotion}
 use Rattle.calls.specs.Table.{Call, start, point, points, deliver, choose, promote, result, doubles, crossTotal, check, Answer, answer, row, causesOf, acceptedAnswer, refusedAnswer, refusal, answerOf}
@@ -37,21 +37,21 @@ chose z l o e = step (eqb (refusal z true l choose) 0) refl e
         absurd (omega arith)
 
 -- a promote that answers an outcome is not refused, and has it
-pub answered : (z : Lengths) (l : Log) (p : ℕ) (o : rule.Outcome) → answerBy z l (promote p) ≡ answer (promotion o) → (refusalBy z l (promote p) ≡ 0) × (rule.promoteAt l p .outcome ≡ o)
+pub answered : (z : Lengths) (l : Log) (p : ℕ) (o : refining.Outcome) → answerBy z l (promote p) ≡ answer (promotion o) → (refusalBy z l (promote p) ≡ 0) × (refining.promoteAt l p .outcome ≡ o)
 unfolding answerBy answerOf acceptedAnswer refusedAnswer row stateOf
 answered z l p o e = step (eqb (refusal z true l (promote p)) 0) refl e
   where
     step : (t : Bool) → eqb (refusal z true l (promote p)) 0 ≡ t
-        → cond {A = Answer} t (answer (promotion (rule.promoteAt l p .outcome))) (answer (refused (refusal z true l (promote p)))) ≡ answer (promotion o)
-        → (refusal z true l (promote p) ≡ 0) × (rule.promoteAt l p .outcome ≡ o)
-    step true q f = let k : promotion (rule.promoteAt l p .outcome) ≡ promotion o = ap (λ (v : Answer). v .reply) f in (eqb-true (refusal z true l (promote p)) 0 q, cc)
+        → cond {A = Answer} t (answer (promotion (refining.promoteAt l p .outcome))) (answer (refused (refusal z true l (promote p)))) ≡ answer (promotion o)
+        → (refusal z true l (promote p) ≡ 0) × (refining.promoteAt l p .outcome ≡ o)
+    step true q f = let k : promotion (refining.promoteAt l p .outcome) ≡ promotion o = ap (λ (v : Answer). v .reply) f in (eqb-true (refusal z true l (promote p)) 0 q, cc)
     step false q f =
         let k : refused (refusal z true l (promote p)) ≡ promotion o = ap (λ (v : Answer). v .reply) f in
         let y : _≡_ {A = ℕ} 0 1 = cc in
         absurd (omega arith)
 
 -- and one that is not refused and has an outcome answers it
-pub answers-so : (z : Lengths) (l : Log) (p : ℕ) (o : rule.Outcome) → refusalBy z l (promote p) ≡ 0 → rule.promoteAt l p .outcome ≡ o → answerBy z l (promote p) ≡ answer (promotion o)
+pub answers-so : (z : Lengths) (l : Log) (p : ℕ) (o : refining.Outcome) → refusalBy z l (promote p) ≡ 0 → refining.promoteAt l p .outcome ≡ o → answerBy z l (promote p) ≡ answer (promotion o)
 unfolding answerBy answerOf acceptedAnswer row stateOf
 answers-so z l p o e f = rw e (ap (λ x. answer (promotion x)) f)
 
@@ -70,13 +70,13 @@ refused-list : (l : Log) (is : List (List ℕ)) (x : LentCall) → (AcceptedBy l
 unfolding promotionsStep
 refused-list l is x f = ap (λ (t : Bool). cond t (promotionsBy l (x .call) is) is) (ne-eqb (refusalBy (lengthsLent (x .part)) l (x .call)) 0 f)
 
-outcome-list : (l : Log) (is : List (List ℕ)) (x : LentCall) (p : ℕ) (o : rule.Outcome) → x .call ≡ promote p → answerBy (lengthsLent (x .part)) l (promote p) ≡ answer (promotion o)
+outcome-list : (l : Log) (is : List (List ℕ)) (x : LentCall) (p : ℕ) (o : refining.Outcome) → x .call ≡ promote p → answerBy (lengthsLent (x .part)) l (promote p) ≡ answer (promotion o)
     → promotionsStep l is x ≡ withPromoted o (entryAt (l .entries) p .levels) is
 unfolding promotionsBy
 outcome-list l is x p o e f =
     let y = answered (lengthsLent (x .part)) l p o f in
     accepted-list l is x (promote p) e (ap (refusalBy (lengthsLent (x .part)) l) e ∙ y .0)
-    ∙ ap (λ (q : rule.Outcome). withPromoted q (entryAt (l .entries) p .levels) is) (y .1)
+    ∙ ap (λ (q : refining.Outcome). withPromoted q (entryAt (l .entries) p .levels) is) (y .1)
 
 -- a call that is neither a start nor a promotion
 neither : (l : Log) (is : List (List ℕ)) (c : Call) → ((g : Settings) → c ≡ start g → ⊥) → ((p : ℕ) → c ≡ promote p → ⊥) → promotionsBy l c is ≡ is
@@ -104,8 +104,8 @@ pub promotions-facts : PromotionsFacts
 promotions-facts =
     record {
       accepted-start = λ l is x g e none. accepted-list l is x (start g) e none ∙ unfold promotionsBy in refl;
-      promoted = λ l is x p e f. outcome-list l is x p rule.promoted e f ∙ unfold withPromoted in refl;
-      spent = λ l is x p e f. outcome-list l is x p rule.spent e f ∙ unfold withPromoted in refl;
+      promoted = λ l is x p e f. outcome-list l is x p refining.promoted e f ∙ unfold withPromoted in refl;
+      spent = λ l is x p e f. outcome-list l is x p refining.spent e f ∙ unfold withPromoted in refl;
       refused = refused-list;
       other = other-list;
     }

@@ -17,7 +17,7 @@ use Rattle.area.specs.Settings.{SettingsFit, leastStore}
 use Rattle.area.specs.Log.{Log, Machine}
 use Rattle.area.proofs.Readings.{reading-facts}
 use Rattle.machine.specs.Log.{wanted, firstWanted, wantedIndex, Active}
-use Rattle.machine.specs.Promote as rule
+use Rattle.machine.specs.Promote as refining
 use Rattle.machine.specs.Counts.{countOf}
 use Rattle.machine.specs.Steps as steps
 use Rattle.encoding.specs.Entries.{SoundMachine}
@@ -109,7 +109,7 @@ module _ (x : Part) (P : Problem) (g : Settings) (long : 512 * 27 ≤ x .cells) 
       p = nextPlace (m .log)
 
       after : Log
-      after = rule.promoteAt (m .log) (nextPlace (m .log)) .log
+      after = refining.promoteAt (m .log) (nextPlace (m .log)) .log
 
   -- ---- from the start
   module _ (fit : SettingsFit g) (posed : SettingsMatch g P) where

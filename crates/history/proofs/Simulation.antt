@@ -10,7 +10,7 @@ use Rattle.area.specs.Log.{Log, Machine}
 use Rattle.encoding.specs.Entries.{entryAt}
 use Rattle.machine.specs.Log.{firstWanted, Active}
 use Rattle.machine.specs.Choose as choice
-use Rattle.machine.specs.Promote as rule
+use Rattle.machine.specs.Promote as refining
 use Rattle.machine.specs.Steps as steps
 use Rattle.machine.specs.Causes.{Lengths}
 use Rattle.machine.specs.Means.{crossOf}
@@ -43,7 +43,7 @@ module _ (P : Problem) (m : Machine) (s : Figure) (invariant : MachineInvariant 
   chooses : {o : choice.Choice} (z : Lengths) → 512 ≤ z .records → leastStore (m .log .settings) ≤ z .readings → choice.choose (m .log) ≡ o → answerBy z (m .log) choose ≡ answer (chosen o)
   chooses z h k e = choose-answer z l (tests.enough z (l .settings) h k) free ∙ ap (λ o. answer (chosen o)) e
 
-  promotes : {o : rule.Outcome} (z : Lengths) (p : ℕ) → 512 ≤ z .records → leastStore (m .log .settings) ≤ z .readings → Active (m .log .entries) p → rule.promoteAt (m .log) p .outcome ≡ o
+  promotes : {o : refining.Outcome} (z : Lengths) (p : ℕ) → 512 ≤ z .records → leastStore (m .log .settings) ≤ z .readings → Active (m .log .entries) p → refining.promoteAt (m .log) p .outcome ≡ o
       → answerBy z (m .log) (promote p) ≡ answer (promotion o)
   promotes z p h k a e = promote-answer z l (tests.enough z (l .settings) h k) free p a ∙ ap (λ o. answer (promotion o)) e
 
@@ -51,21 +51,21 @@ module _ (P : Problem) (m : Machine) (s : Figure) (invariant : MachineInvariant 
   Exceeding p = ExceedsLimits (m .log .settings .budget) (turnAt P (entryAt (m .log .entries) p .levels) s)
 
   -- promote in its two cases
-  spent-only : (z : Lengths) (p : ℕ) → answerBy z (m .log) (promote p) ≡ answer (promotion rule.spent) → Active (m .log .entries) p × Exceeding p
+  spent-only : (z : Lengths) (p : ℕ) → answerBy z (m .log) (promote p) ≡ answer (promotion refining.spent) → Active (m .log .entries) p × Exceeding p
   spent-only z p e =
-      let y = answered z l p rule.spent e in
+      let y = answered z l p refining.spent e in
       let a = accepted-active z l p (y .0) in
       (a, published-facts .spent-at-only P m s p (invariant .sound) simulates (a .place) (a .active) (y .1))
 
-  promoted-only : (z : Lengths) (p : ℕ) → answerBy z (m .log) (promote p) ≡ answer (promotion rule.promoted) → Active (m .log .entries) p × (Exceeding p → ⊥)
+  promoted-only : (z : Lengths) (p : ℕ) → answerBy z (m .log) (promote p) ≡ answer (promotion refining.promoted) → Active (m .log .entries) p × (Exceeding p → ⊥)
   promoted-only z p e =
-      let y = answered z l p rule.promoted e in
+      let y = answered z l p refining.promoted e in
       let a = accepted-active z l p (y .0) in
       (a, λ x. spent-not (published-facts .spent-at P m s p (invariant .sound) simulates (a .place) (a .active) x) (y .1))
 
-  module _ (x : LentCall) (p : ℕ) (is : x .call ≡ promote p) (e : answerBy (lengthsLent (x .part)) (m .log) (promote p) ≡ answer (promotion rule.promoted)) where
-    accepted-so : (refusalBy (lengthsLent (x .part)) (m .log) (promote p) ≡ 0) × (rule.promoteAt (m .log) p .outcome ≡ rule.promoted)
-    accepted-so = answered (lengthsLent (x .part)) l p rule.promoted e
+  module _ (x : LentCall) (p : ℕ) (is : x .call ≡ promote p) (e : answerBy (lengthsLent (x .part)) (m .log) (promote p) ≡ answer (promotion refining.promoted)) where
+    accepted-so : (refusalBy (lengthsLent (x .part)) (m .log) (promote p) ≡ 0) × (refining.promoteAt (m .log) p .outcome ≡ refining.promoted)
+    accepted-so = answered (lengthsLent (x .part)) l p refining.promoted e
 
     a : Active (m .log .entries) p
     a = accepted-active (lengthsLent (x .part)) l p (accepted-so .0)

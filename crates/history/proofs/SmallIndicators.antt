@@ -13,7 +13,7 @@ use Rattle.area.specs.Entry.{Entry}
 use Rattle.area.specs.Log.{Log}
 use Rattle.encoding.specs.Entries.{noEntry, entryAt}
 use Rattle.machine.specs.Log.{wanted, firstWanted}
-use Rattle.machine.specs.Promote as rule
+use Rattle.machine.specs.Promote as refining
 use Rattle.machine.specs.Steps.{startLog, delivered, deliverAt, deliverLog}
 use Rattle.calls.specs.Table.{Call, start, point, points, deliver, choose, promote, result, doubles, crossTotal, check}
 use Rattle.history.specs.LentCalls.{LentCall}
@@ -56,14 +56,14 @@ module _ (l : Log) (s : AllSmall (l .entries)) where
   unfolding deliverAt delivered
   delivered-small rs i h = small-set (l .entries) (firstWanted (l .entries)) (delivered (entryAt (l .entries) (firstWanted (l .entries))) rs i) s h
 
-  refined : (p : ℕ) → AllSmall (rule.refine (l .settings .axes) (l .entries) p)
-  unfolding rule.refine rule.makeOld rule.madeOld
+  refined : (p : ℕ) → AllSmall (refining.refine (l .settings .axes) (l .entries) p)
+  unfolding refining.refine refining.makeOld refining.madeOld
   refined p =
-      small-append (rule.makeOld (l .entries) p) (map (λ a. wanted (forward (entryAt (l .entries) p .levels) a)) (rule.admittedAxes (l .settings .axes) (rule.makeOld (l .entries) p) (entryAt (l .entries) p .levels)))
-      (small-set (l .entries) p (rule.madeOld (entryAt (l .entries) p)) s (small-at (l .entries) s p))
-      (small-wanted (forward (entryAt (l .entries) p .levels)) (rule.admittedAxes (l .settings .axes) (rule.makeOld (l .entries) p) (entryAt (l .entries) p .levels)))
+      small-append (refining.makeOld (l .entries) p) (map (λ a. wanted (forward (entryAt (l .entries) p .levels) a)) (refining.admittedAxes (l .settings .axes) (refining.makeOld (l .entries) p) (entryAt (l .entries) p .levels)))
+      (small-set (l .entries) p (refining.madeOld (entryAt (l .entries) p)) s (small-at (l .entries) s p))
+      (small-wanted (forward (entryAt (l .entries) p .levels)) (refining.admittedAxes (l .settings .axes) (refining.makeOld (l .entries) p) (entryAt (l .entries) p .levels)))
 
-  pub promoted-small : (p : ℕ) → AllSmall (rule.promoteAt l p .log .entries)
+  pub promoted-small : (p : ℕ) → AllSmall (refining.promoteAt l p .log .entries)
   promoted-small p = either-log (l .settings .budget) l p (λ (x : Log). AllSmall (x .entries)) (λ e. refined p) s
 
 -- ---- a call, and a list of calls

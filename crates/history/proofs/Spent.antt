@@ -13,7 +13,7 @@ use Rattle.area.specs.Settings.{leastStore}
 use Rattle.area.specs.Log.{Log, Machine}
 use Rattle.encoding.specs.Entries.{SoundMachine}
 use Rattle.machine.specs.Log.{firstWanted, anyWanted, Active}
-use Rattle.machine.specs.Promote as rule
+use Rattle.machine.specs.Promote as refining
 use Rattle.machine.specs.Admitted.{Admitted, ListsAdmitted, totalOf, Exceeds}
 use Rattle.machine.specs.Steps as steps
 use Rattle.machine.specs.Causes.{Lengths}
@@ -41,19 +41,19 @@ module _ (m : Machine) (v : SoundMachine m) where
       step (yes h) = absurd (none (reads-wanted (m .log .entries) .back h))
       step (no h) = omega arith
 
-  answers : {o : rule.Outcome} (z : Lengths) (p : ℕ) → 512 ≤ z .records → leastStore (l .settings) ≤ z .readings → (anyWanted (l .entries) ≡ true → ⊥) → Active (l .entries) p
-      → rule.promoteAt l p .outcome ≡ o → answerBy z l (promote p) ≡ answer (promotion o)
+  answers : {o : refining.Outcome} (z : Lengths) (p : ℕ) → 512 ≤ z .records → leastStore (l .settings) ≤ z .readings → (anyWanted (l .entries) ≡ true → ⊥) → Active (l .entries) p
+      → refining.promoteAt l p .outcome ≡ o → answerBy z l (promote p) ≡ answer (promotion o)
   answers z p h k none a e = promote-answer z l (tests.enough z (l .settings) h k) (free none) p a ∙ ap (λ o. answer (promotion o)) e
 
-  spent-answer : (z : Lengths) (p : ℕ) (ks : List (List ℕ)) → ListsAdmitted l p ks → answerBy z l (promote p) ≡ answer (promotion rule.spent) → Active (l .entries) p × Exceeds l ks
+  spent-answer : (z : Lengths) (p : ℕ) (ks : List (List ℕ)) → ListsAdmitted l p ks → answerBy z l (promote p) ≡ answer (promotion refining.spent) → Active (l .entries) p × Exceeds l ks
   spent-answer z p ks these e =
-      let y = answered z l p rule.spent e in
+      let y = answered z l p refining.spent e in
       let a = accepted-active z l p (y .0) in
       (a, admitted-facts .spent-only l p ks (sound-place m p v (a .place)) these (y .1))
 
-  promoted-answer : (z : Lengths) (p : ℕ) (ks : List (List ℕ)) → ListsAdmitted l p ks → answerBy z l (promote p) ≡ answer (promotion rule.promoted) → Active (l .entries) p × (Exceeds l ks → ⊥)
+  promoted-answer : (z : Lengths) (p : ℕ) (ks : List (List ℕ)) → ListsAdmitted l p ks → answerBy z l (promote p) ≡ answer (promotion refining.promoted) → Active (l .entries) p × (Exceeds l ks → ⊥)
   promoted-answer z p ks these e =
-      let y = answered z l p rule.promoted e in
+      let y = answered z l p refining.promoted e in
       let a = accepted-active z l p (y .0) in
       (a, λ x. spent-not (admitted-facts .spent l p ks (sound-place m p v (a .place)) these x) (y .1))
 
@@ -63,7 +63,7 @@ module _ (m : Machine) (v : SoundMachine m) where
   stays-within (inl h) = omega (arith, h, v .count .1)
   stays-within (inr h) = omega (arith, h, v .within-budget)
 
-  none-admitted : (p : ℕ) → Active (l .entries) p → ((k : List ℕ) → Admitted (l .settings .axes) (l .entries) p k → ⊥) → rule.promoteAt l p .outcome ≡ rule.promoted
+  none-admitted : (p : ℕ) → Active (l .entries) p → ((k : List ℕ) → Admitted (l .settings .axes) (l .entries) p k → ⊥) → refining.promoteAt l p .outcome ≡ refining.promoted
   none-admitted p a n =
       admitted-facts .promoted l p [] (sound-place m p v (a .place)) (record { each = λ k h. absurd (List·Memᴰ·not-nil h); all = λ k h. absurd (n k h); once = tt }) stays-within
 

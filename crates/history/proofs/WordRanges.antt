@@ -15,7 +15,7 @@ use Rattle.area.specs.Encoding.{jobWith}
 use Rattle.area.proofs.Carried.{carried-facts}
 use Rattle.encoding.specs.Entries.{noEntry, SoundMachine}
 use Rattle.encoding.proofs.Ranges.{delivered-few}
-use Rattle.machine.specs.Promote as rule
+use Rattle.machine.specs.Promote as refining
 use Rattle.machine.specs.Steps.{startLog, deliverLog}
 use Rattle.machine.proofs.Answers.{promoted-settings}
 use Rattle.wihupya.specs.Words.{jobOf, wordsOf}
@@ -47,7 +47,7 @@ module _ (l : Log) (r : InRange l) where
   delivered-range : (rs : List ℤ) (i : ℕ) → i < 2 ^ 32 → InRange (deliverLog l rs i)
   delivered-range rs i h = record { threshold = r .threshold; indicators = delivered-small l (r .indicators) rs i h }
 
-  promoted-range : (p : ℕ) → InRange (rule.promoteAt l p .log)
+  promoted-range : (p : ℕ) → InRange (refining.promoteAt l p .log)
   promoted-range p =
       record {
         threshold = subst (λ (g : Settings). g .threshold < 2 ^ 64) (sym (promoted-settings (l .settings .budget) l p)) (r .threshold);

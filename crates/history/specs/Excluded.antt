@@ -19,7 +19,7 @@ use Rattle.area.specs.Encoding.{Area, entriesOf, machineOf}
 use Rattle.area.specs.Facts.{bare}
 use Rattle.machine.specs.Log.{anyWanted, wantedIndex, Active}
 use Rattle.machine.specs.Choose as choice
-use Rattle.machine.specs.Promote as rule
+use Rattle.machine.specs.Promote as refining
 use Rattle.machine.specs.Admitted.{AdmittedFacts}
 use Rattle.machine.specs.Steps.{startLog, deliverLog}
 use Rattle.machine.specs.Causes.{Lengths, inRange}
@@ -81,7 +81,7 @@ pub record Excluded : Type 0 where
       → a .job .settings .axes ≤ length buffer → (written : ℕ) × WrotePoints a n buffer written
   pub accepted-choice : (a : Area) → ValidArea a → anyWanted (entriesOf a) ≡ false → callOn a choose .answer ≡ answer (chosen (choice.choose (machineOf a .log)))
   pub accepted-promotion : (a : Area) (p : ℕ) → ValidArea a → anyWanted (entriesOf a) ≡ false → Active (entriesOf a) p
-      → callOn a (promote p) .answer ≡ answer (promotion (rule.promoteAt (machineOf a .log) p .outcome))
+      → callOn a (promote p) .answer ≡ answer (promotion (refining.promoteAt (machineOf a .log) p .outcome))
   pub accepted-result : (a : Area) → ValidArea a → callOn a result .answer ≡ answer (counts (countsOf (machineOf a)))
   pub accepted-doubles : (a : Area) → ValidArea a → callOn a doubles .answer ≡ answer (doubled (doublesOf (machineOf a)))
   pub accepted-cross : (a : Area) → ValidArea a → callOn a crossTotal .answer ≡ answer (total (crossOf (entriesOf a)))
@@ -90,7 +90,7 @@ pub record Excluded : Type 0 where
   -- "acknowledges calls, area untouched": the log changes (`LogFacts`), and the held records are the log's entries (`Found.entries`)
   pub started : (g : Settings) → startLog g .entries ≡ entry root 0 ∷ []
   pub delivered : (g : Settings) (i : ℕ) (rs : List ℤ) → deliverLog (startLog g) rs i .entries ≡ record { levels = root; state = 1; indicator = i; readings = rs } ∷ []
-  pub refines : (l : Log) (p : ℕ) → rule.promoteAt l p .outcome ≡ rule.promoted → rule.promoteAt l p .log ≡ withEntries l (rule.refine (l .settings .axes) (l .entries) p)
+  pub refines : (l : Log) (p : ℕ) → refining.promoteAt l p .outcome ≡ refining.promoted → refining.promoteAt l p .log ≡ withEntries l (refining.refine (l .settings .axes) (l .entries) p)
   -- "honest for the root, then only marks places": later readings count
   pub later-means : (crossOf (read (pair 1 1) 2 (pos 0 ∷ []) ∷ read (pair 2 1) 1 (pos 1 ∷ pos 0 ∷ []) ∷ entry (pair 1 2) 0 ∷ []) ≡ pos (2 ^ 18))
       × (crossOf (read (pair 1 1) 2 (pos 0 ∷ []) ∷ read (pair 2 1) 1 (pos 1 ∷ pos 2 ∷ []) ∷ entry (pair 1 2) 0 ∷ []) ≡ pos (3 * 2 ^ 18))
@@ -107,12 +107,12 @@ pub record Excluded : Type 0 where
   -- whatever threshold and indicators
   pub promotes : AdmittedFacts
   -- with four held, and six within 512 and the budget, it is promoted
-  pub four-held : rule.promoteAt fourHeld 2 .outcome ≡ rule.promoted
+  pub four-held : refining.promoteAt fourHeld 2 .outcome ≡ refining.promoted
   -- (2,2) is not admitted when only (2,1) is old, and is when (1,2) is old too
-  pub one-old : rule.admits 2 (entry (pair 1 1) 2 ∷ entry (pair 2 1) 2 ∷ entry (pair 1 2) 1 ∷ []) (pair 2 1) 1 ≡ false
-  pub both-old : rule.admits 2 (entry (pair 1 1) 2 ∷ entry (pair 2 1) 2 ∷ entry (pair 1 2) 2 ∷ []) (pair 2 1) 1 ≡ true
+  pub one-old : refining.admits 2 (entry (pair 1 1) 2 ∷ entry (pair 2 1) 2 ∷ entry (pair 1 2) 1 ∷ []) (pair 2 1) 1 ≡ false
+  pub both-old : refining.admits 2 (entry (pair 1 1) 2 ∷ entry (pair 2 1) 2 ∷ entry (pair 1 2) 2 ∷ []) (pair 2 1) 1 ≡ true
   -- (2,1) is admitted though there is no (2,0)
-  pub level-one : rule.admits 2 (entry (pair 1 1) 2 ∷ []) (pair 1 1) 0 ≡ true
+  pub level-one : refining.admits 2 (entry (pair 1 1) 2 ∷ []) (pair 1 1) 0 ≡ true
   -- the centre's weight in the difference of level 2 is −2
   pub centre : differenceWeight 2 1 ≡ negsuc 1
   -- a wanted index is not in the coefficients: (1,2) is wanted, and with it the root's would be −1
@@ -188,13 +188,13 @@ pub record CallCases : Type 0 where
       ≡ answer (counts (record { old = 0; active = 0; wanted = 1; reserved = 1; pending = 0; carried = 0; mean = pos 0; ceiling = 0 })) ∷ answer (total (pos 0)) ∷ []
   -- threshold equal to the pending error, nothing carried: met, and a promotion is promoted all the same
   pub threshold-equal : answersAfter (startLog (settingsOf 2 7 64)) (deliver (pos 3 ∷ []) 7 ∷ choose ∷ promote 0 ∷ [])
-      ≡ answer accepted ∷ answer (chosen choice.met) ∷ answer (promotion rule.promoted) ∷ []
+      ≡ answer accepted ∷ answer (chosen choice.met) ∷ answer (promotion refining.promoted) ∷ []
   -- budget 4, d 2, pending error above the threshold: the first promotion is spent; budget 5: it isn't
   pub budget-four : answersAfter (startLog (settingsOf 2 0 4)) (deliver (pos 3 ∷ []) 7 ∷ choose ∷ promote 0 ∷ choose ∷ [])
-      ≡ answer accepted ∷ answer (chosen (choice.place 0)) ∷ answer (promotion rule.spent) ∷ answer (chosen (choice.place 0)) ∷ []
-  pub budget-five : answersAfter (startLog (settingsOf 2 0 5)) (deliver (pos 3 ∷ []) 7 ∷ promote 0 ∷ []) ≡ answer accepted ∷ answer (promotion rule.promoted) ∷ []
+      ≡ answer accepted ∷ answer (chosen (choice.place 0)) ∷ answer (promotion refining.spent) ∷ answer (chosen (choice.place 0)) ∷ []
+  pub budget-five : answersAfter (startLog (settingsOf 2 0 5)) (deliver (pos 3 ∷ []) 7 ∷ promote 0 ∷ []) ≡ answer accepted ∷ answer (promotion refining.promoted) ∷ []
   -- budget 4, d 2, indicator 0: met, and the promotion is spent
-  pub met-and-spent : answersAfter (startLog (settingsOf 2 0 4)) (deliver (pos 3 ∷ []) 0 ∷ choose ∷ promote 0 ∷ []) ≡ answer accepted ∷ answer (chosen choice.met) ∷ answer (promotion rule.spent) ∷ []
+  pub met-and-spent : answersAfter (startLog (settingsOf 2 0 4)) (deliver (pos 3 ∷ []) 0 ∷ choose ∷ promote 0 ∷ []) ≡ answer accepted ∷ answer (chosen choice.met) ∷ answer (promotion refining.spent) ∷ []
   -- right after start choose and promote are refused by 6, whatever the place
   pub root-wanted : answersAfter (startLog (settingsOf 2 40 64)) (choose ∷ promote 0 ∷ promote (2 ^ 64 - 1) ∷ []) ≡ answer (refused 6) ∷ answer (refused 6) ∷ answer (refused 6) ∷ []
   -- a place that is none of an active index: the number held, 512, 2^32, 2^64 − 1, and later an old one. The last held place is one, here (1,2),
@@ -202,8 +202,8 @@ pub record CallCases : Type 0 where
   pub any-place : answersAfter (startLog (settingsOf 2 40 64))
       (deliver (pos 3 ∷ []) 40 ∷ choose ∷ promote 1 ∷ promote 512 ∷ promote (2 ^ 32) ∷ promote (2 ^ 64 - 1) ∷ promote 0
       ∷ deliver (pos 1 ∷ pos 2 ∷ []) 30 ∷ deliver (pos 1 ∷ pos 2 ∷ []) 30 ∷ choose ∷ promote 0 ∷ promote 2 ∷ point 0 (9 ∷ 9 ∷ []) ∷ [])
-      ≡ answer accepted ∷ answer (chosen choice.met) ∷ answer (refused 11) ∷ answer (refused 11) ∷ answer (refused 11) ∷ answer (refused 11) ∷ answer (promotion rule.promoted)
-      ∷ answer accepted ∷ answer accepted ∷ answer (chosen (choice.place 1)) ∷ answer (refused 11) ∷ answer (promotion rule.promoted) ∷ record { reply = accepted; buffer = 64 ∷ 32 ∷ [] } ∷ []
+      ≡ answer accepted ∷ answer (chosen choice.met) ∷ answer (refused 11) ∷ answer (refused 11) ∷ answer (refused 11) ∷ answer (refused 11) ∷ answer (promotion refining.promoted)
+      ∷ answer accepted ∷ answer accepted ∷ answer (chosen (choice.place 1)) ∷ answer (refused 11) ∷ answer (promotion refining.promoted) ∷ record { reply = accepted; buffer = 64 ∷ 32 ∷ [] } ∷ []
   -- calls in between that leave the log, and refusals: 7, 8, 9, 6, a part too short for 3, 5, and a later start
   pub between : answersBy (startLog (settingsOf 2 0 64))
       (whole (point 0 (1 ∷ 2 ∷ 3 ∷ [])) ∷ whole (deliver [] 7) ∷ whole (deliver (pos 1048577 ∷ []) 7) ∷ whole (point 1 (1 ∷ 2 ∷ [])) ∷ whole (promote 0)
@@ -232,20 +232,20 @@ pub record CallCases : Type 0 where
   -- points: of a block of two, one with room for one and a part, both, the last alone; past the block 9, a buffer under d 3
   pub many-points : answersAfter (startLog (settingsOf 2 0 64))
       (deliver (pos 3 ∷ []) 7 ∷ promote 0 ∷ points 0 (9 ∷ 9 ∷ 9 ∷ []) ∷ points 0 (9 ∷ 9 ∷ 9 ∷ 9 ∷ 9 ∷ []) ∷ points 1 (9 ∷ 9 ∷ 9 ∷ 9 ∷ 9 ∷ []) ∷ points 2 (9 ∷ 9 ∷ []) ∷ points 0 (9 ∷ []) ∷ [])
-      ≡ answer accepted ∷ answer (promotion rule.promoted) ∷ record { reply = wrote 1 2; buffer = 0 ∷ 64 ∷ 9 ∷ [] } ∷ record { reply = wrote 2 2; buffer = 0 ∷ 64 ∷ 128 ∷ 64 ∷ 9 ∷ [] }
+      ≡ answer accepted ∷ answer (promotion refining.promoted) ∷ record { reply = wrote 1 2; buffer = 0 ∷ 64 ∷ 9 ∷ [] } ∷ record { reply = wrote 2 2; buffer = 0 ∷ 64 ∷ 128 ∷ 64 ∷ 9 ∷ [] }
       ∷ record { reply = wrote 1 2; buffer = 128 ∷ 64 ∷ 9 ∷ 9 ∷ 9 ∷ [] } ∷ record { reply = refused 9; buffer = 9 ∷ 9 ∷ [] } ∷ record { reply = refused 3; buffer = 9 ∷ [] } ∷ []
   -- the file: its report's figures
   pub file : answersAfter (startLog (settingsOf 2 40 64)) fileCalls
       ≡ answer accepted
       ∷ answer (counts (record { old = 0; active = 1; wanted = 0; reserved = 1; pending = 100; carried = 0; mean = pos 4362076160; ceiling = 0 }))
       ∷ answer (chosen (choice.place 0))
-      ∷ answer (promotion rule.promoted)
+      ∷ answer (promotion refining.promoted)
       ∷ record { reply = accepted; buffer = 0 ∷ 64 ∷ [] }
       ∷ record { reply = accepted; buffer = 128 ∷ 64 ∷ [] }
       ∷ answer accepted
       ∷ answer accepted
       ∷ answer (chosen (choice.place 1))
-      ∷ answer (promotion rule.promoted)
+      ∷ answer (promotion refining.promoted)
       ∷ record { reply = accepted; buffer = 32 ∷ 64 ∷ [] }
       ∷ answer accepted
       ∷ answer (chosen choice.met)

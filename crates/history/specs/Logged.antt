@@ -8,7 +8,7 @@ use Prim.Native.Nat.{ℕ}
 use lib.IntN.{ℤ}
 use Rattle.area.specs.declared.Settings.{Settings}
 use Rattle.area.specs.Log.{Log, Machine, withEntries}
-use Rattle.machine.specs.Promote as rule
+use Rattle.machine.specs.Promote as refining
 use Rattle.machine.specs.Steps.{startLog, deliverLog}
 use Rattle.machine.specs.Causes.{Lengths}
 use Rattle.machine.specs.Means.{crossOf}
@@ -56,9 +56,9 @@ pub record LogFacts : Type 0 where
   -- an accepted deliver makes the first wanted entry active, with its readings and indicator
   pub accepted-deliver : (l : Log) (x : LentCall) (rs : List ℤ) (i : ℕ) → x .call ≡ deliver rs i → AcceptedBy l x → logStep l x ≡ deliverLog l rs i
   -- a promote that is *promoted* makes the entry at its place old and appends the admitted, wanted; one that is spent leaves it
-  pub accepted-promote : (l : Log) (x : LentCall) (p : ℕ) → x .call ≡ promote p → AcceptedBy l x → rule.promoteAt l p .outcome ≡ rule.promoted
-      → logStep l x ≡ withEntries l (rule.refine (l .settings .axes) (l .entries) p)
-  pub idle-promote : (l : Log) (x : LentCall) (p : ℕ) → x .call ≡ promote p → (rule.promoteAt l p .outcome ≡ rule.promoted → ⊥) → logStep l x ≡ l
+  pub accepted-promote : (l : Log) (x : LentCall) (p : ℕ) → x .call ≡ promote p → AcceptedBy l x → refining.promoteAt l p .outcome ≡ refining.promoted
+      → logStep l x ≡ withEntries l (refining.refine (l .settings .axes) (l .entries) p)
+  pub idle-promote : (l : Log) (x : LentCall) (p : ℕ) → x .call ≡ promote p → (refining.promoteAt l p .outcome ≡ refining.promoted → ⊥) → logStep l x ≡ l
   -- any call besides, and any refused one, leaves it
   pub after-choose : (l : Log) (x : LentCall) → x .call ≡ choose → logStep l x ≡ l
   pub after-point : (l : Log) (x : LentCall) (n : ℕ) (buffer : List ℕ) → x .call ≡ point n buffer → logStep l x ≡ l

@@ -10,16 +10,16 @@ use Rattle.area.specs.declared.Settings.{Settings}
 use Rattle.area.specs.Log.{Log}
 use Rattle.encoding.specs.Entries.{entryAt}
 use Rattle.machine.specs.Choose as choice
-use Rattle.machine.specs.Promote as rule
+use Rattle.machine.specs.Promote as refining
 use Rattle.calls.specs.Replies.{promotion}
 use Rattle.calls.specs.Table.{Call, start, point, points, deliver, choose, promote, result, doubles, crossTotal, check, answer}
 use Rattle.history.specs.LentCalls.{LentCall, lengthsLent}
 use Rattle.history.specs.Logged.{refusalBy, logStep, answerBy, AcceptedBy}
 
 -- With the index k, if its promotion is *promoted*.
-unfoldable pub withPromoted : rule.Outcome → List ℕ → List (List ℕ) → List (List ℕ)
-withPromoted rule.spent k is = is
-withPromoted rule.promoted k is = is ++ k ∷ []
+unfoldable pub withPromoted : refining.Outcome → List ℕ → List (List ℕ) → List (List ℕ)
+withPromoted refining.spent k is = is
+withPromoted refining.promoted k is = is ++ k ∷ []
 
 -- What an accepted call makes of the list: a start begins anew, and a promotion appends the index of its place.
 unfoldable pub promotionsBy : Log → Call → List (List ℕ) → List (List ℕ)
@@ -28,7 +28,7 @@ promotionsBy l (point n buffer) is = is
 promotionsBy l (points n buffer) is = is
 promotionsBy l (deliver rs i) is = is
 promotionsBy l choose is = is
-promotionsBy l (promote p) is = withPromoted (rule.promoteAt l p .outcome) (entryAt (l .entries) p .levels) is
+promotionsBy l (promote p) is = withPromoted (refining.promoteAt l p .outcome) (entryAt (l .entries) p .levels) is
 promotionsBy l result is = is
 promotionsBy l doubles is = is
 promotionsBy l crossTotal is = is
@@ -47,10 +47,10 @@ pub record PromotionsFacts : Type 0 where
   -- an accepted start begins anew
   pub accepted-start : (l : Log) (is : List (List ℕ)) (x : LentCall) (g : Settings) → x .call ≡ start g → AcceptedBy l x → promotionsStep l is x ≡ []
   -- a promote that is *promoted* appends the index of its place
-  pub promoted : (l : Log) (is : List (List ℕ)) (x : LentCall) (p : ℕ) → x .call ≡ promote p → answerBy (lengthsLent (x .part)) l (promote p) ≡ answer (promotion rule.promoted)
+  pub promoted : (l : Log) (is : List (List ℕ)) (x : LentCall) (p : ℕ) → x .call ≡ promote p → answerBy (lengthsLent (x .part)) l (promote p) ≡ answer (promotion refining.promoted)
       → promotionsStep l is x ≡ is ++ entryAt (l .entries) p .levels ∷ []
   -- one that is spent, and any refused call, leave the list
-  pub spent : (l : Log) (is : List (List ℕ)) (x : LentCall) (p : ℕ) → x .call ≡ promote p → answerBy (lengthsLent (x .part)) l (promote p) ≡ answer (promotion rule.spent)
+  pub spent : (l : Log) (is : List (List ℕ)) (x : LentCall) (p : ℕ) → x .call ≡ promote p → answerBy (lengthsLent (x .part)) l (promote p) ≡ answer (promotion refining.spent)
       → promotionsStep l is x ≡ is
   pub refused : (l : Log) (is : List (List ℕ)) (x : LentCall) → (AcceptedBy l x → ⊥) → promotionsStep l is x ≡ is
   -- so does any call that is neither a start nor a promote
@@ -60,7 +60,7 @@ pub record PromotionsFacts : Type 0 where
 
 -- If the call is a promote that is *promoted*, its place is the one that choose would have answered.
 abbrev pub PlaceChosen : Log → LentCall → Type 0
-PlaceChosen l x = (p : ℕ) → x .call ≡ promote p → answerBy (lengthsLent (x .part)) l (promote p) ≡ answer (promotion rule.promoted) → choice.choose l ≡ choice.place p
+PlaceChosen l x = (p : ℕ) → x .call ≡ promote p → answerBy (lengthsLent (x .part)) l (promote p) ≡ answer (promotion refining.promoted) → choice.choose l ≡ choice.place p
 
 -- Some call of the list is an accepted start, which begins anew.
 abbrev pub BeginsAnew : Log → List LentCall → Type 0

@@ -21,7 +21,7 @@ use Rattle.area.specs.Entry.{deliveredOf, readingIn, pendingOf, carriedOf}
 use Rattle.encoding.specs.Entries.{entryAt, EnteredOld, SoundMachine}
 use Rattle.machine.specs.Log.{anyWanted, wantedIndex, Active}
 use Rattle.machine.specs.Choose as choice
-use Rattle.machine.specs.Promote as rule
+use Rattle.machine.specs.Promote as refining
 use Rattle.machine.specs.Counts.{countOf}
 use Rattle.machine.specs.Admitted.{totalOf}
 use Rattle.machine.specs.Steps.{startLog, deliverLog}
@@ -99,22 +99,22 @@ pub record Follows (P : Problem) (l : Log) (s : Figure) : Type 0 where
   -- promote of an active place is *spent* exactly if after the loop's body with its index 𝒪 and 𝒜 have more than 512 indices, or their blocks
   -- more points than the budget, whatever the loop's test
   pub spent : (z : Lengths) (p : ℕ) → 512 ≤ z .records → leastStore (l .settings) ≤ z .readings → Active (l .entries) p
-      → ExceedsLimits (l .settings .budget) (turnAt P (entryAt (l .entries) p .levels) s) → answerBy z l (promote p) ≡ answer (promotion rule.spent)
-  pub spent-only : (z : Lengths) (p : ℕ) → answerBy z l (promote p) ≡ answer (promotion rule.spent)
+      → ExceedsLimits (l .settings .budget) (turnAt P (entryAt (l .entries) p .levels) s) → answerBy z l (promote p) ≡ answer (promotion refining.spent)
+  pub spent-only : (z : Lengths) (p : ℕ) → answerBy z l (promote p) ≡ answer (promotion refining.spent)
       → Active (l .entries) p × ExceedsLimits (l .settings .budget) (turnAt P (entryAt (l .entries) p .levels) s)
   -- and *promoted* otherwise
   pub promoted : (z : Lengths) (p : ℕ) → 512 ≤ z .records → leastStore (l .settings) ≤ z .readings → Active (l .entries) p
-      → (ExceedsLimits (l .settings .budget) (turnAt P (entryAt (l .entries) p .levels) s) → ⊥) → answerBy z l (promote p) ≡ answer (promotion rule.promoted)
-  pub promoted-only : (z : Lengths) (p : ℕ) → answerBy z l (promote p) ≡ answer (promotion rule.promoted)
+      → (ExceedsLimits (l .settings .budget) (turnAt P (entryAt (l .entries) p .levels) s) → ⊥) → answerBy z l (promote p) ≡ answer (promotion refining.promoted)
+  pub promoted-only : (z : Lengths) (p : ℕ) → answerBy z l (promote p) ≡ answer (promotion refining.promoted)
       → Active (l .entries) p × (ExceedsLimits (l .settings .budget) (turnAt P (entryAt (l .entries) p .levels) s) → ⊥)
   -- no index stands twice in those 𝒪 and 𝒜, so that it is indices that are counted
   pub once-after : (p : ℕ) → Active (l .entries) p → NoDup (turnAt P (entryAt (l .entries) p .levels) s .old ++ turnAt P (entryAt (l .entries) p .levels) s .active)
   -- a promote that is promoted is, on 𝒪 and 𝒜, the move of its place's index and the scan; the pending error falls by that index's indicator,
   -- and the carried error rises by it where the index has a forward neighbour past a ceiling
-  pub promotes : (x : LentCall) (p : ℕ) → x .call ≡ promote p → answerBy (lengthsLent (x .part)) l (promote p) ≡ answer (promotion rule.promoted)
+  pub promotes : (x : LentCall) (p : ℕ) → x .call ≡ promote p → answerBy (lengthsLent (x .part)) l (promote p) ≡ answer (promotion refining.promoted)
       → PromotionFollows P s (entryAt (l .entries) p .levels) (l .entries) (logStep l x .entries)
   -- and the mean stays: r and the new indicators follow with the deliveries (`FollowsSoFar`)
-  pub promotes-result : (x : LentCall) (p : ℕ) → x .call ≡ promote p → answerBy (lengthsLent (x .part)) l (promote p) ≡ answer (promotion rule.promoted)
+  pub promotes-result : (x : LentCall) (p : ℕ) → x .call ≡ promote p → answerBy (lengthsLent (x .part)) l (promote p) ≡ answer (promotion refining.promoted)
       → crossOf (logStep l x .entries) ≡ crossOf (l .entries)
 
 -- The log at any moment, also between a promotion and its deliveries: its state is the state s of Fig. 1 but for what is wanted.
@@ -187,7 +187,7 @@ nextPlace l = choice.selected (l .entries)
 -- Choose, the promotion of that place, and the deliveries of all that it admitted: nothing is wanted before it, so what is wanted after it is
 -- what it admitted.
 unfoldable pub turnCalls : Problem → Log → List Call
-turnCalls P l = choose ∷ promote (nextPlace l) ∷ supplyCalls P (countOf 0 (rule.promoteAt l (nextPlace l) .log .entries)) (rule.promoteAt l (nextPlace l) .log)
+turnCalls P l = choose ∷ promote (nextPlace l) ∷ supplyCalls P (countOf 0 (refining.promoteAt l (nextPlace l) .log .entries)) (refining.promoteAt l (nextPlace l) .log)
 
 -- Each call lent the part x.
 unfoldable pub lendAll : Part → List Call → List LentCall
@@ -210,7 +210,7 @@ callsOf x P g (suc n) = callsOf x P g n ++ turnCalls P (logOf x P g n)
 pub data Taken (y : Answer) : Type 0 where
   is-accepted : y ≡ answer accepted → Taken y
   is-chosen : (p : ℕ) → y ≡ answer (chosen (choice.place p)) → Taken y
-  is-promoted : y ≡ answer (promotion rule.promoted) → Taken y
+  is-promoted : y ≡ answer (promotion refining.promoted) → Taken y
 
 pub record RunFollows (w : Storage) (x : Part) (P : Problem) (g : Settings) (n : ℕ) : Type 0 where
   -- no call is refused, every choose answers a place, and every promotion is promoted

@@ -10,7 +10,7 @@ use Rattle.area.specs.Settings.{leastStore}
 use Rattle.area.specs.Log.{Log}
 use Rattle.encoding.specs.Entries.{entryAt, Entered}
 use Rattle.machine.specs.Log.{anyWanted, Active}
-use Rattle.machine.specs.Promote as rule
+use Rattle.machine.specs.Promote as refining
 use Rattle.machine.specs.Admitted.{Admitted, ListsAdmitted, Exceeds, Appends}
 use Rattle.machine.specs.Steps.{startLog}
 use Rattle.machine.specs.Causes.{Lengths}
@@ -32,17 +32,17 @@ pub record Admissions (l : Log) : Type 0 where
   -- promote of the place, called next with nothing wanted in storage that is long enough, is *spent* exactly if what it would admit brings the
   -- held above 512 or the reserved above the budget, whatever the threshold and the indicators
   pub spent : (z : Lengths) (p : ℕ) (ks : List (List ℕ)) → 512 ≤ z .records → leastStore (l .settings) ≤ z .readings → (anyWanted (l .entries) ≡ true → ⊥)
-      → Active (l .entries) p → ListsAdmitted l p ks → Exceeds l ks → answerBy z l (promote p) ≡ answer (promotion rule.spent)
-  pub spent-only : (z : Lengths) (p : ℕ) (ks : List (List ℕ)) → ListsAdmitted l p ks → answerBy z l (promote p) ≡ answer (promotion rule.spent)
+      → Active (l .entries) p → ListsAdmitted l p ks → Exceeds l ks → answerBy z l (promote p) ≡ answer (promotion refining.spent)
+  pub spent-only : (z : Lengths) (p : ℕ) (ks : List (List ℕ)) → ListsAdmitted l p ks → answerBy z l (promote p) ≡ answer (promotion refining.spent)
       → Active (l .entries) p × Exceeds l ks
   -- and *promoted* otherwise
   pub promoted : (z : Lengths) (p : ℕ) (ks : List (List ℕ)) → 512 ≤ z .records → leastStore (l .settings) ≤ z .readings → (anyWanted (l .entries) ≡ true → ⊥)
-      → Active (l .entries) p → ListsAdmitted l p ks → (Exceeds l ks → ⊥) → answerBy z l (promote p) ≡ answer (promotion rule.promoted)
-  pub promoted-only : (z : Lengths) (p : ℕ) (ks : List (List ℕ)) → ListsAdmitted l p ks → answerBy z l (promote p) ≡ answer (promotion rule.promoted)
+      → Active (l .entries) p → ListsAdmitted l p ks → (Exceeds l ks → ⊥) → answerBy z l (promote p) ≡ answer (promotion refining.promoted)
+  pub promoted-only : (z : Lengths) (p : ℕ) (ks : List (List ℕ)) → ListsAdmitted l p ks → answerBy z l (promote p) ≡ answer (promotion refining.promoted)
       → Active (l .entries) p × (Exceeds l ks → ⊥)
   -- so where nothing is admitted
   pub none-admitted : (z : Lengths) (p : ℕ) → 512 ≤ z .records → leastStore (l .settings) ≤ z .readings → (anyWanted (l .entries) ≡ true → ⊥)
-      → Active (l .entries) p → ((k : List ℕ) → Admitted (l .settings .axes) (l .entries) p k → ⊥) → answerBy z l (promote p) ≡ answer (promotion rule.promoted)
+      → Active (l .entries) p → ((k : List ℕ) → Admitted (l .settings .axes) (l .entries) p k → ⊥) → answerBy z l (promote p) ≡ answer (promotion refining.promoted)
 
 -- After every list of the third demand.
 abbrev pub SpentExactly : Type 0

@@ -12,7 +12,7 @@ use Rattle.area.specs.Entry.{Entry, reservedBy}
 use Rattle.area.specs.Log.{Log, Machine}
 use Rattle.encoding.specs.Entries.{entryAt, Entered, EnteredOld, SoundMachine}
 use Rattle.machine.specs.Log.{wanted}
-use Rattle.machine.specs.Promote as rule
+use Rattle.machine.specs.Promote as refining
 
 -- The index k is admitted where the place p of the entries is refined, in a job with d axes.
 pub record Admitted (d : ℕ) (es : List Entry) (p : ℕ) (k : List ℕ) : Type 0 where
@@ -58,7 +58,7 @@ pub record InAxisOrder (k : List ℕ) (ks : List (List ℕ)) : Type 0 where
 -- Refining the place p makes its entry old, leaves every other as it was, and appends the indices ks, wanted: exactly the admitted, each once,
 -- in axis order.
 pub record Appends (l : Log) (p : ℕ) (ks : List (List ℕ)) : Type 0 where
-  pub entries : rule.refine (l .settings .axes) (l .entries) p ≡ rule.makeOld (l .entries) p ++ map wanted ks
+  pub entries : refining.refine (l .settings .axes) (l .entries) p ≡ refining.makeOld (l .entries) p ++ map wanted ks
   pub admitted : ListsAdmitted l p ks
   pub order : InAxisOrder (entryAt (l .entries) p .levels) ks
 
@@ -71,10 +71,10 @@ pub record AdmittedFacts : Type 0 where
   -- and they are what is appended
   pub appends : (l : Log) (p : ℕ) → IndexPlace l p → (ks : List (List ℕ)) × Appends l p ks
   -- *spent* exactly if they would bring the held above 512 or the reserved above the budget
-  pub spent : (l : Log) (p : ℕ) (ks : List (List ℕ)) → IndexPlace l p → ListsAdmitted l p ks → Exceeds l ks → rule.promoteAt l p .outcome ≡ rule.spent
-  pub spent-only : (l : Log) (p : ℕ) (ks : List (List ℕ)) → IndexPlace l p → ListsAdmitted l p ks → rule.promoteAt l p .outcome ≡ rule.spent → Exceeds l ks
+  pub spent : (l : Log) (p : ℕ) (ks : List (List ℕ)) → IndexPlace l p → ListsAdmitted l p ks → Exceeds l ks → refining.promoteAt l p .outcome ≡ refining.spent
+  pub spent-only : (l : Log) (p : ℕ) (ks : List (List ℕ)) → IndexPlace l p → ListsAdmitted l p ks → refining.promoteAt l p .outcome ≡ refining.spent → Exceeds l ks
   -- and *promoted* otherwise
-  pub promoted : (l : Log) (p : ℕ) (ks : List (List ℕ)) → IndexPlace l p → ListsAdmitted l p ks → (Exceeds l ks → ⊥) → rule.promoteAt l p .outcome ≡ rule.promoted
+  pub promoted : (l : Log) (p : ℕ) (ks : List (List ℕ)) → IndexPlace l p → ListsAdmitted l p ks → (Exceeds l ks → ⊥) → refining.promoteAt l p .outcome ≡ refining.promoted
   -- in a sound state none that an active place admits is held
   pub none-held : (m : Machine) (p : ℕ) (k : List ℕ) → SoundMachine m → p < length (m .log .entries) → entryAt (m .log .entries) p .state ≡ 1
       → Admitted (m .log .settings .axes) (m .log .entries) p k → Entered (m .log .entries) k → ⊥

@@ -15,7 +15,7 @@ use Rattle.area.specs.Log.{Log}
 use Rattle.area.proofs.Readings.{reading-facts}
 use Rattle.machine.specs.Log.{firstWanted, anyWanted, Active}
 use Rattle.machine.specs.Choose as choice
-use Rattle.machine.specs.Promote as rule
+use Rattle.machine.specs.Promote as refining
 use Rattle.machine.specs.Causes.{firstCause, short, startCauses, deliverCauses}
 use Rattle.calls.specs.Replies.{refused, accepted, chosen, promotion}
 use Rattle.calls.specs.Table.{Call, start, deliver, choose, promote, Answer, answer, row, causesOf, passesCheck, acceptedAnswer, refusedAnswer, refusal, answerOf}
@@ -78,7 +78,7 @@ module _ (l : Log) where
     pub promote-clear : (p : ℕ) → Active (l .entries) p → refusalBy ownLent l (promote p) ≡ 0
     promote-clear = accepts.promote-clear ownLent l enough none
 
-    pub promote-answer : (p : ℕ) → Active (l .entries) p → answerBy ownLent l (promote p) ≡ answer (promotion (rule.promoteAt l p .outcome))
+    pub promote-answer : (p : ℕ) → Active (l .entries) p → answerBy ownLent l (promote p) ≡ answer (promotion (refining.promoteAt l p .outcome))
     promote-answer = accepts.promote-answer ownLent l enough none
 
   -- ---- what follows a call

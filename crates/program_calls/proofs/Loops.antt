@@ -17,7 +17,7 @@ use Rattle.area.specs.Log.{Log, Machine}
 use Rattle.encoding.specs.Entries.{entryAt}
 use Rattle.machine.specs.Log.{anyWanted, Active}
 use Rattle.machine.specs.Choose as choice
-use Rattle.machine.specs.Promote as rule
+use Rattle.machine.specs.Promote as refining
 use Rattle.machine.specs.Steps.{startLog}
 use Rattle.machine.specs.Counts.{countOf, countsOf}
 use Rattle.machine.specs.Means.{crossOf}
@@ -91,9 +91,9 @@ module _ (c : List ℕ) (fit : SettingsFit (fileSettings c)) (follows : StepsFol
       chooses : (x : choice.Choice) → choice.choose (m .log) ≡ x → answerBy ownLent (programLog c) choose ≡ answer (chosen x)
       chooses x is = choose-answer (programLog c) fit-here free ∙ ap (λ y. answer (chosen y)) (subst (λ (o : Log). choice.choose o ≡ x) log-same is)
 
-      promotes : (p : ℕ) (o : rule.Outcome) → Active (programLog c .entries) p → rule.promoteAt (m .log) p .outcome ≡ o → answerBy ownLent (programLog c) (promote p) ≡ answer (promotion o)
+      promotes : (p : ℕ) (o : refining.Outcome) → Active (programLog c .entries) p → refining.promoteAt (m .log) p .outcome ≡ o → answerBy ownLent (programLog c) (promote p) ≡ answer (promotion o)
       promotes p o a is =
-          promote-answer (programLog c) fit-here free p a ∙ ap (λ y. answer (promotion y)) (subst (λ (x : Log). rule.promoteAt x p .outcome ≡ o) log-same is)
+          promote-answer (programLog c) fit-here free p a ∙ ap (λ y. answer (promotion y)) (subst (λ (x : Log). refining.promoteAt x p .outcome ≡ o) log-same is)
 
       there : (P : Problem) → SettingsMatch (fileSettings c) P → Supplied P (programLog c .entries) → Follows P (programLog c) (turns P made)
       there P posed supplied =
@@ -173,7 +173,7 @@ module _ (c : List ℕ) (fit : SettingsFit (fileSettings c)) (follows : StepsFol
         next =
             unfold turns turn in
             subst (λ i. ExceedsLimits (programLog c .settings .budget) (turnAt P i (turns P made))) (chosen-there .2)
-            (here .spent-only ownLent p (promotes spent m used ends (ends .answers .1) p rule.spent (chosen-there .1) (ends .answers .2 .2)) .1)
+            (here .spent-only ownLent p (promotes spent m used ends (ends .answers .1) p refining.spent (chosen-there .1) (ends .answers .2 .2)) .1)
 
     pub spent-problem : Posed c
     spent-problem = posed-problem spent m used ends (ends .answers .1)

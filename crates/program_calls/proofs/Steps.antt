@@ -13,7 +13,7 @@ use lib.IntN.{ℤ}
 use Rattle.area.specs.Log.{Log, Machine}
 use Rattle.machine.specs.Log.{anyWanted, Active}
 use Rattle.machine.specs.Choose as choice
-use Rattle.machine.specs.Promote as rule
+use Rattle.machine.specs.Promote as refining
 use Rattle.machine.specs.Steps as steps
 use Rattle.machine.proofs.Answers.{promoted-settings, spent-not}
 use Rattle.machine.proofs.Choices.{choose-facts}
@@ -167,20 +167,20 @@ module _ (c : List ℕ) where
         a : Active (m .log .entries) p
         a = choose-facts .place-active (m .log) p chose
 
-        answers : (o : rule.Outcome) → rule.promoteAt l p .outcome ≡ o → answerBy ownLent l (promote p) ≡ answer (promotion o)
+        answers : (o : refining.Outcome) → refining.promoteAt l p .outcome ≡ o → answerBy ownLent l (promote p) ≡ answer (promotion o)
         answers o is = promote-answer l (f .sound .settings) free p a ∙ ap (λ x. answer (promotion x)) is
 
-        spending : rule.promoteAt l p .outcome ≡ rule.spent → ResultBy c l i (followedBy l (promote p) after) (ended spent m i)
+        spending : refining.promoteAt l p .outcome ≡ refining.spent → ResultBy c l i (followedBy l (promote p) after) (ended spent m i)
         unfolding goesOn goesOnAfter nextEntry
         spending is =
-            last-call (promote p) (answer (promotion rule.spent)) after spent (answers rule.spent is) refl
+            last-call (promote p) (answer (promotion refining.spent)) after spent (answers refining.spent is) refl
             (log-facts .idle-promote l (lent (promote p)) p refl (λ q. spent-not is q)) refl (λ ys x. (x, free, (p, chose, is)))
 
-        promoting : rule.promoteAt l p .outcome ≡ rule.promoted → ResultBy c l i (followedBy l (promote p) after) (execution c n (steps.promoteStep m p) i)
+        promoting : refining.promoteAt l p .outcome ≡ refining.promoted → ResultBy c l i (followedBy l (promote p) after) (execution c n (steps.promoteStep m p) i)
         unfolding nextEntry goesOn goesOnAfter
         promoting is =
-            subst (λ xs. ResultBy c l i xs (execution c n (steps.promoteStep m p) i)) (sym (goes-on l (promote p) (answer (promotion rule.promoted)) after (answers rule.promoted is) refl))
-            (one-more c l i (promote p) after (is-promoted (answers rule.promoted is)) (execution c n (steps.promoteStep m p) i)
+            subst (λ xs. ResultBy c l i xs (execution c n (steps.promoteStep m p) i)) (sym (goes-on l (promote p) (answer (promotion refining.promoted)) after (answers refining.promoted is) refl))
+            (one-more c l i (promote p) after (is-promoted (answers refining.promoted is)) (execution c n (steps.promoteStep m p) i)
             (subst (λ (o : Log). ResultBy c o i (callsFrom c n o i) (execution c n (steps.promoteStep m p) i)) (sym stepped)
             (later (steps.promoteStep m p) i fine (unfold steps.promoteStep in promoted-settings (m .log .settings .budget) (m .log) p ∙ g))))
           where
@@ -193,16 +193,16 @@ module _ (c : List ℕ) where
             fine : MachineInvariant (steps.promoteStep m p)
             fine = subst MachineInvariant (promote-effect m p) (moved-fine m f ownLent (promote p) none)
 
-        by-outcome : (o : rule.Outcome) → rule.promoteAt l p .outcome ≡ o → ResultBy c l i (followedBy l (promote p) after) (byOutcome o m i (execution c n (steps.promoteStep m p) i))
+        by-outcome : (o : refining.Outcome) → refining.promoteAt l p .outcome ≡ o → ResultBy c l i (followedBy l (promote p) after) (byOutcome o m i (execution c n (steps.promoteStep m p) i))
         unfolding byOutcome
-        by-outcome rule.spent e = spending e
-        by-outcome rule.promoted e = promoting e
+        by-outcome refining.spent e = spending e
+        by-outcome refining.promoted e = promoting e
 
         place-is : chosenPlace (choice.choose (m .log)) ≡ p
         place-is = ap chosenPlace chose ∙ unfold chosenPlace in refl
 
         abbrev made : Result
-        made = byOutcome (rule.promoteAt l p .outcome) m i (execution c n (steps.promoteStep m p) i)
+        made = byOutcome (refining.promoteAt l p .outcome) m i (execution c n (steps.promoteStep m p) i)
 
         choosing : ResultBy c l i (followedBy l choose (followedBy l (promoteCall l) (callsFrom c n (logStep l (lent (promoteCall l))) i))) made
         unfolding nextEntry goesOn goesOnWith
@@ -211,7 +211,7 @@ module _ (c : List ℕ) where
             (one-more c l i choose rest (is-chosen p there) made
             (subst (λ (o : Log). ResultBy c o i rest made) (sym (log-facts .after-choose l (lent choose) refl))
             (subst (λ q. ResultBy c l i (followedBy l (promote q) (callsFrom c n (logStep l (lent (promote q))) i)) made) (sym place-is)
-            (by-outcome (rule.promoteAt l p .outcome) refl))))
+            (by-outcome (refining.promoteAt l p .outcome) refl))))
           where
             rest : List Call
             rest = followedBy (m .log) (promoteCall (m .log)) (callsFrom c n (logStep (m .log) (lent (promoteCall (m .log)))) i)

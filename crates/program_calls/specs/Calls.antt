@@ -10,7 +10,7 @@ use lib.IntN.{ℤ}
 use Rattle.area.specs.Log.{Log}
 use Rattle.machine.specs.Log.{anyWanted}
 use Rattle.machine.specs.Choose as choice
-use Rattle.machine.specs.Promote as rule
+use Rattle.machine.specs.Promote as refining
 use Rattle.machine.specs.Steps.{startLog}
 use Rattle.machine.specs.Causes.{Lengths}
 use Rattle.calls.specs.Replies.{Reply, refused, accepted, wrote, chosen, promotion, counts, doubled, total, verdict}
@@ -47,9 +47,9 @@ goesOnWith choice.met = false
 goesOnWith choice.capped = false
 goesOnWith (choice.place p) = true
 
-unfoldable pub goesOnAfter : rule.Outcome → Bool
-goesOnAfter rule.spent = false
-goesOnAfter rule.promoted = true
+unfoldable pub goesOnAfter : refining.Outcome → Bool
+goesOnAfter refining.spent = false
+goesOnAfter refining.promoted = true
 
 unfoldable pub goesOn : Reply → Bool
 goesOn (refused n) = false

@@ -11,7 +11,7 @@ use Rattle.sums.specs.Sums.{sumOf}
 use Rattle.area.specs.Log.{Log, Machine}
 use Rattle.machine.specs.Log.{anyWanted}
 use Rattle.machine.specs.Choose as choice
-use Rattle.machine.specs.Promote as rule
+use Rattle.machine.specs.Promote as refining
 use Rattle.machine.specs.Steps.{startLog}
 use Rattle.machine.specs.Counts.{countOf}
 use Rattle.machine.specs.Admitted.{totalOf}
@@ -53,8 +53,8 @@ abbrev pub EndingAnswers : List ℕ → Ending → Machine → (used : ℕ) → 
 EndingAnswers c met m used ys = LastAnswer (answer (chosen choice.met)) ys × (anyWanted (m .log .entries) ≡ false) × (choice.choose (m .log) ≡ choice.met)
 EndingAnswers c capped m used ys = LastAnswer (answer (chosen choice.capped)) ys × (anyWanted (m .log .entries) ≡ false) × (choice.choose (m .log) ≡ choice.capped)
 EndingAnswers c spent m used ys =
-    LastAnswer (answer (promotion rule.spent)) ys × (anyWanted (m .log .entries) ≡ false)
-    × ((p : ℕ) × (choice.choose (m .log) ≡ choice.place p) × (rule.promoteAt (m .log) p .outcome ≡ rule.spent))
+    LastAnswer (answer (promotion refining.spent)) ys × (anyWanted (m .log .entries) ≡ false)
+    × ((p : ℕ) × (choice.choose (m .log) ≡ choice.place p) × (refining.promoteAt (m .log) p .outcome ≡ refining.spent))
 EndingAnswers c short m used ys = AllTaken ys × (anyWanted (m .log .entries) ≡ true) × (entryCount c ≤ used)
 
 -- They end, with the state m and so many entries used.

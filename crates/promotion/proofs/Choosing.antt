@@ -15,7 +15,7 @@ use Rattle.area.specs.Entry.{Entry}
 use Rattle.area.specs.Log.{Log}
 use Rattle.area.specs.Encoding.{Area, areaOf, entriesOf, machineOf}
 use Rattle.soundness.specs.Held.{stateAt}
-use Rattle.machine.specs.Choose as rule
+use Rattle.machine.specs.Choose as choice
 use Rattle.machine.specs.Choose.{met, capped, selected, choose}
 use Rattle.machine.proofs.Choices.{Chosen, meets, caps, goes, chosen, choose-facts}
 use Rattle.writing.specs.Heads.{headsOf}
@@ -47,14 +47,14 @@ module _ (job : JobRecord) (c : List ℕ) (store : List ℤ) (r : ValidArea (are
       step (goes f h) = absurd (omega (arith, h, over, r .sound .numbers .pending))
 
   -- where it is above
-  pub selected-is : t < job .pending → (p : ℕ) → p ≡ selected (headsOf (heldIn c (job .held))) → rule.place p ≡ choose l
+  pub selected-is : t < job .pending → (p : ℕ) → p ≡ selected (headsOf (heldIn c (job .held))) → choice.place p ≡ choose l
   unfolding machineOf
   selected-is above p is =
-      ap rule.place (is ∙ alike-selected (headsOf (heldIn c (job .held))) es (heads-are job c store))
+      ap choice.place (is ∙ alike-selected (headsOf (heldIn c (job .held))) es (heads-are job c store))
       ∙ sym (choose-facts .place-if l (omega (arith, above, r .sound .numbers .pending)))
 
   -- a place that is chosen is active
-  pub chosen-active : (p : ℕ) → choose l ≡ rule.place p → (p < job .held) × (stateAt (recordsOf c) p ≡ 1)
+  pub chosen-active : (p : ℕ) → choose l ≡ choice.place p → (p < job .held) × (stateAt (recordsOf c) p ≡ 1)
   unfolding machineOf
   chosen-active p e =
       let a = choose-facts .place-active l p e in

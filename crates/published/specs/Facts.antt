@@ -11,7 +11,7 @@ use Rattle.area.specs.Log.{Machine}
 use Rattle.encoding.specs.Entries.{entryAt, SoundMachine}
 use Rattle.machine.specs.Log.{anyWanted, Active}
 use Rattle.machine.specs.Choose.{met, capped, place, selected, choose}
-use Rattle.machine.specs.Promote as rule
+use Rattle.machine.specs.Promote as refining
 use Rattle.published.specs.Figure.{Problem, Figure, initial, loopCondition, select, turnAt, turns, led, selections}
 use Rattle.published.specs.Turns.{turnOn, turnsOn, TurnMade, SettingsMatch, ReadingValued, Simulates, ExceedsLimits, PromotionFollows}
 
@@ -34,20 +34,20 @@ pub record PublishedFacts : Type 0 where
       → (loopCondition P s ≡ true) × Active (m .log .entries) p × (entryAt (m .log .entries) p .levels ≡ select P s)
   -- refining any active place is on 𝒪 and 𝒜 the move of its index and the scan
   pub refines : (P : Problem) (m : Machine) (s : Figure) (p : ℕ) → SoundMachine m → Simulates P m s → p < length (m .log .entries) → entryAt (m .log .entries) p .state ≡ 1
-      → PromotionFollows P s (entryAt (m .log .entries) p .levels) (m .log .entries) (rule.refine (m .log .settings .axes) (m .log .entries) p)
+      → PromotionFollows P s (entryAt (m .log .entries) p .levels) (m .log .entries) (refining.refine (m .log .settings .axes) (m .log .entries) p)
   -- after the turn with its index no index stands twice in 𝒪 and 𝒜, so that the limits count indices
   pub once-after : (P : Problem) (m : Machine) (s : Figure) (p : ℕ) → SoundMachine m → Simulates P m s → p < length (m .log .entries) → entryAt (m .log .entries) p .state ≡ 1
       → NoDup (turnAt P (entryAt (m .log .entries) p .levels) s .old ++ turnAt P (entryAt (m .log .entries) p .levels) s .active)
   -- it is *spent* exactly if after the turn with its index 𝒪 and 𝒜 are past the limits, and *promoted* otherwise
   pub spent-at : (P : Problem) (m : Machine) (s : Figure) (p : ℕ) → SoundMachine m → Simulates P m s → p < length (m .log .entries) → entryAt (m .log .entries) p .state ≡ 1
-      → ExceedsLimits (m .log .settings .budget) (turnAt P (entryAt (m .log .entries) p .levels) s) → rule.promoteAt (m .log) p .outcome ≡ rule.spent
+      → ExceedsLimits (m .log .settings .budget) (turnAt P (entryAt (m .log .entries) p .levels) s) → refining.promoteAt (m .log) p .outcome ≡ refining.spent
   pub promoted-at : (P : Problem) (m : Machine) (s : Figure) (p : ℕ) → SoundMachine m → Simulates P m s → p < length (m .log .entries) → entryAt (m .log .entries) p .state ≡ 1
-      → (ExceedsLimits (m .log .settings .budget) (turnAt P (entryAt (m .log .entries) p .levels) s) → ⊥) → rule.promoteAt (m .log) p .outcome ≡ rule.promoted
+      → (ExceedsLimits (m .log .settings .budget) (turnAt P (entryAt (m .log .entries) p .levels) s) → ⊥) → refining.promoteAt (m .log) p .outcome ≡ refining.promoted
   pub spent-at-only : (P : Problem) (m : Machine) (s : Figure) (p : ℕ) → SoundMachine m → Simulates P m s → p < length (m .log .entries) → entryAt (m .log .entries) p .state ≡ 1
-      → rule.promoteAt (m .log) p .outcome ≡ rule.spent → ExceedsLimits (m .log .settings .budget) (turnAt P (entryAt (m .log .entries) p .levels) s)
+      → refining.promoteAt (m .log) p .outcome ≡ refining.spent → ExceedsLimits (m .log .settings .budget) (turnAt P (entryAt (m .log .entries) p .levels) s)
   -- a promotion of any active place that is promoted, and the deliveries of all that it admitted, are the loop's body with its index
   pub one-turn : (P : Problem) (m : Machine) (s : Figure) (p : ℕ) → ReadingValued P → SoundMachine m → Simulates P m s → p < length (m .log .entries) → entryAt (m .log .entries) p .state ≡ 1
-      → rule.promoteAt (m .log) p .outcome ≡ rule.promoted → SoundMachine (turnOn P m p) × Simulates P (turnOn P m p) (turnAt P (entryAt (m .log .entries) p .levels) s)
+      → refining.promoteAt (m .log) p .outcome ≡ refining.promoted → SoundMachine (turnOn P m p) × Simulates P (turnOn P m p) (turnAt P (entryAt (m .log .entries) p .levels) s)
   -- led by one index more, Fig. 1 makes the loop's body with it once more; 𝒪 is the list; led by what it selects itself, it makes its own turns
   pub led-more : (P : Problem) (is : List (List ℕ)) (i : List ℕ) → led P (is ++ i ∷ []) ≡ turnAt P i (led P is)
   pub led-old : (P : Problem) (is : List (List ℕ)) → led P is .old ≡ is

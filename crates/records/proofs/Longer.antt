@@ -19,7 +19,7 @@ use Rattle.area.specs.Encoding.{Area, machineOf}
 use Rattle.soundness.specs.Clauses.{isSound, checked}
 use Rattle.encoding.specs.Entries.{entryAt}
 use Rattle.machine.specs.Log.{firstWanted}
-use Rattle.machine.specs.Promote as rule
+use Rattle.machine.specs.Promote as refining
 use Rattle.machine.proofs.Answers.{either-log}
 use Rattle.machine.specs.Steps as steps
 use Rattle.machine.specs.Causes.{Lengths, firstCause, short, startCauses}
@@ -57,26 +57,26 @@ module _ (a : Area) (many : 512 < a .job .held) (c : Call) (r : JobRow) (is : ro
 false-not-true : _≡_ {A = Bool} false true → ⊥
 false-not-true z = let k : _≡_ {A = ℕ} 1 0 = ap (λ (b : Bool). cond b 0 1) z in omega (arith, k)
 
-within-limit : (b : ℕ) (es : List Entry) → rule.fits b es ≡ true → length es ≤ 512
-unfolding rule.fits
+within-limit : (b : ℕ) (es : List Entry) → refining.fits b es ≡ true → length es ≤ 512
+unfolding refining.fits
 within-limit b es e = go (leb (length es) 512) refl
   where
     go : (t : Bool) → leb (length es) 512 ≡ t → length es ≤ 512
     go true q = leb-true (length es) 512 q
     go false q = let z : _≡_ {A = Bool} false true = rw q at e in absurd (false-not-true z)
 
-promote-few : (l : Log) (p : ℕ) → length (l .entries) ≤ 512 → length (rule.promoteAt l p .log .entries) ≤ 512
+promote-few : (l : Log) (p : ℕ) → length (l .entries) ≤ 512 → length (refining.promoteAt l p .log .entries) ≤ 512
 promote-few l p h =
-    either-log (l .settings .budget) l p (λ (o : Log). length (o .entries) ≤ 512) (within-limit (l .settings .budget) (rule.refine (l .settings .axes) (l .entries) p)) h
+    either-log (l .settings .budget) l p (λ (o : Log). length (o .entries) ≤ 512) (within-limit (l .settings .budget) (refining.refine (l .settings .axes) (l .entries) p)) h
 
 abbrev Few : Effect → Type 0
 Few unchanged = Unit {0}
 Few (becomes n) = length (n .log .entries) ≤ 512
 
-outcome-few : (m : Machine) (p : ℕ) → length (m .log .entries) ≤ 512 → (o : rule.Outcome) → Few (promotionEffect o (steps.promoteStep m p))
+outcome-few : (m : Machine) (p : ℕ) → length (m .log .entries) ≤ 512 → (o : refining.Outcome) → Few (promotionEffect o (steps.promoteStep m p))
 unfolding promotionEffect steps.promoteStep
-outcome-few m p h rule.spent = tt
-outcome-few m p h rule.promoted = promote-few (m .log) p h
+outcome-few m p h refining.spent = tt
+outcome-few m p h refining.promoted = promote-few (m .log) p h
 
 effect-few : (m : Machine) → length (m .log .entries) ≤ 512 → (c : Call) → Few (effectOf m (row c))
 unfolding effectOf row
@@ -87,7 +87,7 @@ effect-few m h (deliver rs i) =
     unfold steps.deliver steps.deliverAt in
     omega (arith, h, length-set (m .log .entries) (firstWanted (m .log .entries)) (steps.delivered (entryAt (m .log .entries) (firstWanted (m .log .entries))) rs i))
 effect-few m h choose = tt
-effect-few m h (promote p) = outcome-few m p h (rule.promoteAt (m .log) p .outcome)
+effect-few m h (promote p) = outcome-few m p h (refining.promoteAt (m .log) p .outcome)
 effect-few m h result = tt
 effect-few m h doubles = tt
 effect-few m h crossTotal = tt

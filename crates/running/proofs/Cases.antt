@@ -18,7 +18,7 @@ use Rattle.area.specs.Entry.{readingsOf, readingIn, reservedBy, pendingOf, carr
 use Rattle.soundness.specs.Test.{allFrom}
 use Rattle.machine.specs.Log.{wanted, firstWanted, anyWanted}
 use Rattle.machine.specs.Choose as choice
-use Rattle.machine.specs.Promote as rule
+use Rattle.machine.specs.Promote as refining
 use Rattle.machine.specs.Steps.{started, deliver, promoteStep, deliverAt, delivered}
 use Rattle.machine.specs.Causes.{firstCause, short, inRange, deliverCauses, startCauses}
 use Rattle.machine.specs.Counts.{countOf, ceilingCount, countsOf}
@@ -54,7 +54,7 @@ negativeEntries =
     ∷ []
 
 pub file-cases : FileCases
-unfolding bytesOf exampleFile negativeFile ceilingFile entriesFrom replay four eight signedFour field headerForm tableForm readingsForm formOf readingsAt entryOf fileOf digits decimal signedDecimal line endingWord reportText refusalText firstOutOfRange deliveryByte byOutcome byChoice startByte resultIn resultOf reportValuesOf textIn textOf axesFit budgetFit readingsFor readingCount leastStore startCauses deliverCauses firstCause short inRange anyWanted firstWanted wanted root started deliver promoteStep deliverAt delivered rule.promoteWithin rule.refine rule.makeOld rule.madeOld choice.choose choice.selected choice.firstActive choice.largest choice.isOver choice.isMet rule.fits rule.admittedAxes rule.passing rule.admits rule.backwardOld rule.isOld within levelsWithin excess forward backward allFrom sameLevels countsOf countOf cappedAxes atCeiling ceilingCount reservedBy pendingOf carriedOf readingIn readingsOf sumOf units unit sumTo differenceWeight endsMinusOne differenceProduct differenceSum scaledDifference newCount behind blockSize lower inFront
+unfolding bytesOf exampleFile negativeFile ceilingFile entriesFrom replay four eight signedFour field headerForm tableForm readingsForm formOf readingsAt entryOf fileOf digits decimal signedDecimal line endingWord reportText refusalText firstOutOfRange deliveryByte byOutcome byChoice startByte resultIn resultOf reportValuesOf textIn textOf axesFit budgetFit readingsFor readingCount leastStore startCauses deliverCauses firstCause short inRange anyWanted firstWanted wanted root started deliver promoteStep deliverAt delivered refining.promoteWithin refining.refine refining.makeOld refining.madeOld choice.choose choice.selected choice.firstActive choice.largest choice.isOver choice.isMet refining.fits refining.admittedAxes refining.passing refining.admits refining.backwardOld refining.isOld within levelsWithin excess forward backward allFrom sameLevels countsOf countOf cappedAxes atCeiling ceilingCount reservedBy pendingOf carriedOf readingIn readingsOf sumOf units unit sumTo differenceWeight endsMinusOne differenceProduct differenceSum scaledDifference newCount behind blockSize lower inFront
 file-cases =
     record {
       header = refl;
@@ -101,7 +101,7 @@ abbrev ceilingEntries : ℕ → List FileEntry
 ceilingEntries n = zeros 8 1 ∷ zeros 7 2 ∷ zeros 6 2 ∷ zeros 5 4 ∷ zeros 4 8 ∷ zeros 3 16 ∷ zeros 2 32 ∷ zeros n 64 ∷ zeros 0 1 ∷ zeros 0 1 ∷ []
 
 pub ceiling-file-cases : CeilingFileCases
-unfolding bytesOf exampleFile negativeFile ceilingFile entriesFrom replay four eight signedFour field headerForm tableForm readingsForm formOf readingsAt entryOf fileOf digits decimal signedDecimal line endingWord reportText refusalText firstOutOfRange deliveryByte byOutcome byChoice startByte resultIn resultOf reportValuesOf textIn textOf axesFit budgetFit readingsFor readingCount leastStore startCauses deliverCauses firstCause short inRange anyWanted firstWanted wanted root started deliver promoteStep deliverAt delivered rule.promoteWithin rule.refine rule.makeOld rule.madeOld choice.choose choice.selected choice.firstActive choice.largest choice.isOver choice.isMet rule.fits rule.admittedAxes rule.passing rule.admits rule.backwardOld rule.isOld within levelsWithin excess forward backward allFrom sameLevels countsOf countOf cappedAxes atCeiling ceilingCount reservedBy pendingOf carriedOf readingIn readingsOf sumOf units unit sumTo differenceWeight endsMinusOne differenceProduct differenceSum scaledDifference newCount behind blockSize lower inFront
+unfolding bytesOf exampleFile negativeFile ceilingFile entriesFrom replay four eight signedFour field headerForm tableForm readingsForm formOf readingsAt entryOf fileOf digits decimal signedDecimal line endingWord reportText refusalText firstOutOfRange deliveryByte byOutcome byChoice startByte resultIn resultOf reportValuesOf textIn textOf axesFit budgetFit readingsFor readingCount leastStore startCauses deliverCauses firstCause short inRange anyWanted firstWanted wanted root started deliver promoteStep deliverAt delivered refining.promoteWithin refining.refine refining.makeOld refining.madeOld choice.choose choice.selected choice.firstActive choice.largest choice.isOver choice.isMet refining.fits refining.admittedAxes refining.passing refining.admits refining.backwardOld refining.isOld within levelsWithin excess forward backward allFrom sameLevels countsOf countOf cappedAxes atCeiling ceilingCount reservedBy pendingOf carriedOf readingIn readingsOf sumOf units unit sumTo differenceWeight endsMinusOne differenceProduct differenceSum scaledDifference newCount behind blockSize lower inFront
 ceiling-file-cases =
     record {
       ceiling = prints (set ceilingFile 108 9) (settingsOf 1 0 129) 10 (ceilingEntries 9) _ refl refl refl refl refl (λ n. refl);

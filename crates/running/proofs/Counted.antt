@@ -13,7 +13,7 @@ use Rattle.area.specs.Entry.{Entry}
 use Rattle.encoding.specs.Entries.{entryAt}
 use Rattle.grid.specs.Index.{forward}
 use Rattle.machine.specs.Log.{wanted, firstWanted}
-use Rattle.machine.specs.Promote as rule
+use Rattle.machine.specs.Promote as refining
 use Rattle.machine.specs.Steps.{delivered, deliverAt}
 use Rattle.machine.specs.Counts.{countOf}
 use Rattle.machine.proofs.Wanted.{first-is}
@@ -65,14 +65,14 @@ delivery-old es rs i h =
     )
 
 -- refining an active place makes one old
-pub refined-old : (d : ℕ) (es : List Entry) (p : ℕ) → p < length es → entryAt es p .state ≡ 1 → countOf 2 (rule.refine d es p) ≡ suc (countOf 2 es)
-unfolding rule.refine rule.makeOld rule.madeOld
+pub refined-old : (d : ℕ) (es : List Entry) (p : ℕ) → p < length es → entryAt es p .state ≡ 1 → countOf 2 (refining.refine d es p) ≡ suc (countOf 2 es)
+unfolding refining.refine refining.makeOld refining.madeOld
 refined-old d es p h a =
     omega (
       arith,
-      count-both 2 (set es p (rule.madeOld (entryAt es p))) (map (λ x. wanted (forward (entryAt es p .levels) x)) (rule.admittedAxes d (set es p (rule.madeOld (entryAt es p))) (entryAt es p .levels))),
-      count-wanted (entryAt es p .levels) (rule.admittedAxes d (set es p (rule.madeOld (entryAt es p))) (entryAt es p .levels)),
-      count-set 2 es p (rule.madeOld (entryAt es p)) h,
+      count-both 2 (set es p (refining.madeOld (entryAt es p))) (map (λ x. wanted (forward (entryAt es p .levels) x)) (refining.admittedAxes d (set es p (refining.madeOld (entryAt es p))) (entryAt es p .levels))),
+      count-wanted (entryAt es p .levels) (refining.admittedAxes d (set es p (refining.madeOld (entryAt es p))) (entryAt es p .levels)),
+      count-set 2 es p (refining.madeOld (entryAt es p)) h,
       one-no 2 (entryAt es p) (λ e. omega (arith, e, a)),
-      one-yes 2 (rule.madeOld (entryAt es p)) refl,
+      one-yes 2 (refining.madeOld (entryAt es p)) refl,
     )

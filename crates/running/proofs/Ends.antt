@@ -22,7 +22,7 @@ use Rattle.area.specs.Log.{Log, Machine}
 use Rattle.machine.specs.Log.{wantedIndex, firstWanted, anyWanted, Active}
 use Rattle.machine.specs.Causes.{firstCause, startCauses, resultCauses, deliverCauses, inRange}
 use Rattle.machine.specs.Choose as choice
-use Rattle.machine.specs.Promote as rule
+use Rattle.machine.specs.Promote as refining
 use Rattle.machine.proofs.Answers.{promoted-log}
 use Rattle.machine.proofs.Choices.{choose-facts}
 use Rattle.machine.specs.Steps.{started, deliver, promoteStep}
@@ -126,7 +126,7 @@ module _ (c : List ℕ) where
         step true f = delivering (leb-false (entryCount c) i e) (eqb-true (deliveryCause c m i) 0 f)
         step false f = inr (delivery-numbers m (entryOf c i .readings) (s .sound) some f)
 
-    promoting : (p : ℕ) → choice.choose (m .log) ≡ choice.place p → rule.promoteAt (m .log) p .outcome ≡ rule.promoted → AllowedResult (entryCount c) (execution c n (promoteStep m p) i)
+    promoting : (p : ℕ) → choice.choose (m .log) ≡ choice.place p → refining.promoteAt (m .log) p .outcome ≡ refining.promoted → AllowedResult (entryCount c) (execution c n (promoteStep m p) i)
     promoting p chosen is = later (promoteStep m p) i next used (omega (arith, h, more, most))
       where
         a : Active (m .log .entries) p
@@ -144,17 +144,17 @@ module _ (c : List ℕ) where
             ap (λ (l : Log). countOf 2 (l .entries)) (promoted-log (m .log .settings .budget) (m .log) p is)
             ∙ refined-old (m .log .settings .axes) (m .log .entries) p (a .place) (a .active)
 
-    by-outcome : (p : ℕ) (o : rule.Outcome) → (o ≡ rule.promoted → AllowedResult (entryCount c) (execution c n (promoteStep m p) i))
+    by-outcome : (p : ℕ) (o : refining.Outcome) → (o ≡ refining.promoted → AllowedResult (entryCount c) (execution c n (promoteStep m p) i))
         → AllowedResult (entryCount c) (byOutcome o m i (execution c n (promoteStep m p) i))
     unfolding byOutcome
-    by-outcome p rule.spent f = (s, used)
-    by-outcome p rule.promoted f = f refl
+    by-outcome p refining.spent f = (s, used)
+    by-outcome p refining.promoted f = f refl
 
     by-choice : (x : choice.Choice) → choice.choose (m .log) ≡ x → AllowedResult (entryCount c) (byChoice x m i (λ p. execution c n (promoteStep m p) i))
     unfolding byChoice
     by-choice choice.met e = (s, used)
     by-choice choice.capped e = (s, used)
-    by-choice (choice.place p) e = by-outcome p (rule.promoteAt (m .log) p .outcome) (promoting p e)
+    by-choice (choice.place p) e = by-outcome p (refining.promoteAt (m .log) p .outcome) (promoting p e)
 
     one-step : AllowedResult (entryCount c) (execution c (suc n) m i)
     unfolding execution

@@ -12,7 +12,7 @@ use Rattle.area.specs.declared.Settings.{Settings}
 use Rattle.area.specs.Log.{Machine}
 use Rattle.machine.specs.Log.{anyWanted}
 use Rattle.machine.specs.Choose as choice
-use Rattle.machine.specs.Promote as rule
+use Rattle.machine.specs.Promote as refining
 use Rattle.machine.specs.Steps.{started, deliver, promoteStep}
 use Rattle.machine.specs.Causes.{firstCause, startCauses, deliverCauses}
 use Rattle.jobfile.specs.Form.{formed, formOf, entryCount}
@@ -48,7 +48,7 @@ chooses : {f g : ℕ → Result} (x : choice.Choice) (m : Machine) (i : ℕ) →
 unfolding byChoice
 chooses choice.met m i h = refl
 chooses choice.capped m i h = refl
-chooses (choice.place p) m i h = ap (byOutcome (rule.promoteAt (m .log) p .outcome) m i) (h p)
+chooses (choice.place p) m i h = ap (byOutcome (refining.promoteAt (m .log) p .outcome) m i) (h p)
 
 module _ (c : List ℕ) where
   replays : (n k : ℕ) (m : Machine) (i : ℕ) → k + i ≡ entryCount c → execution c n m i ≡ replay c n (entriesFrom c k i) m i

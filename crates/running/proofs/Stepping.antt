@@ -17,7 +17,7 @@ use Rattle.area.specs.Log.{Machine}
 use Rattle.soundness.specs.Held.{stateAt}
 use Rattle.machine.specs.Log.{firstWanted, anyWanted, Active}
 use Rattle.machine.specs.Choose as choice
-use Rattle.machine.specs.Promote as rule
+use Rattle.machine.specs.Promote as refining
 use Rattle.machine.specs.Steps.{deliver, promoteStep}
 use Rattle.machine.specs.Areas.{AreaPromotion, changedBy, refineOn, promoteOn}
 use Rattle.machine.proofs.Facts.{step-facts}
@@ -98,7 +98,7 @@ module _ (j : JobRecord) (cells : List ℕ) (store : List ℤ) (st : ValidArea (
 
     pub way-place : (c : List ℕ) (n i : ℕ)
         → byChoice (choiceOf x) (machineOf (areaOf j cells store)) i (λ q. execution c n (promoteStep (machineOf (areaOf j cells store)) q) i)
-        ≡ byOutcome (rule.promoteAt (machineOf (areaOf j cells store) .log) p .outcome) (machineOf (areaOf j cells store)) i (execution c n (promoteStep (machineOf (areaOf j cells store)) p) i)
+        ≡ byOutcome (refining.promoteAt (machineOf (areaOf j cells store) .log) p .outcome) (machineOf (areaOf j cells store)) i (execution c n (promoteStep (machineOf (areaOf j cells store)) p) i)
     way-place c n i =
         ap (λ y. byChoice (choiceOf y) (machineOf (areaOf j cells store)) i (λ q. execution c n (promoteStep (machineOf (areaOf j cells store)) q) i)) told ∙ unfold choiceOf byChoice in refl
 
@@ -124,7 +124,7 @@ module _ (j : JobRecord) (cells : List ℕ) (store : List ℤ) (st : ValidArea (
     same-area e = ap {B = Area} (λ x. record { job = j; run = x .run; store = store }) e
 
     module _ (o : outcome.Outcome) (is : record { outcome = outcomeOf o; area = areaOf job cells₁ store } ≡ promoteOn (areaOf j cells store) p) where
-      outcome-is : outcomeOf o ≡ rule.promoteAt (machineOf (areaOf j cells store) .log) p .outcome
+      outcome-is : outcomeOf o ≡ refining.promoteAt (machineOf (areaOf j cells store) .log) p .outcome
       unfolding refineOn machineOf
       outcome-is = ap (λ (x : AreaPromotion). x .outcome) is
 
@@ -134,7 +134,7 @@ module _ (j : JobRecord) (cells : List ℕ) (store : List ℤ) (st : ValidArea (
           ap (λ (x : AreaPromotion). x .area) is
           ∙ ap (λ x. changedBy x (areaOf j cells store) (written (areaOf j cells store) (promoteStep (machineOf (areaOf j cells store)) p))) (sym outcome-is)
 
-      pub promoted-step : (c : List ℕ) (n i : ℕ) → byOutcome (rule.promoteAt (machineOf (areaOf j cells store) .log) p .outcome) (machineOf (areaOf j cells store)) i (execution c n (promoteStep (machineOf (areaOf j cells store)) p) i)
+      pub promoted-step : (c : List ℕ) (n i : ℕ) → byOutcome (refining.promoteAt (machineOf (areaOf j cells store) .log) p .outcome) (machineOf (areaOf j cells store)) i (execution c n (promoteStep (machineOf (areaOf j cells store)) p) i)
           ≡ afterStep c n i (machineOf (areaOf j cells store)) (stepPromoted o job) cells₁ store
       promoted-step c n i =
           ap (λ x. byOutcome x (machineOf (areaOf j cells store)) i (execution c n (promoteStep (machineOf (areaOf j cells store)) p) i)) (sym outcome-is) ∙ by o area-is

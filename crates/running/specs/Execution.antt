@@ -10,7 +10,7 @@ use Rattle.area.specs.Settings.{settingsOf}
 use Rattle.area.specs.Log.{Machine}
 use Rattle.machine.specs.Log.{anyWanted}
 use Rattle.machine.specs.Choose as choice
-use Rattle.machine.specs.Promote as rule
+use Rattle.machine.specs.Promote as refining
 use Rattle.machine.specs.Steps.{started, deliver, promoteStep}
 use Rattle.machine.specs.Causes.{Lengths, firstCause, startCauses, deliverCauses}
 use Rattle.jobfile.specs.Bytes.{four}
@@ -48,15 +48,15 @@ abbrev pub unlessRefused : List ℕ → Machine → ℕ → Result → Result
 unlessRefused c m i next = cond (eqb (deliveryCause c m i) 0) next (refusedAt (deliveryCause c m i) (deliveryByte c i (deliveryCause c m i)))
 
 -- Promote ends the run where it is spent; promoted, the run goes on with `next`.
-unfoldable pub byOutcome : rule.Outcome → Machine → ℕ → Result → Result
-byOutcome rule.spent m i next = ended spent m i
-byOutcome rule.promoted m i next = next
+unfoldable pub byOutcome : refining.Outcome → Machine → ℕ → Result → Result
+byOutcome refining.spent m i next = ended spent m i
+byOutcome refining.promoted m i next = next
 
 -- Choose ends the run where it is met or capped; a place that it answers is promoted.
 unfoldable pub byChoice : choice.Choice → Machine → ℕ → (next : ℕ → Result) → Result
 byChoice choice.met m i next = ended met m i
 byChoice choice.capped m i next = ended capped m i
-byChoice (choice.place p) m i next = byOutcome (rule.promoteAt (m .log) p .outcome) m i (next p)
+byChoice (choice.place p) m i next = byOutcome (refining.promoteAt (m .log) p .outcome) m i (next p)
 
 -- At most n steps, with i entries delivered; a choice and its promotion are one step.
 unfoldable pub execution : List ℕ → (n : ℕ) → Machine → (i : ℕ) → Result
