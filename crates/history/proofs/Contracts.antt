@@ -227,27 +227,27 @@ module _ (job cells : List ℕ) (store : List ℤ) (round : wordsOf (jobOf job) 
       (kept (exports.numberOf (d .answer .reply)) [] (d .answer .buffer), (refl, refl, (refl, refl, refl), refl))
   met (points n given buffer) =
       let d = callOn lent (table.points n buffer) in
-      (kept (exports.numberOf (d .answer .reply)) (exports.pointsAfter (d .answer .reply) given) (d .answer .buffer), (refl, refl, refl, (refl, refl, refl)))
+      (kept (exports.numberOf (d .answer .reply)) (exports.answerWords (d .answer .reply) given) (d .answer .buffer), (refl, refl, refl, (refl, refl, refl)))
   met (deliver rs n) =
       let c = table.deliver rs n in
       (written c [] (callOn lent c .area .store), (written-is c (callOn lent c .area .store) refl, refused-job c, refl, refl))
   met (choose given) =
       let d = callOn lent table.choose in
-      (kept (exports.numberOf (d .answer .reply)) (exports.choiceAfter (d .answer .reply) given) [], (refl, refl, (refl, refl, refl), refl))
+      (kept (exports.numberOf (d .answer .reply)) (exports.answerWords (d .answer .reply) given) [], (refl, refl, (refl, refl, refl), refl))
   met (promote p outcome) =
       let c = table.promote p in (
-        written c (exports.outcomeAfter (callOn lent c .answer .reply) outcome) store,
+        written c (exports.answerWords (callOn lent c .answer .reply) outcome) store,
         (written-is c store (call-facts .promote-store lent p (held-well-formed (jobOf job) cells store)), refl, refused-job c, refl, refl),
       )
   met (result given) =
       let d = callOn lent table.result in
-      (kept (exports.numberOf (d .answer .reply)) (exports.countsAfter (d .answer .reply) given) [], (refl, refl, (refl, refl, refl), refl))
+      (kept (exports.numberOf (d .answer .reply)) (exports.answerWords (d .answer .reply) given) [], (refl, refl, (refl, refl, refl), refl))
   met (doubles given) =
       let d = callOn lent table.doubles in
-      (kept (exports.numberOf (d .answer .reply)) (exports.doublesAfter (d .answer .reply) given) [], (refl, refl, (refl, refl, refl), refl))
+      (kept (exports.numberOf (d .answer .reply)) (exports.answerWords (d .answer .reply) given) [], (refl, refl, (refl, refl, refl), refl))
   met (crossTotal given) =
       let d = callOn lent table.crossTotal in
-      (kept (exports.numberOf (d .answer .reply)) (exports.totalAfter (d .answer .reply) given) [], (refl, refl, (refl, refl, refl), refl))
+      (kept (exports.numberOf (d .answer .reply)) (exports.answerWords (d .answer .reply) given) [], (refl, refl, (refl, refl, refl), refl))
   met check = (kept (cond (checked lent) 1 0) [] [], (refl, (refl, refl, refl), refl, refl))
 
 pub contract-facts : ContractFacts

@@ -27,12 +27,12 @@ use Rattle.machine.specs.Means.{crossOf}
 use Rattle.machine.specs.Largest.{largestOf}
 use Rattle.counting.specs.Doubles.{doublesOf}
 use Rattle.calls.specs.Table.{promotionEffect, row, causesOf, effectOf, passesCheck, acceptedAnswer, refusedAnswer, refusal, answerOf, changed, stateAfter}
-use Rattle.wihupya.specs.Exports.{numberOf, doublesAfter}
+use Rattle.wihupya.specs.Exports.{numberOf, reportBits, answerWords}
 use Rattle.history.specs.Logged.{stateOf, logStep, logAfter, answerBy}
 use Rattle.history.specs.OnExports.{callOf, exportAnswer, exportAnswersBy}
 use Rattle.history.specs.Excluded.{fileCalls}
 use Rattle.history.specs.DoublesCases.{logThen, doublesThen, DoublesCases}
 
 pub doubles-cases : DoublesCases
-unfolding toBits logThen doublesThen fileCalls stateOf logStep logAfter answerBy promotionEffect row causesOf effectOf passesCheck acceptedAnswer refusedAnswer refusal answerOf changed stateAfter firstCause short inRange readingsFor readingCount leastStore wanted firstWanted anyWanted activeAt root steps.started steps.deliver steps.promoteStep steps.deliverAt steps.delivered refining.promoteWithin refining.refine refining.makeOld refining.madeOld choice.choose choice.selected choice.firstActive choice.largest choice.isOver choice.isMet refining.fits refining.admittedAxes refining.passing refining.admits refining.backwardOld refining.isOld within levelsWithin excess forward backward allFrom sameLevels reservedBy pendingOf carriedOf atCeiling crossOf grid-cross.crossTotal deliveredOf readingIn readingsOf coefficient sumOf subsets sign raisedOn isIn tensorRule tensorSum units unit sumTo wholeWeight endsOne endsMinusOne newCount behind blockSize inFront lower differenceWeight differenceProduct differenceSum scaledDifference larger largestDifference largestOf doublesOf reportOf double round size span climb smallest odd trailingZeros callOf exportAnswer exportAnswersBy numberOf doublesAfter
+unfolding toBits logThen doublesThen fileCalls stateOf logStep logAfter answerBy promotionEffect row causesOf effectOf passesCheck acceptedAnswer refusedAnswer refusal answerOf changed stateAfter firstCause short inRange readingsFor readingCount leastStore wanted firstWanted anyWanted activeAt root steps.started steps.deliver steps.promoteStep steps.deliverAt steps.delivered refining.promoteWithin refining.refine refining.makeOld refining.madeOld choice.choose choice.selected choice.firstActive choice.largest choice.isOver choice.isMet refining.fits refining.admittedAxes refining.passing refining.admits refining.backwardOld refining.isOld within levelsWithin excess forward backward allFrom sameLevels reservedBy pendingOf carriedOf atCeiling crossOf grid-cross.crossTotal deliveredOf readingIn readingsOf coefficient sumOf subsets sign raisedOn isIn tensorRule tensorSum units unit sumTo wholeWeight endsOne endsMinusOne newCount behind blockSize inFront lower differenceWeight differenceProduct differenceSum scaledDifference larger largestDifference largestOf doublesOf reportOf double round size span climb smallest odd trailingZeros callOf exportAnswer exportAnswersBy numberOf answerWords reportBits
 doubles-cases = record { file = refl; nothing = refl; equal-sizes = refl; negative = refl; altered = refl; while-wanted = refl; lent-doubles = λ given. refl }

@@ -39,7 +39,7 @@ use Rattle.counting.specs.Doubles.{doublesOf}
 use Rattle.calls.specs.Replies.{refused, accepted, chosen, promotion, counts, doubled, total, lengthsOf}
 use Rattle.calls.specs.Table.{point, points, deliver, choose, promote, result, doubles, crossTotal, Answer, answer, promotionEffect, row, causesOf, effectOf, passesCheck, acceptedAnswer, refusedAnswer, refusal, answerOf, changed, stateAfter}
 use Rattle.wihupya.specs.Words.{lowWord, highWord}
-use Rattle.wihupya.specs.Exports.{numberOf, pointsAfter, choiceWords, choiceAfter, outcomeWord, outcomeAfter, countsAfter, totalAfter}
+use Rattle.wihupya.specs.Exports.{numberOf, choiceWords, outcomeWord, countWords, totalWords, answerWords}
 use Rattle.soundness.specs.Clauses.{isSound}
 use Rattle.soundness.proofs.Clauses.{clause-facts}
 use Rattle.writing.specs.ValidArea.{ValidArea}
@@ -177,5 +177,5 @@ excluded =
     }
 
 pub call-cases : CallCases
-unfolding answersAfter axesFit budgetFit readingsFor readingCount leastStore startCauses pointOf pointAfter turned newPoint answersBy answerBy answerOf acceptedAnswer refusedAnswer passesCheck refusal causesOf effectOf row promotionEffect changed stateAfter stateOf logStep fileCalls firstCause short inRange anyWanted activeAt firstWanted wanted root steps.started steps.deliver steps.promoteStep deliverAt delivered refining.promoteWithin refining.refine refining.makeOld refining.madeOld choice.choose choice.selected choice.firstActive choice.largest choice.isOver choice.isMet refining.fits refining.admittedAxes refining.passing refining.admits refining.backwardOld refining.isOld within levelsWithin excess forward backward allFrom sameLevels countsOf countOf cappedAxes atCeiling ceilingCount reservedBy pendingOf carriedOf crossOf grid-cross.crossTotal deliveredOf readingIn readingsOf coefficient sumOf subsets sign raisedOn isIn tensorRule tensorSum units unit sumTo wholeWeight endsOne newCount behind blockSize pointsFitting positionsOf writtenOver block blockAfter rows directed newPoints callOf verdictNumber exportAnswer exportAnswersBy fileExports lowWord highWord numberOf pointsAfter choiceWords choiceAfter outcomeWord outcomeAfter countsAfter totalAfter pair
+unfolding answersAfter axesFit budgetFit readingsFor readingCount leastStore startCauses pointOf pointAfter turned newPoint answersBy answerBy answerOf acceptedAnswer refusedAnswer passesCheck refusal causesOf effectOf row promotionEffect changed stateAfter stateOf logStep fileCalls firstCause short inRange anyWanted activeAt firstWanted wanted root steps.started steps.deliver steps.promoteStep deliverAt delivered refining.promoteWithin refining.refine refining.makeOld refining.madeOld choice.choose choice.selected choice.firstActive choice.largest choice.isOver choice.isMet refining.fits refining.admittedAxes refining.passing refining.admits refining.backwardOld refining.isOld within levelsWithin excess forward backward allFrom sameLevels countsOf countOf cappedAxes atCeiling ceilingCount reservedBy pendingOf carriedOf crossOf grid-cross.crossTotal deliveredOf readingIn readingsOf coefficient sumOf subsets sign raisedOn isIn tensorRule tensorSum units unit sumTo wholeWeight endsOne newCount behind blockSize pointsFitting positionsOf writtenOver block blockAfter rows directed newPoints callOf verdictNumber exportAnswer exportAnswersBy fileExports lowWord highWord numberOf answerWords choiceWords outcomeWord countWords totalWords pair
 call-cases = record { capped-word = refl; met-carried = refl; capped-together = refl; met-together = refl; large-carried = refl; large-pending = refl; number-returned = λ n. refl; between = refl; many-points = refl; mean-zero = refl; threshold-equal = refl; budget-four = refl; budget-five = refl; met-and-spent = refl; root-wanted = refl; any-place = refl; file = refl; start-order = refl; wanted-order = refl; delivered-order = refl; file-words = refl; other-words = refl; ceiling-axes = (refl, refl, refl) }

@@ -31,7 +31,7 @@ use Rattle.calls.specs.Calls.{CallResult, refusalOn, callOn}
 use Rattle.calls.proofs.Facts.{looks-only}
 use Rattle.calls.proofs.CauseCases.{call-ways, refused-reply}
 use Rattle.wihupya.specs.Words.{jobOf, lowWord, highWord, wordsOf}
-use Rattle.wihupya.specs.Exports.{numberOf, countsAfter, totalAfter, doublesAfter}
+use Rattle.wihupya.specs.Exports.{numberOf, countWords, reportBits, totalWords, answerWords}
 use Rattle.wihupya.proofs.Facts.{both}
 use Rattle.wihupya.proofs.Refusals.{refused-number}
 use Rattle.history.specs.LentCalls.{Part, lengthsLent}
@@ -184,20 +184,20 @@ module _ (w : ExportStorage) (m : Machine) (h : Hand w m) where
   two-words = ap (toZ w64) (both (ofZ w64 (crossOf (l .entries)))) ∙ mean-back
 
   module _ (x : Part) (given : List ℕ) (lent : Lent (readStorage w) x) (long : 512 * 27 ≤ x .cells) (room : leastStore (l .settings) ≤ x .readings) where
-    result-words : exported w (record { call = result given; part = x }) .words ≡ countsAfter (counts (countsOf (stateOf l))) given
+    result-words : exported w (record { call = result given; part = x }) .words ≡ answerWords (counts (countsOf (stateOf l))) given
     unfolding exported exportAnswer callOf callIn
-    result-words = ap (λ (y : Answer). countsAfter (y .reply) given) (there .result x lent long room)
+    result-words = ap (λ (y : Answer). answerWords (y .reply) given) (there .result x lent long room)
 
-    result-signed : signedAt (countsAfter (counts (countsOf (stateOf l))) given) 2 ≡ crossOf (l .entries)
-    unfolding countsAfter countsOf stateOf
+    result-signed : signedAt (answerWords (counts (countsOf (stateOf l))) given) 2 ≡ crossOf (l .entries)
+    unfolding answerWords countWords countsOf stateOf
     result-signed = two-words
 
-    cross-words : exported w (record { call = crossTotal given; part = x }) .words ≡ totalAfter (total (crossOf (l .entries))) given
+    cross-words : exported w (record { call = crossTotal given; part = x }) .words ≡ answerWords (total (crossOf (l .entries))) given
     unfolding exported exportAnswer callOf callIn
-    cross-words = ap (λ (y : Answer). totalAfter (y .reply) given) (there .cross x lent long room)
+    cross-words = ap (λ (y : Answer). answerWords (y .reply) given) (there .cross x lent long room)
 
-    cross-signed : signedAt (totalAfter (total (crossOf (l .entries))) given) 0 ≡ crossOf (l .entries)
-    unfolding totalAfter
+    cross-signed : signedAt (answerWords (total (crossOf (l .entries))) given) 0 ≡ crossOf (l .entries)
+    unfolding answerWords totalWords
     cross-signed = two-words
 
     result-mean : signedAt (exported w (record { call = result given; part = x }) .words) 2 ≡ crossOf (l .entries)
@@ -208,7 +208,7 @@ module _ (w : ExportStorage) (m : Machine) (h : Hand w m) where
 
   doubles-report : (x : Part) (given : List ℕ) → Lent (readStorage w) x → 512 * 27 ≤ x .cells → leastStore (l .settings) ≤ x .readings
       → exported w (record { call = doubles given; part = x }) ≡ reported (doublesOf (stateOf l))
-  unfolding exported exportAnswer callOf callIn numberOf doublesAfter
+  unfolding exported exportAnswer callOf callIn numberOf answerWords reportBits
   doubles-report x given lent long room = ap (exportAnswer (doubles given)) (there .doubles x lent long room)
 
   lent-wholly : Lent (readStorage w) (wholePart w)

@@ -28,7 +28,7 @@ use Rattle.calls.specs.Table.{Call, Answer, answer}
 use Rattle.calls.specs.Calls.{callOn}
 use Rattle.wihupya.specs.Words.{word, wide, jobOf, wordsOf}
 use Rattle.wihupya.specs.Exports as exports
-use Rattle.wihupya.specs.Exports.{bits, numberOf, pointsAfter, choiceAfter, outcomeAfter, countsAfter, totalAfter, doublesAfter}
+use Rattle.wihupya.specs.Exports.{bits, numberOf, answerWords}
 use Rattle.history.specs.LentCalls.{Part, LentCall, lengthsLent}
 use Rattle.history.specs.Logged.{stateOf, logStep, logAfter, answerBy}
 use Rattle.history.specs.Storage.{Storage, Lent, callIn, storageStep}
@@ -127,13 +127,13 @@ verdictNumber (verdict b) = cond b 1 0
 unfoldable pub exportAnswer : ExportCall → Answer → ExportAnswer
 exportAnswer (start axes threshold budget) y = record { number = numberOf (y .reply); words = []; buffer = [] }
 exportAnswer (point n buffer) y = record { number = numberOf (y .reply); words = []; buffer = y .buffer }
-exportAnswer (points n given buffer) y = record { number = numberOf (y .reply); words = pointsAfter (y .reply) given; buffer = y .buffer }
+exportAnswer (points n given buffer) y = record { number = numberOf (y .reply); words = answerWords (y .reply) given; buffer = y .buffer }
 exportAnswer (deliver rs i) y = record { number = numberOf (y .reply); words = []; buffer = [] }
-exportAnswer (choose given) y = record { number = numberOf (y .reply); words = choiceAfter (y .reply) given; buffer = [] }
-exportAnswer (promote p outcome) y = record { number = numberOf (y .reply); words = outcomeAfter (y .reply) outcome; buffer = [] }
-exportAnswer (result given) y = record { number = numberOf (y .reply); words = countsAfter (y .reply) given; buffer = [] }
-exportAnswer (doubles given) y = record { number = numberOf (y .reply); words = doublesAfter (y .reply) given; buffer = [] }
-exportAnswer (crossTotal given) y = record { number = numberOf (y .reply); words = totalAfter (y .reply) given; buffer = [] }
+exportAnswer (choose given) y = record { number = numberOf (y .reply); words = answerWords (y .reply) given; buffer = [] }
+exportAnswer (promote p outcome) y = record { number = numberOf (y .reply); words = answerWords (y .reply) outcome; buffer = [] }
+exportAnswer (result given) y = record { number = numberOf (y .reply); words = answerWords (y .reply) given; buffer = [] }
+exportAnswer (doubles given) y = record { number = numberOf (y .reply); words = answerWords (y .reply) given; buffer = [] }
+exportAnswer (crossTotal given) y = record { number = numberOf (y .reply); words = answerWords (y .reply) given; buffer = [] }
 exportAnswer check y = record { number = verdictNumber (y .reply); words = []; buffer = [] }
 
 unfoldable pub exported : ExportStorage → LentExport → ExportAnswer
@@ -209,7 +209,7 @@ Contract job cells store (point n buffer) y =
     × (y .words ≡ [])
 Contract job cells store (points n given buffer) y =
     (y .number ≡ numberOf (callOn (areaOf (jobOf job) cells store) (table.points n buffer) .answer .reply))
-    × (y .words ≡ pointsAfter (callOn (areaOf (jobOf job) cells store) (table.points n buffer) .answer .reply) given)
+    × (y .words ≡ answerWords (callOn (areaOf (jobOf job) cells store) (table.points n buffer) .answer .reply) given)
     × (y .buffer ≡ callOn (areaOf (jobOf job) cells store) (table.points n buffer) .answer .buffer)
     × OnlyReads job cells store y
 Contract job cells store (deliver rs i) y =
@@ -220,29 +220,29 @@ Contract job cells store (deliver rs i) y =
     × (y .buffer ≡ [])
 Contract job cells store (choose given) y =
     (y .number ≡ numberOf (callOn (areaOf (jobOf job) cells store) table.choose .answer .reply))
-    × (y .words ≡ choiceAfter (callOn (areaOf (jobOf job) cells store) table.choose .answer .reply) given)
+    × (y .words ≡ answerWords (callOn (areaOf (jobOf job) cells store) table.choose .answer .reply) given)
     × OnlyReads job cells store y
     × (y .buffer ≡ [])
 Contract job cells store (promote p outcome) y =
     (record { number = y .number; job = y .job; run = runOf (y .cells); store = store }
     ≡ exports.exported (callOn (areaOf (jobOf job) cells store) (table.promote p)))
-    × (y .words ≡ outcomeAfter (callOn (areaOf (jobOf job) cells store) (table.promote p) .answer .reply) outcome)
+    × (y .words ≡ answerWords (callOn (areaOf (jobOf job) cells store) (table.promote p) .answer .reply) outcome)
     × ((y .number ≡ 0 → ⊥) → y .job ≡ job)
     × (y .store ≡ store)
     × (y .buffer ≡ [])
 Contract job cells store (result given) y =
     (y .number ≡ numberOf (callOn (areaOf (jobOf job) cells store) table.result .answer .reply))
-    × (y .words ≡ countsAfter (callOn (areaOf (jobOf job) cells store) table.result .answer .reply) given)
+    × (y .words ≡ answerWords (callOn (areaOf (jobOf job) cells store) table.result .answer .reply) given)
     × OnlyReads job cells store y
     × (y .buffer ≡ [])
 Contract job cells store (doubles given) y =
     (y .number ≡ numberOf (callOn (areaOf (jobOf job) cells store) table.doubles .answer .reply))
-    × (y .words ≡ doublesAfter (callOn (areaOf (jobOf job) cells store) table.doubles .answer .reply) given)
+    × (y .words ≡ answerWords (callOn (areaOf (jobOf job) cells store) table.doubles .answer .reply) given)
     × OnlyReads job cells store y
     × (y .buffer ≡ [])
 Contract job cells store (crossTotal given) y =
     (y .number ≡ numberOf (callOn (areaOf (jobOf job) cells store) table.crossTotal .answer .reply))
-    × (y .words ≡ totalAfter (callOn (areaOf (jobOf job) cells store) table.crossTotal .answer .reply) given)
+    × (y .words ≡ answerWords (callOn (areaOf (jobOf job) cells store) table.crossTotal .answer .reply) given)
     × OnlyReads job cells store y
     × (y .buffer ≡ [])
 Contract job cells store check y =

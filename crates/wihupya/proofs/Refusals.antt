@@ -13,7 +13,7 @@ use Rattle.calls.specs.Table.{Call}
 use Rattle.calls.specs.Calls.{CallResult, callOn, callResultOf}
 use Rattle.calls.proofs.Facts.{call-facts}
 use Rattle.wihupya.specs.Words.{jobOf, wordsOf}
-use Rattle.wihupya.specs.Exports.{numberOf, outcomeAfter}
+use Rattle.wihupya.specs.Exports.{numberOf, answerWords}
 
 module _ (w : List ℕ) (cells : List ℕ) (store : List ℤ) (c : Call) (r : CallOutput) (cells′ : List ℕ) (store′ : List ℤ) (number : ℕ)
     (is : callResultOf r cells′ store′ ≡ callOn (areaOf (jobOf w) cells store) c) (number-is : number ≡ numberOf (replyOf (r .answer))) (refusing : number ≡ 0 → ⊥) (round : wordsOf (jobOf w) ≡ w) where
@@ -33,8 +33,8 @@ module _ (w : List ℕ) (cells : List ℕ) (store : List ℤ) (c : Call) (r : Ca
   pub refused-words : w ≡ wordsOf (r .job)
   refused-words = by-answer (r .answer) refl
 
-pub refused-outcome : (q : code.Answer) (number : ℕ) (w : List ℕ) → number ≡ numberOf (replyOf q) → (number ≡ 0 → ⊥) → w ≡ outcomeAfter (replyOf q) w
-unfolding replyOf numberOf outcomeAfter
+pub refused-outcome : (q : code.Answer) (number : ℕ) (w : List ℕ) → number ≡ numberOf (replyOf q) → (number ≡ 0 → ⊥) → w ≡ answerWords (replyOf q) w
+unfolding replyOf numberOf answerWords
 refused-outcome (answers.Refused n) number w e f = refl
 refused-outcome answers.Accepted number w e f = refl
 refused-outcome answers.Spent number w e f = absurd (f e)

@@ -12,11 +12,11 @@ ghost use Rattle.soundness.specs.Clauses.{checked};
 ghost use Rattle.area.specs.Records.{runOf};
 ghost use Rattle.doubles.specs.Exact.{NoneNan};
 ghost use Rattle.counting.specs.Answer.{countsIn};
-ghost use Rattle.calls.specs.Replies.{wrote, counts as countsReply, doubled as doubledReply, total as totalReply, replyOf};
+ghost use Rattle.calls.specs.Replies.{replyOf};
 ghost use Rattle.calls.specs.Table.{start, point, points, deliver, choose, promote, result, doubles, crossTotal};
 ghost use Rattle.calls.specs.Calls.{callOn};
 ghost use Rattle.wihupya.specs.Words.{jobOf, lowWord, highWord, wordsOf};
-ghost use Rattle.wihupya.specs.Exports.{numberOf, exported, pointsAfter, choiceAfter, outcomeAfter, countsAfter, totalAfter, doublesAfter};
+ghost use Rattle.wihupya.specs.Exports.{numberOf, exported, countWords, reportBits, totalWords, answerWords};
 
 // Two words as a 64-bit number.
 fn wide(low: u32, high: u32) -> u64
@@ -92,20 +92,20 @@ fn words_of(job: area::JobRecord) -> [u32; 12]
     ensures { λ r. ⌜ r ≡ wordsOf job ⌝ }
 {
     let mean = bits_of(job.mean);
-    let mut words = [0u32; 12];
-    words[0] = low_word(job.settings.threshold);
-    words[1] = high_word(job.settings.threshold);
-    words[2] = low_word(job.pending);
-    words[3] = high_word(job.pending);
-    words[4] = low_word(mean);
-    words[5] = high_word(mean);
-    words[6] = job.settings.axes;
-    words[7] = job.settings.budget;
-    words[8] = job.held;
-    words[9] = job.reserved;
-    words[10] = low_word(job.carried);
-    words[11] = high_word(job.carried);
-    words
+    [
+        low_word(job.settings.threshold),
+        high_word(job.settings.threshold),
+        low_word(job.pending),
+        high_word(job.pending),
+        low_word(mean),
+        high_word(mean),
+        job.settings.axes,
+        job.settings.budget,
+        job.held,
+        job.reserved,
+        low_word(job.carried),
+        high_word(job.carried),
+    ]
 }
 
 // The number of an answer.
@@ -122,77 +122,53 @@ fn number_of(answer: calls::Answer) -> u32
 
 // The outcome of a promotion as a word; another answer leaves the word.
 fn outcome_word(answer: calls::Answer, before: [u32; 1]) -> [u32; 1]
-    ensures { λ r. ⌜ r ≡ outcomeAfter (replyOf answer) before ⌝ }
+    ensures { λ r. ⌜ r ≡ answerWords (replyOf answer) before ⌝ }
 {
     match answer {
         calls::Answer::Refused(_) => before,
         calls::Answer::Accepted => before,
-        calls::Answer::Spent => [1u32; 1],
-        calls::Answer::Promoted => [2u32; 1],
+        calls::Answer::Spent => [1],
+        calls::Answer::Promoted => [2],
     }
-}
-
-// A choice as two words: its number, and the place.
-fn choice_words(number: u32, place: u32) -> [u32; 2]
-    ensures { λ r. ⌜ r ≡ number ∷ place ∷ [] ⌝ }
-{
-    let mut words = [0u32; 2];
-    words[0] = number;
-    words[1] = place;
-    words
-}
-
-// How many points were written and how many the block has, as two words.
-fn point_words(counts: delivery::PointCounts) -> [u32; 2]
-    ensures { λ r. ⌜ r ≡ pointsAfter (wrote (counts .written) (counts .size)) [] ⌝ }
-{
-    let mut words = [0u32; 2];
-    words[0] = counts.written;
-    words[1] = counts.size;
-    words
 }
 
 // Counts as eleven words.
 fn count_words(counts: counting::Counts) -> [u32; 11]
-    ensures { λ r. ⌜ r ≡ countsAfter (countsReply (countsIn counts)) [] ⌝ }
+    ensures { λ r. ⌜ r ≡ countWords (countsIn counts) ⌝ }
 {
     let mean = bits_of(counts.mean);
-    let mut words = [0u32; 11];
-    words[0] = low_word(counts.pending);
-    words[1] = high_word(counts.pending);
-    words[2] = low_word(mean);
-    words[3] = high_word(mean);
-    words[4] = counts.old;
-    words[5] = counts.active;
-    words[6] = counts.wanted;
-    words[7] = counts.reserved;
-    words[8] = counts.ceiling;
-    words[9] = low_word(counts.carried);
-    words[10] = high_word(counts.carried);
-    words
+    [
+        low_word(counts.pending),
+        high_word(counts.pending),
+        low_word(mean),
+        high_word(mean),
+        counts.old,
+        counts.active,
+        counts.wanted,
+        counts.reserved,
+        counts.ceiling,
+        low_word(counts.carried),
+        high_word(counts.carried),
+    ]
 }
 
 // A report as three doubles, by their bits.
 fn report_bits(found: doubles::Report) -> [u64; 3]
     requires { ⌜ NoneNan found ⌝ }
-    ensures { λ r. ⌜ r ≡ doublesAfter (doubledReply found) [] ⌝ }
+    ensures { λ r. ⌜ r ≡ reportBits found ⌝ }
 {
-    let mut report = [0u64; 3];
-    report[0] = f64::to_bits(found.mean);
-    report[1] = f64::to_bits(found.pending);
-    report[2] = f64::to_bits(found.largest);
-    report
+    let mean = f64::to_bits(found.mean);
+    let pending = f64::to_bits(found.pending);
+    let largest = f64::to_bits(found.largest);
+    [mean, pending, largest]
 }
 
 // A total as two words.
 fn total_words(total: i64) -> [u32; 2]
-    ensures { λ r. ⌜ r ≡ totalAfter (totalReply total) [] ⌝ }
+    ensures { λ r. ⌜ r ≡ totalWords total ⌝ }
 {
     let bits = bits_of(total);
-    let mut words = [0u32; 2];
-    words[0] = low_word(bits);
-    words[1] = high_word(bits);
-    words
+    [low_word(bits), high_word(bits)]
 }
 
 // Whether the area is sound and lies in storage that is long enough.
@@ -257,13 +233,13 @@ pub extern "C" fn wihupya_points(
     store: &[i32],
     buffer: &mut [u8],
 ) -> u32
-    ensures { λ r. ⌜ (r ≡ numberOf (callOn (areaOf (jobOf (now (job .entry))) (now (cells .entry)) (now (store .entry))) (points n (now (buffer .entry))) .answer .reply)) × (now (counts .exit) ≡ pointsAfter (callOn (areaOf (jobOf (now (job .entry))) (now (cells .entry)) (now (store .entry))) (points n (now (buffer .entry))) .answer .reply) (now (counts .entry))) × (now (buffer .exit) ≡ callOn (areaOf (jobOf (now (job .entry))) (now (cells .entry)) (now (store .entry))) (points n (now (buffer .entry))) .answer .buffer) ⌝ }
+    ensures { λ r. ⌜ (r ≡ numberOf (callOn (areaOf (jobOf (now (job .entry))) (now (cells .entry)) (now (store .entry))) (points n (now (buffer .entry))) .answer .reply)) × (now (counts .exit) ≡ answerWords (callOn (areaOf (jobOf (now (job .entry))) (now (cells .entry)) (now (store .entry))) (points n (now (buffer .entry))) .answer .reply) (now (counts .entry))) × (now (buffer .exit) ≡ callOn (areaOf (jobOf (now (job .entry))) (now (cells .entry)) (now (store .entry))) (points n (now (buffer .entry))) .answer .buffer) ⌝ }
 {
     let answered = calls::points(job_of(job), n, cells, store, buffer);
     match answered {
         calls::PointsAnswer::Refused(number) => number,
         calls::PointsAnswer::Wrote(found) => {
-            *counts = point_words(found);
+            *counts = [found.written, found.size];
             0
         }
     }
@@ -301,21 +277,22 @@ pub extern "C" fn wihupya_choose(
     cells: &[u32],
     store: &[i32],
 ) -> u32
-    ensures { λ r. ⌜ (r ≡ numberOf (callOn (areaOf (jobOf (now (job .entry))) (now (cells .entry)) (now (store .entry))) choose .answer .reply)) × (now (choice .exit) ≡ choiceAfter (callOn (areaOf (jobOf (now (job .entry))) (now (cells .entry)) (now (store .entry))) choose .answer .reply) (now (choice .entry))) ⌝ }
+    ensures { λ r. ⌜ (r ≡ numberOf (callOn (areaOf (jobOf (now (job .entry))) (now (cells .entry)) (now (store .entry))) choose .answer .reply)) × (now (choice .exit) ≡ answerWords (callOn (areaOf (jobOf (now (job .entry))) (now (cells .entry)) (now (store .entry))) choose .answer .reply) (now (choice .entry))) ⌝ }
 {
     let answered = calls::choose(job_of(job), cells, store);
     match answered {
         calls::ChooseAnswer::Refused(number) => number,
         calls::ChooseAnswer::Met => {
-            *choice = choice_words(0, 0);
+            *choice = [0, 0];
             0
         }
         calls::ChooseAnswer::Capped => {
-            *choice = choice_words(3, 0);
+            *choice = [3, 0];
             0
         }
         calls::ChooseAnswer::Chosen(place) => {
-            *choice = choice_words(4, place as u32);
+            let chosen = place as u32;
+            *choice = [4, chosen];
             0
         }
     }
@@ -331,7 +308,7 @@ pub extern "C" fn wihupya_promote(
     store: &[i32],
 ) -> u32
     ensures is { λ r. ⌜ record { number = r; job = now (job .exit); run = runOf (now (cells .exit)); store = now (store .entry) } ≡ exported (callOn (areaOf (jobOf (now (job .entry))) (now (cells .entry)) (now (store .entry))) (promote place)) ⌝ }
-    ensures outcome { λ r. ⌜ now (outcome .exit) ≡ outcomeAfter (callOn (areaOf (jobOf (now (job .entry))) (now (cells .entry)) (now (store .entry))) (promote place) .answer .reply) (now (outcome .entry)) ⌝ }
+    ensures outcome { λ r. ⌜ now (outcome .exit) ≡ answerWords (callOn (areaOf (jobOf (now (job .entry))) (now (cells .entry)) (now (store .entry))) (promote place) .answer .reply) (now (outcome .entry)) ⌝ }
     ensures refused { λ r. ⌜ ((r ≡ 0 → ⊥) → now (job .exit) ≡ now (job .entry)) ⌝ }
 {
     let before = *job;
@@ -356,7 +333,7 @@ pub extern "C" fn wihupya_result(
     cells: &[u32],
     store: &[i32],
 ) -> u32
-    ensures { λ r. ⌜ (r ≡ numberOf (callOn (areaOf (jobOf (now (job .entry))) (now (cells .entry)) (now (store .entry))) result .answer .reply)) × (now (counts .exit) ≡ countsAfter (callOn (areaOf (jobOf (now (job .entry))) (now (cells .entry)) (now (store .entry))) result .answer .reply) (now (counts .entry))) ⌝ }
+    ensures { λ r. ⌜ (r ≡ numberOf (callOn (areaOf (jobOf (now (job .entry))) (now (cells .entry)) (now (store .entry))) result .answer .reply)) × (now (counts .exit) ≡ answerWords (callOn (areaOf (jobOf (now (job .entry))) (now (cells .entry)) (now (store .entry))) result .answer .reply) (now (counts .entry))) ⌝ }
 {
     let resulted = calls::result(job_of(job), cells, store);
     match resulted {
@@ -377,7 +354,7 @@ pub extern "C" fn wihupya_doubles(
     cells: &[u32],
     store: &[i32],
 ) -> u32
-    ensures { λ r. ⌜ (r ≡ numberOf (callOn (areaOf (jobOf (now (job .entry))) (now (cells .entry)) (now (store .entry))) doubles .answer .reply)) × (now (report .exit) ≡ doublesAfter (callOn (areaOf (jobOf (now (job .entry))) (now (cells .entry)) (now (store .entry))) doubles .answer .reply) (now (report .entry))) ⌝ }
+    ensures { λ r. ⌜ (r ≡ numberOf (callOn (areaOf (jobOf (now (job .entry))) (now (cells .entry)) (now (store .entry))) doubles .answer .reply)) × (now (report .exit) ≡ answerWords (callOn (areaOf (jobOf (now (job .entry))) (now (cells .entry)) (now (store .entry))) doubles .answer .reply) (now (report .entry))) ⌝ }
 {
     let doubled = calls::doubles(job_of(job), cells, store);
     match doubled {
@@ -397,7 +374,7 @@ pub extern "C" fn wihupya_cross_total(
     cells: &[u32],
     store: &[i32],
 ) -> u32
-    ensures { λ r. ⌜ (r ≡ numberOf (callOn (areaOf (jobOf (now (job .entry))) (now (cells .entry)) (now (store .entry))) crossTotal .answer .reply)) × (now (total .exit) ≡ totalAfter (callOn (areaOf (jobOf (now (job .entry))) (now (cells .entry)) (now (store .entry))) crossTotal .answer .reply) (now (total .entry))) ⌝ }
+    ensures { λ r. ⌜ (r ≡ numberOf (callOn (areaOf (jobOf (now (job .entry))) (now (cells .entry)) (now (store .entry))) crossTotal .answer .reply)) × (now (total .exit) ≡ answerWords (callOn (areaOf (jobOf (now (job .entry))) (now (cells .entry)) (now (store .entry))) crossTotal .answer .reply) (now (total .entry))) ⌝ }
 {
     let totalled = calls::cross_total(job_of(job), cells, store);
     match totalled {

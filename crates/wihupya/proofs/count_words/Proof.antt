@@ -6,7 +6,7 @@ use mir.Syntax.{w64}
 use mir.Val.{ofZ}
 use Rattle.sums.proofs.Words.{back}
 use Rattle.wihupya.specs.Words.{lowWord, highWord}
-use Rattle.wihupya.specs.Exports.{countsAfter}
+use Rattle.wihupya.specs.Exports.{countWords}
 use borrow.Author.Needs.{needs, sfits-of}
 use Rattle.counting.specs.Answer.{countsIn}
 use Rattle.wihupya.proofs.count_words.Statement.{statement}
@@ -18,56 +18,23 @@ bits-of-requires c κs = search needs
 low-word-requires : tie.Need-low-word-requires
 low-word-requires c κs = search needs
 
-array-write-words : tie.Need-array-write-words
-array-write-words c = search needs
-
 high-word-requires : tie.Need-high-word-requires
 high-word-requires c κs = search needs
-
-array-write-words-2 : tie.Need-array-write-words-2
-array-write-words-2 c = search needs
 
 low-word-requires-2 : tie.Need-low-word-requires-2
 low-word-requires-2 c κs = search needs
 
-array-write-words-3 : tie.Need-array-write-words-3
-array-write-words-3 c = search needs
-
 high-word-requires-2 : tie.Need-high-word-requires-2
 high-word-requires-2 c κs = search needs
-
-array-write-words-4 : tie.Need-array-write-words-4
-array-write-words-4 c = search needs
-
-array-write-words-5 : tie.Need-array-write-words-5
-array-write-words-5 c = search needs
-
-array-write-words-6 : tie.Need-array-write-words-6
-array-write-words-6 c = search needs
-
-array-write-words-7 : tie.Need-array-write-words-7
-array-write-words-7 c = search needs
-
-array-write-words-8 : tie.Need-array-write-words-8
-array-write-words-8 c = search needs
-
-array-write-words-9 : tie.Need-array-write-words-9
-array-write-words-9 c = search needs
 
 low-word-requires-3 : tie.Need-low-word-requires-3
 low-word-requires-3 c κs = search needs
 
-array-write-words-10 : tie.Need-array-write-words-10
-array-write-words-10 c = search needs
-
 high-word-requires-3 : tie.Need-high-word-requires-3
 high-word-requires-3 c κs = search needs
 
-array-write-words-11 : tie.Need-array-write-words-11
-array-write-words-11 c = search needs
-
 returns : tie.Need-returns
-unfolding countsAfter countsIn
+unfolding countWords countsIn
 returns c =
     let s = c .before .before .before .before .before .before .before .before in
     let n = s .args .counts in
@@ -80,20 +47,9 @@ count-words-spec =
     (tie.spec
     bits-of-requires
     low-word-requires
-    array-write-words
     high-word-requires
-    array-write-words-2
     low-word-requires-2
-    array-write-words-3
     high-word-requires-2
-    array-write-words-4
-    array-write-words-5
-    array-write-words-6
-    array-write-words-7
-    array-write-words-8
-    array-write-words-9
     low-word-requires-3
-    array-write-words-10
     high-word-requires-3
-    array-write-words-11
     returns)

@@ -5,7 +5,7 @@ use mir.Syntax.{w64}
 use mir.Val.{ofZ}
 use Rattle.sums.proofs.Words.{back}
 use Rattle.wihupya.specs.Words.{lowWord, highWord}
-use Rattle.wihupya.specs.Exports.{totalAfter}
+use Rattle.wihupya.specs.Exports.{totalWords}
 use borrow.Author.Needs.{needs}
 use Rattle.wihupya.proofs.total_words.Statement.{statement}
 use Rattle.wihupya.proofs.total_words.Tie as tie
@@ -16,17 +16,11 @@ bits-of-requires c κs = search needs
 low-word-requires : tie.Need-low-word-requires
 low-word-requires c κs = search needs
 
-array-write-words : tie.Need-array-write-words
-array-write-words c = search needs
-
 high-word-requires : tie.Need-high-word-requires
 high-word-requires c κs = search needs
 
-array-write-words-2 : tie.Need-array-write-words-2
-array-write-words-2 c = search needs
-
 returns : tie.Need-returns
-unfolding totalAfter
+unfolding totalWords
 returns c =
     let s = c .before .before .before in
     let bits = c .before .before .bits-of .ensures ∙ ap (ofZ w64) (back (s .args .total) (s .fits .total)) in
@@ -38,7 +32,5 @@ total-words-spec =
     (tie.spec
     bits-of-requires
     low-word-requires
-    array-write-words
     high-word-requires
-    array-write-words-2
     returns)

@@ -9,7 +9,7 @@ use lib.IntN.{ℤ}
 use Rattle.calls.specs.declared.ChooseAnswer.{ChooseAnswer}
 use Rattle.calls.specs.Replies.{replyOfChoose}
 use Rattle.wihupya.specs.Words.{jobOf}
-use Rattle.wihupya.specs.Exports.{numberOf, choiceWords, choiceAfter}
+use Rattle.wihupya.specs.Exports.{numberOf, choiceWords, answerWords}
 use Rattle.area.specs.declared.JobRecord.{JobRecord}
 use Rattle.area.specs.Encoding.{areaOf}
 use Rattle.calls.specs.Table as table
@@ -38,66 +38,57 @@ enum-known-answered c = search needs
 enum-told : tie.Need-enum-told
 enum-told c = search needs
 
-choice-words-requires : tie.Need-choice-words-requires
-choice-words-requires c κs = search needs
-
 enum-told-2 : tie.Need-enum-told-2
 enum-told-2 c = search needs
-
-choice-words-requires-2 : tie.Need-choice-words-requires-2
-choice-words-requires-2 c κs = search needs
 
 enum-known-answered-2 : tie.Need-enum-known-answered-2
 enum-known-answered-2 c = search needs
 
 -- the place that is chosen is one of 512
-cast-choice-words : tie.Need-cast-choice-words
+cast-chosen : tie.Need-cast-chosen
 unfolding replyOfChoose
-cast-choice-words c =
+cast-chosen c =
     let s = c .before .before .before .before .before .before in
     let p = c .before .answered2 .given in
     let is = ap replyOfChoose (sym (p .1)) ∙ ap (λ (x : table.Answer). x .reply) (c .before .before .before .choose .ensures) in
     let small = call-facts .place-active (areaOf (c .before .before .before .before .job-of .result) (now (s .args .cells)) (now (s .args .store))) (p .0 .0) (sym is) .2 in
     record { fits = omega (arith, small) }
 
-choice-words-requires-3 : tie.Need-choice-words-requires-3
-choice-words-requires-3 c κs = search needs
-
 returns : tie.Need-returns
-unfolding replyOfChoose numberOf choiceAfter
+unfolding replyOfChoose numberOf answerWords
 returns c =
     let s = c .before .before .before .before .before .before in
     let f = c .before .before .before .choose in
     let j = c .before .before .before .before .job-of in
     let is = said (now (s .args .job)) (now (s .args .cells)) (now (s .args .store)) (j .result) (f .result) _ (j .ensures) (f .ensures) (c .before .answered .given .1) in
-    (ap numberOf is, ap (λ x. choiceAfter x (now (s .args .choice))) is)
+    (ap numberOf is, ap (λ x. answerWords x (now (s .args .choice))) is)
 
 returns-2 : tie.Need-returns-2
-unfolding replyOfChoose numberOf choiceWords choiceAfter
+unfolding replyOfChoose numberOf choiceWords answerWords
 returns-2 c =
     let s = c .before .before .before .before .before .before in
     let f = c .before .before .before .choose in
     let j = c .before .before .before .before .job-of in
     let is = said (now (s .args .job)) (now (s .args .cells)) (now (s .args .store)) (j .result) (f .result) _ (j .ensures) (f .ensures) (c .before .enum-told .given .1) in
-    (ap numberOf is, c .choice-words .ensures ∙ ap (λ x. choiceAfter x (now (s .args .choice))) is)
+    (ap numberOf is, ap (λ x. answerWords x (now (s .args .choice))) is)
 
 returns-3 : tie.Need-returns-3
-unfolding replyOfChoose numberOf choiceWords choiceAfter
+unfolding replyOfChoose numberOf choiceWords answerWords
 returns-3 c =
     let s = c .before .before .before .before .before .before in
     let f = c .before .before .before .choose in
     let j = c .before .before .before .before .job-of in
     let is = said (now (s .args .job)) (now (s .args .cells)) (now (s .args .store)) (j .result) (f .result) _ (j .ensures) (f .ensures) (c .before .enum-told2 .given .1) in
-    (ap numberOf is, c .choice-words2 .ensures ∙ ap (λ x. choiceAfter x (now (s .args .choice))) is)
+    (ap numberOf is, ap (λ x. answerWords x (now (s .args .choice))) is)
 
 returns-4 : tie.Need-returns-4
-unfolding replyOfChoose numberOf choiceWords choiceAfter
+unfolding replyOfChoose numberOf choiceWords answerWords
 returns-4 c =
     let s = c .before .before .before .before .before .before .before in
     let f = c .before .before .before .before .choose in
     let j = c .before .before .before .before .before .job-of in
     let is = said (now (s .args .job)) (now (s .args .cells)) (now (s .args .store)) (j .result) (f .result) _ (j .ensures) (f .ensures) (c .before .before .answered2 .given .1) in
-    (ap numberOf is, c .choice-words3 .ensures ∙ ap (λ x. choiceAfter x (now (s .args .choice))) is)
+    (ap numberOf is, ap (λ x. answerWords x (now (s .args .choice))) is)
 
 pub wihupya-choose-spec : {M : Type 1} → statement M
 wihupya-choose-spec =
@@ -107,12 +98,9 @@ wihupya-choose-spec =
     choose-requires
     enum-known-answered
     enum-told
-    choice-words-requires
     enum-told-2
-    choice-words-requires-2
     enum-known-answered-2
-    cast-choice-words
-    choice-words-requires-3
+    cast-chosen
     returns
     returns-2
     returns-3

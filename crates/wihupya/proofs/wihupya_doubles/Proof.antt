@@ -4,7 +4,7 @@ use mathlib.Core.Path.{sym, ap, _∙_}
 use denote.Ref.{now}
 use Rattle.calls.specs.Replies.{replyOfDoubles}
 use Rattle.wihupya.specs.Words.{jobOf}
-use Rattle.wihupya.specs.Exports.{numberOf, doublesAfter}
+use Rattle.wihupya.specs.Exports.{numberOf, answerWords}
 use Rattle.area.specs.declared.JobRecord.{JobRecord}
 use Rattle.area.specs.Encoding.{areaOf}
 use Rattle.calls.specs.Table as table
@@ -35,19 +35,19 @@ report-bits-requires c κs =
     (sym (ap replyOfDoubles (sym (c .before .doubled2 .given .1)) ∙ ap (λ (x : table.Answer). x .reply) (c .before .before .before .doubles .ensures)))
 
 returns : tie.Need-returns
-unfolding replyOfDoubles numberOf doublesAfter
+unfolding replyOfDoubles numberOf answerWords
 returns c =
     let s = c .before .before .before .before .before .before in
     let a = areaOf (jobOf (now (s .args .job))) (now (s .args .cells)) (now (s .args .store)) in
     let is = ap replyOfDoubles (sym (c .before .doubled .given .1)) ∙ ap (λ (x : table.Answer). x .reply) (c .before .before .before .doubles .ensures) ∙ ap (λ (j : JobRecord). callOn (areaOf j (now (s .args .cells)) (now (s .args .store))) table.doubles .answer .reply) (c .before .before .before .before .job-of .ensures) in
-    (ap numberOf is, ap (λ x. doublesAfter x (now (s .args .report))) is)
+    (ap numberOf is, ap (λ x. answerWords x (now (s .args .report))) is)
 
 returns-2 : tie.Need-returns-2
-unfolding replyOfDoubles numberOf doublesAfter
+unfolding replyOfDoubles numberOf answerWords
 returns-2 c =
     let s = c .before .before .before .before .before .before .before in
     let is = ap replyOfDoubles (sym (c .before .before .doubled2 .given .1)) ∙ ap (λ (x : table.Answer). x .reply) (c .before .before .before .before .doubles .ensures) ∙ ap (λ (j : JobRecord). callOn (areaOf j (now (s .args .cells)) (now (s .args .store))) table.doubles .answer .reply) (c .before .before .before .before .before .job-of .ensures) in
-    (ap numberOf is, c .report-bits .ensures ∙ ap (λ x. doublesAfter x (now (s .args .report))) is)
+    (ap numberOf is, c .report-bits .ensures ∙ ap (λ x. answerWords x (now (s .args .report))) is)
 
 pub wihupya-doubles-spec : {M : Type 1} → statement M
 wihupya-doubles-spec =

@@ -3,7 +3,7 @@ use borrow.Author.Needs.{needs}
 use mathlib.Core.Path.{_≡_, sym, ap, _∙_}
 use denote.Ref.{now}
 use Rattle.calls.specs.Replies.{replyOfPoints}
-use Rattle.wihupya.specs.Exports.{numberOf, pointsAfter}
+use Rattle.wihupya.specs.Exports.{numberOf, answerWords}
 use Rattle.area.specs.declared.JobRecord.{JobRecord}
 use Rattle.area.specs.Encoding.{areaOf}
 use Rattle.calls.specs.Table as table
@@ -23,30 +23,27 @@ enum-known-answered c = search needs
 enum-known-answered-2 : tie.Need-enum-known-answered-2
 enum-known-answered-2 c = search needs
 
-point-words-requires : tie.Need-point-words-requires
-point-words-requires c κs = search needs
-
 same-length : tie.Need-same-length
 same-length c = search needs
 
 returns : tie.Need-returns
-unfolding replyOfPoints numberOf pointsAfter
+unfolding replyOfPoints numberOf answerWords
 returns c =
     let s = c .before .before .before .before .before .before .before .before .before .before in
     let is = c .before .before .before .before .before .points .ensures ∙ ap (λ (j : JobRecord). callOn (areaOf j (now (s .args .cells)) (now (s .args .store))) (table.points (s .args .n) (now (s .args .buffer))) .answer) (c .before .before .before .before .before .before .before .job-of .ensures) in
     let reply = ap replyOfPoints (sym (c .before .answered .given .1)) ∙ ap (λ (x : table.Answer). x .reply) is in
-    (ap numberOf reply, ap (λ x. pointsAfter x (now (s .args .counts))) reply, ap (λ (x : table.Answer). x .buffer) is)
+    (ap numberOf reply, ap (λ x. answerWords x (now (s .args .counts))) reply, ap (λ (x : table.Answer). x .buffer) is)
 
 same-length-2 : tie.Need-same-length-2
 same-length-2 c = search needs
 
 returns-2 : tie.Need-returns-2
-unfolding replyOfPoints numberOf pointsAfter
+unfolding replyOfPoints numberOf answerWords
 returns-2 c =
     let s = c .before .before .before .before .before .before .before .before .before .before .before in
     let is = c .before .before .before .before .before .before .points .ensures ∙ ap (λ (j : JobRecord). callOn (areaOf j (now (s .args .cells)) (now (s .args .store))) (table.points (s .args .n) (now (s .args .buffer))) .answer) (c .before .before .before .before .before .before .before .before .job-of .ensures) in
     let reply = ap replyOfPoints (sym (c .before .before .answered2 .given .1)) ∙ ap (λ (x : table.Answer). x .reply) is in
-    (ap numberOf reply, c .point-words .ensures ∙ ap (λ x. pointsAfter x (now (s .args .counts))) reply, ap (λ (x : table.Answer). x .buffer) is)
+    (ap numberOf reply, ap (λ x. answerWords x (now (s .args .counts))) reply, ap (λ (x : table.Answer). x .buffer) is)
 
 pub wihupya-points-spec : {M : Type 1} → statement M
 wihupya-points-spec =
@@ -56,7 +53,6 @@ wihupya-points-spec =
     points-requires
     enum-known-answered
     enum-known-answered-2
-    point-words-requires
     same-length
     returns
     same-length-2

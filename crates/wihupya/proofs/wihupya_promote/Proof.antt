@@ -3,7 +3,7 @@ use borrow.Author.Needs.{needs}
 use mathlib.Core.Path.{refl, ap, _∙_}
 use Prim.Native.Nat.{_-_}
 use denote.Ref.{now}
-use Rattle.wihupya.specs.Exports.{exported, outcomeAfter}
+use Rattle.wihupya.specs.Exports.{exported, answerWords}
 use Rattle.area.specs.declared.JobRecord.{JobRecord}
 use Rattle.area.specs.Records.{runOf}
 use Rattle.area.specs.Encoding.{areaOf}
@@ -34,7 +34,7 @@ returns c =
     let r = c .before .before .before .before .before .promote .result in
     let is = c .before .before .before .before .before .promote .ensures ∙ ap (λ (j : JobRecord). callOn (areaOf j cells store) (table.promote (s .args .place))) (c .before .before .before .before .before .before .before .job-in .ensures .0) in (
       (λ i. record { number = c .before .number-of .ensures i; job = (refused-words (now (s .args .job)) cells store (table.promote (s .args .place)) r (c .before .before .before .before .before .promote .last .1 .1 .0) (store) (c .before .number-of .result) is (c .before .number-of .ensures) (c .if1 .taken) (c .before .before .before .before .before .before .before .job-in .ensures .1)) i; run = runOf (c .before .before .before .before .before .promote .last .1 .1 .0); store = store }) ∙ ap exported is,
-      (refused-outcome (r .answer) (c .before .number-of .result) (now (s .args .outcome)) (c .before .number-of .ensures) (c .if1 .taken) ∙ ap (λ (x : CallResult). outcomeAfter (x .answer .reply) (now (s .args .outcome))) is, λ n. refl),
+      (refused-outcome (r .answer) (c .before .number-of .result) (now (s .args .outcome)) (c .before .number-of .ensures) (c .if1 .taken) ∙ ap (λ (x : CallResult). answerWords (x .answer .reply) (now (s .args .outcome))) is, λ n. refl),
     )
 
 words-of-requires : tie.Need-words-of-requires
@@ -55,7 +55,7 @@ returns-2 c =
     let r = c .before .before .before .before .before .before .before .before .promote .result in
     let is = c .before .before .before .before .before .before .before .before .promote .ensures ∙ ap (λ (j : JobRecord). callOn (areaOf j cells store) (table.promote (s .args .place))) (c .before .before .before .before .before .before .before .before .before .before .job-in .ensures .0) in (
       (λ i. record { number = c .before .before .before .before .number-of .ensures i; job = (c .before .before .words-of .ensures) i; run = runOf (c .before .before .before .before .before .before .before .before .promote .last .1 .1 .0); store = store }) ∙ ap exported is,
-      (c .outcome-word .ensures ∙ ap (λ (x : CallResult). outcomeAfter (x .answer .reply) (now (s .args .outcome))) is, λ n. absurd (n (c .before .before .before .if1 .left))),
+      (c .outcome-word .ensures ∙ ap (λ (x : CallResult). answerWords (x .answer .reply) (now (s .args .outcome))) is, λ n. absurd (n (c .before .before .before .if1 .left))),
     )
 
 pub wihupya-promote-spec : {M : Type 1} → statement M

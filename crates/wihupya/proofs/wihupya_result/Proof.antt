@@ -5,7 +5,7 @@ use Prim.Native.Nat.{_-_}
 use denote.Ref.{now}
 use Rattle.calls.specs.Replies.{replyOfResult}
 use Rattle.wihupya.specs.Words.{jobOf}
-use Rattle.wihupya.specs.Exports.{numberOf, countsAfter}
+use Rattle.wihupya.specs.Exports.{numberOf, answerWords}
 use Rattle.area.specs.declared.JobRecord.{JobRecord}
 use Rattle.area.specs.Encoding.{areaOf}
 use Rattle.calls.specs.Table as table
@@ -29,19 +29,19 @@ count-words-requires : tie.Need-count-words-requires
 count-words-requires c κs = search needs
 
 returns : tie.Need-returns
-unfolding replyOfResult numberOf countsAfter
+unfolding replyOfResult numberOf answerWords
 returns c =
     let s = c .before .before .before .before .before .before in
     let a = areaOf (jobOf (now (s .args .job))) (now (s .args .cells)) (now (s .args .store)) in
     let is = ap replyOfResult (sym (c .before .resulted .given .1)) ∙ ap (λ (x : table.Answer). x .reply) (c .before .before .before .result .ensures) ∙ ap (λ (j : JobRecord). callOn (areaOf j (now (s .args .cells)) (now (s .args .store))) table.result .answer .reply) (c .before .before .before .before .job-of .ensures) in
-    (ap numberOf is, ap (λ x. countsAfter x (now (s .args .counts))) is)
+    (ap numberOf is, ap (λ x. answerWords x (now (s .args .counts))) is)
 
 returns-2 : tie.Need-returns-2
-unfolding replyOfResult numberOf countsAfter
+unfolding replyOfResult numberOf answerWords
 returns-2 c =
     let s = c .before .before .before .before .before .before .before in
     let is = ap replyOfResult (sym (c .before .before .resulted2 .given .1)) ∙ ap (λ (x : table.Answer). x .reply) (c .before .before .before .before .result .ensures) ∙ ap (λ (j : JobRecord). callOn (areaOf j (now (s .args .cells)) (now (s .args .store))) table.result .answer .reply) (c .before .before .before .before .before .job-of .ensures) in
-    (ap numberOf is, c .count-words .ensures ∙ ap (λ x. countsAfter x (now (s .args .counts))) is)
+    (ap numberOf is, c .count-words .ensures ∙ ap (λ x. answerWords x (now (s .args .counts))) is)
 
 pub wihupya-result-spec : {M : Type 1} → statement M
 wihupya-result-spec =

@@ -16,62 +16,26 @@ bits-of-requires c κs = search needs
 low-word-requires : tie.Need-low-word-requires
 low-word-requires c κs = search needs
 
-array-write-words : tie.Need-array-write-words
-array-write-words c = search needs
-
 high-word-requires : tie.Need-high-word-requires
 high-word-requires c κs = search needs
-
-array-write-words-2 : tie.Need-array-write-words-2
-array-write-words-2 c = search needs
 
 low-word-requires-2 : tie.Need-low-word-requires-2
 low-word-requires-2 c κs = search needs
 
-array-write-words-3 : tie.Need-array-write-words-3
-array-write-words-3 c = search needs
-
 high-word-requires-2 : tie.Need-high-word-requires-2
 high-word-requires-2 c κs = search needs
-
-array-write-words-4 : tie.Need-array-write-words-4
-array-write-words-4 c = search needs
 
 low-word-requires-3 : tie.Need-low-word-requires-3
 low-word-requires-3 c κs = search needs
 
-array-write-words-5 : tie.Need-array-write-words-5
-array-write-words-5 c = search needs
-
 high-word-requires-3 : tie.Need-high-word-requires-3
 high-word-requires-3 c κs = search needs
-
-array-write-words-6 : tie.Need-array-write-words-6
-array-write-words-6 c = search needs
-
-array-write-words-7 : tie.Need-array-write-words-7
-array-write-words-7 c = search needs
-
-array-write-words-8 : tie.Need-array-write-words-8
-array-write-words-8 c = search needs
-
-array-write-words-9 : tie.Need-array-write-words-9
-array-write-words-9 c = search needs
-
-array-write-words-10 : tie.Need-array-write-words-10
-array-write-words-10 c = search needs
 
 low-word-requires-4 : tie.Need-low-word-requires-4
 low-word-requires-4 c κs = search needs
 
-array-write-words-11 : tie.Need-array-write-words-11
-array-write-words-11 c = search needs
-
 high-word-requires-4 : tie.Need-high-word-requires-4
 high-word-requires-4 c κs = search needs
-
-array-write-words-12 : tie.Need-array-write-words-12
-array-write-words-12 c = search needs
 
 returns : tie.Need-returns
 unfolding wordsOf
@@ -87,23 +51,11 @@ words-of-spec =
     (tie.spec
     bits-of-requires
     low-word-requires
-    array-write-words
     high-word-requires
-    array-write-words-2
     low-word-requires-2
-    array-write-words-3
     high-word-requires-2
-    array-write-words-4
     low-word-requires-3
-    array-write-words-5
     high-word-requires-3
-    array-write-words-6
-    array-write-words-7
-    array-write-words-8
-    array-write-words-9
-    array-write-words-10
     low-word-requires-4
-    array-write-words-11
     high-word-requires-4
-    array-write-words-12
     returns)
