@@ -55,13 +55,13 @@ module _ (P : Problem) (m : Machine) (s : Figure) (invariant : MachineInvariant 
   spent-only z p e =
       let y = answered z l p refining.spent e in
       let a = accepted-active z l p (y .0) in
-      (a, published-facts .spent-at-only P m s p (invariant .sound) simulates (a .place) (a .active) (y .1))
+      (a, published-facts .spent-at-only P m s p (invariant .sound) simulates a (y .1))
 
   promoted-only : (z : Lengths) (p : ℕ) → answerBy z (m .log) (promote p) ≡ answer (promotion refining.promoted) → Active (m .log .entries) p × (Exceeding p → ⊥)
   promoted-only z p e =
       let y = answered z l p refining.promoted e in
       let a = accepted-active z l p (y .0) in
-      (a, λ x. spent-not (published-facts .spent-at P m s p (invariant .sound) simulates (a .place) (a .active) x) (y .1))
+      (a, λ x. spent-not (published-facts .spent-at P m s p (invariant .sound) simulates a x) (y .1))
 
   module _ (x : LentCall) (p : ℕ) (is : x .call ≡ promote p) (e : answerBy (lengthsLent (x .part)) (m .log) (promote p) ≡ answer (promotion refining.promoted)) where
     accepted-so : (refusalBy (lengthsLent (x .part)) (m .log) (promote p) ≡ 0) × (refining.promoteAt (m .log) p .outcome ≡ refining.promoted)
@@ -76,7 +76,7 @@ module _ (P : Problem) (m : Machine) (s : Figure) (invariant : MachineInvariant 
     moves : PromotionFollows P s (entryAt (m .log .entries) p .levels) (m .log .entries) (logStep (m .log) x .entries)
     moves =
         subst (λ (o : Log). PromotionFollows P s (entryAt (l .entries) p .levels) (l .entries) (o .entries)) (sym (log-facts .accepted-promote l x p is none (accepted-so .1)))
-        (published-facts .refines P m s p (invariant .sound) simulates (a .place) (a .active))
+        (published-facts .refines P m s p (invariant .sound) simulates a)
 
     -- a promotion delivers nothing
     mean-stays : crossOf (logStep (m .log) x .entries) ≡ crossOf (m .log .entries)
@@ -104,11 +104,11 @@ module _ (P : Problem) (m : Machine) (s : Figure) (invariant : MachineInvariant 
         over-capped = λ z h k f e. chooses z h k (published-facts .over-capped P m s simulates f e);
         met-only = λ z e. published-facts .met-only P m s simulates (chose z l choice.met e .1);
         capped-only = λ z e. published-facts .capped-only P m s simulates (chose z l choice.capped e .1);
-        spent = λ z p h k a x. promotes z p h k a (published-facts .spent-at P m s p (invariant .sound) simulates (a .place) (a .active) x);
+        spent = λ z p h k a x. promotes z p h k a (published-facts .spent-at P m s p (invariant .sound) simulates a x);
         spent-only = spent-only;
-        promoted = λ z p h k a x. promotes z p h k a (published-facts .promoted-at P m s p (invariant .sound) simulates (a .place) (a .active) x);
+        promoted = λ z p h k a x. promotes z p h k a (published-facts .promoted-at P m s p (invariant .sound) simulates a x);
         promoted-only = promoted-only;
-        once-after = λ p a. published-facts .once-after P m s p (invariant .sound) simulates (a .place) (a .active);
+        once-after = λ p a. published-facts .once-after P m s p (invariant .sound) simulates a;
         promotes = moves;
         promotes-result = mean-stays;
       }

@@ -70,9 +70,9 @@ module _ (m : Machine) (v : SoundMachine m) where
   pub admissions : Admissions (m .log)
   admissions =
       record {
-        listed = λ q h a. admitted-facts .listed l q (sound-place m q v h);
-        appends = λ q h a. admitted-facts .appends l q (sound-place m q v h);
-        none-held = λ q k h a w. admitted-facts .none-held m q k v h a w;
+        listed = λ q a. admitted-facts .listed l q (sound-place m q v (a .place));
+        appends = λ q a. admitted-facts .appends l q (sound-place m q v (a .place));
+        none-held = λ q k. admitted-facts .none-held m q k v;
         spent = λ z p ks h k none a these x. answers z p h k none a (admitted-facts .spent l p ks (sound-place m p v (a .place)) these x);
         spent-only = spent-answer;
         promoted = λ z p ks h k none a these n. answers z p h k none a (admitted-facts .promoted l p ks (sound-place m p v (a .place)) these n);

@@ -3,12 +3,11 @@
 use mathlib.Core.Path.{_≡_}
 use mathlib.Core.Bool.{true}
 use mathlib.Core.List.{List, _∷_}
-use Prim.Native.Nat.{ℕ, _<_, _≤_}
-use lib.ListN.{length}
+use Prim.Native.Nat.{ℕ, _≤_}
 use Rattle.area.specs.declared.Settings.{Settings}
 use Rattle.area.specs.Settings.{leastStore}
 use Rattle.area.specs.Log.{Log}
-use Rattle.encoding.specs.Entries.{entryAt, Entered}
+use Rattle.encoding.specs.Entries.{Entered}
 use Rattle.machine.specs.Log.{anyWanted, Active}
 use Rattle.machine.specs.Promote as refining
 use Rattle.machine.specs.Admitted.{Admitted, ListsAdmitted, Exceeds, Appends}
@@ -23,12 +22,11 @@ use Rattle.history.specs.Storage.{Storage, areaLent, AllLent}
 
 pub record Admissions (l : Log) : Type 0 where
   -- what any active place would admit can be listed, each index once
-  pub listed : (p : ℕ) → p < length (l .entries) → entryAt (l .entries) p .state ≡ 1 → (ks : List (List ℕ)) × ListsAdmitted l p ks
+  pub listed : (p : ℕ) → Active (l .entries) p → (ks : List (List ℕ)) × ListsAdmitted l p ks
   -- and it is what refining the place appends, wanted, in axis order
-  pub appends : (p : ℕ) → p < length (l .entries) → entryAt (l .entries) p .state ≡ 1 → (ks : List (List ℕ)) × Appends l p ks
+  pub appends : (p : ℕ) → Active (l .entries) p → (ks : List (List ℕ)) × Appends l p ks
   -- none of it is held yet
-  pub none-held : (p : ℕ) (k : List ℕ) → p < length (l .entries) → entryAt (l .entries) p .state ≡ 1 → Admitted (l .settings .axes) (l .entries) p k
-      → Entered (l .entries) k → ⊥
+  pub none-held : (p : ℕ) (k : List ℕ) → Active (l .entries) p → Admitted (l .settings .axes) (l .entries) p k → Entered (l .entries) k → ⊥
   -- promote of the place, called next with nothing wanted in storage that is long enough, is *spent* exactly if what it would admit brings the
   -- held above 512 or the reserved above the budget, whatever the threshold and the indicators
   pub spent : (z : Lengths) (p : ℕ) (ks : List (List ℕ)) → 512 ≤ z .records → leastStore (l .settings) ≤ z .readings → (anyWanted (l .entries) ≡ true → ⊥)

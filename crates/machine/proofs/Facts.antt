@@ -23,9 +23,9 @@ step-facts =
     record {
       start = start-sound;
       deliver = deliver-sound;
-      refine = λ m p v none h s e. refine-sound v p h s e;
-      selects = λ l n. let s = above-selected l n in (s .is .place, s .is .active);
-      largest = λ l n q h a. above-selected l n .largest q (record { place = h; active = a });
-      lowest = λ l n q h a e. above-selected l n .lowest q (record { place = h; active = a }) e;
+      refine = λ m p v a e. refine-sound v p (a .place) (a .active) e;
+      selects = λ l n. above-selected l n .is;
+      largest = λ l n. above-selected l n .largest;
+      lowest = λ l n. above-selected l n .lowest;
       promote = promote-sound;
     }

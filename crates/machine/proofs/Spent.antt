@@ -16,7 +16,7 @@ use Rattle.grid.proofs.Neighbours.{forward-level, forward-other}
 use Rattle.area.specs.Entry.{Entry, reservedBy}
 use Rattle.area.specs.Log.{Log, Machine}
 use Rattle.encoding.specs.Entries.{entryAt, Entered, EnteredOld, SoundMachine}
-use Rattle.machine.specs.Log.{wanted}
+use Rattle.machine.specs.Log.{wanted, Active}
 use Rattle.machine.specs.Promote.{spent, promoted, madeOld, makeOld, admittedAxes, refine, promoteAt}
 use Rattle.machine.specs.Admitted.{Admitted, totalOf, ListsAdmitted, Exceeds, IndexPlace, Appends, AdmittedFacts}
 use Rattle.machine.proofs.Passing.{Occurs, Rising}
@@ -165,9 +165,9 @@ module _ (l : Log) (p : ℕ) (at : IndexPlace l p) where
 
 -- ---- none of them is held
 
-not-held : (m : Machine) (p : ℕ) (k : List ℕ) → SoundMachine m → p < length (m .log .entries) → entryAt (m .log .entries) p .state ≡ 1
+not-held : (m : Machine) (p : ℕ) (k : List ℕ) → SoundMachine m → Active (m .log .entries) p
     → Admitted (m .log .settings .axes) (m .log .entries) p k → Entered (m .log .entries) k → ⊥
-not-held m p k v inside active w h = not-entered v p inside active (w .axis) (w .among) (subst (Entered (m .log .entries)) (w .neighbour) h)
+not-held m p k v a w h = not-entered v p (a .place) (a .active) (w .axis) (w .among) (subst (Entered (m .log .entries)) (w .neighbour) h)
 
 -- ---- in a sound state every entry has a level for each axis
 

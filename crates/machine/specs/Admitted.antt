@@ -11,7 +11,7 @@ use Rattle.grid.specs.Terms.{NoDup}
 use Rattle.area.specs.Entry.{Entry, reservedBy}
 use Rattle.area.specs.Log.{Log, Machine}
 use Rattle.encoding.specs.Entries.{entryAt, Entered, EnteredOld, SoundMachine}
-use Rattle.machine.specs.Log.{wanted}
+use Rattle.machine.specs.Log.{wanted, Active}
 use Rattle.machine.specs.Promote as refining
 
 -- The index k is admitted where the place p of the entries is refined, in a job with d axes.
@@ -76,5 +76,5 @@ pub record AdmittedFacts : Type 0 where
   -- and *promoted* otherwise
   pub promoted : (l : Log) (p : ℕ) (ks : List (List ℕ)) → IndexPlace l p → ListsAdmitted l p ks → (Exceeds l ks → ⊥) → refining.promoteAt l p .outcome ≡ refining.promoted
   -- in a sound state none that an active place admits is held
-  pub none-held : (m : Machine) (p : ℕ) (k : List ℕ) → SoundMachine m → p < length (m .log .entries) → entryAt (m .log .entries) p .state ≡ 1
+  pub none-held : (m : Machine) (p : ℕ) (k : List ℕ) → SoundMachine m → Active (m .log .entries) p
       → Admitted (m .log .settings .axes) (m .log .entries) p k → Entered (m .log .entries) k → ⊥

@@ -23,16 +23,15 @@ pub record StepFacts : Type 0 where
   -- readings as many as the block has, all in range
   pub deliver : (m : Machine) (rs : List ℤ) (i : ℕ) → SoundMachine m → firstWanted (m .log .entries) < length (m .log .entries)
       → length rs ≡ readingCount (m .log .settings) (wantedIndex (m .log .entries)) → ((n : ℕ) → n < length rs → IsReading (getD rs n (pos 0))) → SoundMachine (deliver m rs i)
-  -- refining any active place when nothing is wanted and it fits
-  pub refine : (m : Machine) (p : ℕ) → SoundMachine m → length (m .log .entries) ≤ firstWanted (m .log .entries)
-      → p < length (m .log .entries) → entryAt (m .log .entries) p .state ≡ 1 → fits (m .log .settings .budget) (refine (m .log .settings .axes) (m .log .entries) p) ≡ true
+  -- refining any active place, where it fits
+  pub refine : (m : Machine) (p : ℕ) → SoundMachine m → Active (m .log .entries) p → fits (m .log .settings .budget) (refine (m .log .settings .axes) (m .log .entries) p) ≡ true
       → SoundMachine (machineWithEntries m (refine (m .log .settings .axes) (m .log .entries) p))
   -- where the pending error is above the threshold, what is selected is active
-  pub selects : (l : Log) → l .settings .threshold < pendingOf (l .entries) → (selected (l .entries) < length (l .entries)) × (entryAt (l .entries) (selected (l .entries)) .state ≡ 1)
+  pub selects : (l : Log) → l .settings .threshold < pendingOf (l .entries) → Active (l .entries) (selected (l .entries))
   -- with the largest indicator, at the lowest place among equals
-  pub largest : (l : Log) → l .settings .threshold < pendingOf (l .entries) → (q : ℕ) → q < length (l .entries) → entryAt (l .entries) q .state ≡ 1
+  pub largest : (l : Log) → l .settings .threshold < pendingOf (l .entries) → (q : ℕ) → Active (l .entries) q
       → entryAt (l .entries) q .indicator ≤ entryAt (l .entries) (selected (l .entries)) .indicator
-  pub lowest : (l : Log) → l .settings .threshold < pendingOf (l .entries) → (q : ℕ) → q < length (l .entries) → entryAt (l .entries) q .state ≡ 1
+  pub lowest : (l : Log) → l .settings .threshold < pendingOf (l .entries) → (q : ℕ) → Active (l .entries) q
       → entryAt (l .entries) q .indicator ≡ entryAt (l .entries) (selected (l .entries)) .indicator → selected (l .entries) ≤ q
   -- a promotion of any active place keeps the clauses, whatever its answer
   pub promote : (m : Machine) (p : ℕ) → SoundMachine m → Active (m .log .entries) p → SoundMachine (promoteStep m p)

@@ -86,8 +86,8 @@ callsFrom c (suc n) l i =
 
 -- ---- choose and promote in turn
 
--- The program calls both in turn: in the list of calls, from the log l on, an entry is delivered only while a block is wanted; where none is, choose is
--- called, and if it answers a place, promote of that place right after it; if not, nothing comes after it.
+-- The program calls both in turn: in the list of calls, from the log l on, an entry is delivered only while a block is wanted; where none is,
+-- choose is called, and if it answers a place, promote of that place right after it; if not, nothing comes after it.
 pub data InTurn : Log → List Call → Type 0 where
   nothing : {l : Log} → InTurn l []
   delivers : {l : Log} (rs : List ℤ) (i : ℕ) {xs : List Call} → anyWanted (l .entries) ≡ true → InTurn (logStep l (lent (deliver rs i))) xs → InTurn l (deliver rs i ∷ xs)

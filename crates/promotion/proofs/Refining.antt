@@ -159,7 +159,7 @@ module _ {job : JobRecord} {c : List ℕ} {store : List ℤ} {p limit : ℕ} (t 
   after-sound : fits (job .settings .budget) refined ≡ true → SoundMachine after
   unfolding machineOf
   after-sound e =
-      step-facts .refine (machineOf area) p (machine-sound area (t .valid)) (t .idle) inside (state-is area (t .valid) p inside ∙ t .active) e
+      step-facts .refine (machineOf area) p (machine-sound area (t .valid)) (record { place = inside; active = state-is area (t .valid) p inside ∙ t .active }) e
     where
       inside : p < length es
       inside = omega (arith, held-is area (t .valid), t .place)

@@ -4,9 +4,9 @@ use Prim.Native.Nat.{ℕ}
 use lib.IntN.{ℤ}
 use Rattle.area.specs.Encoding.{areaOf}
 use Rattle.machine.specs.Choose.{met, capped, place}
-use Rattle.machine.specs.Choose as choosing
+use Rattle.machine.specs.Choose as choice
 use Rattle.machine.specs.Promote.{spent, promoted}
-use Rattle.machine.specs.Promote as machine
+use Rattle.machine.specs.Promote as refining
 use Rattle.machine.specs.Areas.{AreaPromotion}
 use Rattle.promotion.specs.declared.Choice.{Choice}
 use Rattle.promotion.specs.declared.Choice.the-variants.{Met, Capped, Place}
@@ -15,13 +15,13 @@ use Rattle.promotion.specs.declared.Outcome.the-variants.{Spent, Promote
 use Rattle.promotion.specs.declared.Promotion.{Promotion}
 
 -- The scope document's answer for each case: of choose,
-unfoldable pub choiceOf : Choice → choosing.Choice
+unfoldable pub choiceOf : Choice → choice.Choice
 choiceOf Met = met
 choiceOf Capped = capped
 choiceOf (Place p) = place p
 
 -- and of promote.
-unfoldable pub outcomeOf : Outcome → machine.Outcome
+unfoldable pub outcomeOf : Outcome → refining.Outcome
 outcomeOf Spent = spent
 outcomeOf Promoted = promoted
 

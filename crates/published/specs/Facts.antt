@@ -3,7 +3,6 @@ use mathlib.Core.Path.{_≡_}
 use mathlib.Core.Bool.{true}
 use mathlib.Core.List.{List, [], _∷_, _++_}
 use Prim.Native.Nat.{ℕ, _+_, _<_, _≤_}
-use lib.ListN.{length}
 use Rattle.grid.specs.Terms.{NoDup}
 use Rattle.area.specs.declared.Settings.{Settings}
 use Rattle.area.specs.Settings.{SettingsFit}
@@ -16,8 +15,8 @@ use Rattle.published.specs.Figure.{Problem, Figure, initial, loopConditi
 use Rattle.published.specs.Turns.{turnOn, turnsOn, TurnMade, SettingsMatch, ReadingValued, Simulates, ExceedsLimits, PromotionFollows}
 
 pub record PublishedFacts : Type 0 where
-  -- every sound state with nothing wanted, also one that no list of calls gives, is a state of Fig. 1 on some problem, whose mean is the recorded one: so
-  -- what is said of such states below is said of each of its steps
+  -- every sound state with nothing wanted, also one that no list of calls gives, is a state of Fig. 1 on some problem, whose mean is the recorded
+  -- one: so what is said of such states below is said of each of its steps
   pub some : (m : Machine) → SoundMachine m → (anyWanted (m .log .entries) ≡ true → ⊥) → (P : Problem) × (s : Figure) × ReadingValued P × Simulates P m s
   -- start and the root's delivery are the lines before the loop
   pub begins : (P : Problem) (g : Settings) → ReadingValued P → SettingsFit g → SettingsMatch g P → Simulates P (turnsOn P g 0) (initial P)
@@ -33,20 +32,20 @@ pub record PublishedFacts : Type 0 where
   pub place-only : (P : Problem) (m : Machine) (s : Figure) (p : ℕ) → Simulates P m s → choose (m .log) ≡ place p
       → (loopCondition P s ≡ true) × Active (m .log .entries) p × (entryAt (m .log .entries) p .levels ≡ select P s)
   -- refining any active place is on 𝒪 and 𝒜 the move of its index and the scan
-  pub refines : (P : Problem) (m : Machine) (s : Figure) (p : ℕ) → SoundMachine m → Simulates P m s → p < length (m .log .entries) → entryAt (m .log .entries) p .state ≡ 1
+  pub refines : (P : Problem) (m : Machine) (s : Figure) (p : ℕ) → SoundMachine m → Simulates P m s → Active (m .log .entries) p
       → PromotionFollows P s (entryAt (m .log .entries) p .levels) (m .log .entries) (refining.refine (m .log .settings .axes) (m .log .entries) p)
   -- after the turn with its index no index stands twice in 𝒪 and 𝒜, so that the limits count indices
-  pub once-after : (P : Problem) (m : Machine) (s : Figure) (p : ℕ) → SoundMachine m → Simulates P m s → p < length (m .log .entries) → entryAt (m .log .entries) p .state ≡ 1
+  pub once-after : (P : Problem) (m : Machine) (s : Figure) (p : ℕ) → SoundMachine m → Simulates P m s → Active (m .log .entries) p
       → NoDup (turnAt P (entryAt (m .log .entries) p .levels) s .old ++ turnAt P (entryAt (m .log .entries) p .levels) s .active)
   -- it is *spent* exactly if after the turn with its index 𝒪 and 𝒜 are past the limits, and *promoted* otherwise
-  pub spent-at : (P : Problem) (m : Machine) (s : Figure) (p : ℕ) → SoundMachine m → Simulates P m s → p < length (m .log .entries) → entryAt (m .log .entries) p .state ≡ 1
+  pub spent-at : (P : Problem) (m : Machine) (s : Figure) (p : ℕ) → SoundMachine m → Simulates P m s → Active (m .log .entries) p
       → ExceedsLimits (m .log .settings .budget) (turnAt P (entryAt (m .log .entries) p .levels) s) → refining.promoteAt (m .log) p .outcome ≡ refining.spent
-  pub promoted-at : (P : Problem) (m : Machine) (s : Figure) (p : ℕ) → SoundMachine m → Simulates P m s → p < length (m .log .entries) → entryAt (m .log .entries) p .state ≡ 1
+  pub promoted-at : (P : Problem) (m : Machine) (s : Figure) (p : ℕ) → SoundMachine m → Simulates P m s → Active (m .log .entries) p
       → (ExceedsLimits (m .log .settings .budget) (turnAt P (entryAt (m .log .entries) p .levels) s) → ⊥) → refining.promoteAt (m .log) p .outcome ≡ refining.promoted
-  pub spent-at-only : (P : Problem) (m : Machine) (s : Figure) (p : ℕ) → SoundMachine m → Simulates P m s → p < length (m .log .entries) → entryAt (m .log .entries) p .state ≡ 1
+  pub spent-at-only : (P : Problem) (m : Machine) (s : Figure) (p : ℕ) → SoundMachine m → Simulates P m s → Active (m .log .entries) p
       → refining.promoteAt (m .log) p .outcome ≡ refining.spent → ExceedsLimits (m .log .settings .budget) (turnAt P (entryAt (m .log .entries) p .levels) s)
   -- a promotion of any active place that is promoted, and the deliveries of all that it admitted, are the loop's body with its index
-  pub one-turn : (P : Problem) (m : Machine) (s : Figure) (p : ℕ) → ReadingValued P → SoundMachine m → Simulates P m s → p < length (m .log .entries) → entryAt (m .log .entries) p .state ≡ 1
+  pub one-turn : (P : Problem) (m : Machine) (s : Figure) (p : ℕ) → ReadingValued P → SoundMachine m → Simulates P m s → Active (m .log .entries) p
       → refining.promoteAt (m .log) p .outcome ≡ refining.promoted → SoundMachine (turnOn P m p) × Simulates P (turnOn P m p) (turnAt P (entryAt (m .log .entries) p .levels) s)
   -- led by one index more, Fig. 1 makes the loop's body with it once more; 𝒪 is the list; led by what it selects itself, it makes its own turns
   pub led-more : (P : Problem) (is : List (List ℕ)) (i : List ℕ) → led P (is ++ i ∷ []) ≡ turnAt P i (led P is)

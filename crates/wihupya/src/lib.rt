@@ -2,7 +2,6 @@
 // (specs/Words.antt). The length of cells counts words, 27 to a record; that of the store counts readings. A call but check returns 0
 // if it was not refused, else the number of the cause. include/wihupya.h says it for C, and bindings/ for Rust.
 ghost use mathlib.Core.Path.{_≡_};
-ghost use mathlib.Core.List.{[], _∷_};
 ghost use Prim.Native.Nat.{_+_, _*_, _^_};
 ghost use mir.Syntax.{w64};
 ghost use mir.Val.{toZ, ofZ};

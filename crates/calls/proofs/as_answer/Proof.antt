@@ -1,7 +1,6 @@
 -- `calls::as_answer` meets its contract: case by case. Assumes nothing.
 use borrow.Author.Needs.{needs}
 use mathlib.Core.Path.{refl, sym, ap}
-use Prim.Native.Nat.{_-_}
 use Rattle.calls.specs.Replies.{promotion, replyOf}
 use Rattle.promotion.specs.Outcomes.{outcomeOf}
 use Rattle.calls.proofs.as_answer.Statement.{statement}

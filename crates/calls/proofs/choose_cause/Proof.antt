@@ -1,7 +1,6 @@
 -- `calls::choose_cause` meets its contract: the tests in the table's order. Assumes nothing.
 use borrow.Author.Needs.{needs}
 use mathlib.Core.Path.{sym, _∙_}
-use Prim.Native.Nat.{_-_}
 use denote.Ref.{now}
 use Rattle.area.specs.Encoding.{areaOf, machineOf}
 use Rattle.soundness.specs.Clauses.{isSound}

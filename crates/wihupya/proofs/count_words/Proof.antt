@@ -1,7 +1,6 @@
 -- `wihupya::count_words` meets its contract: the eleven words one after the other. Assumes nothing.
 use mathlib.Core.Path.{ap, _∙_}
 use mathlib.Core.List.{[], _∷_}
-use Prim.Native.Nat.{_-_}
 use mir.Syntax.{w64}
 use mir.Val.{ofZ}
 use Rattle.sums.proofs.Words.{back}

@@ -1,7 +1,6 @@
 -- `wihupya::number_of` meets its contract: case by case. Assumes nothing.
 use borrow.Author.Needs.{needs}
 use mathlib.Core.Path.{sym, ap}
-use Prim.Native.Nat.{_-_}
 use Rattle.calls.specs.Replies.{replyOf}
 use Rattle.wihupya.specs.Exports.{numberOf}
 use Rattle.wihupya.proofs.number_of.Statement.{statement}

@@ -1,7 +1,6 @@
 -- `wihupya::outcome_word` meets its contract: case by case. Assumes nothing.
 use borrow.Author.Needs.{needs}
 use mathlib.Core.Path.{sym, ap}
-use Prim.Native.Nat.{_-_}
 use Rattle.calls.specs.Replies.{replyOf}
 use Rattle.wihupya.specs.Exports.{outcomeWord, answerWords}
 use Rattle.wihupya.proofs.outcome_word.Statement.{statement}

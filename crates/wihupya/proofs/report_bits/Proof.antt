@@ -1,5 +1,4 @@
 -- `wihupya::report_bits` meets its contract: the bits one after the other. Assumes nothing.
-use borrow.Author.Needs.{needs}
 use mathlib.Core.Path.{refl}
 use Rattle.wihupya.specs.Exports.{reportBits}
 use Rattle.wihupya.proofs.report_bits.Statement.{statement}

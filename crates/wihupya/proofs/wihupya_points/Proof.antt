@@ -1,6 +1,6 @@
 -- `wihupya::wihupya_points` meets its contract: the call on the words' job record; the counts are written, a refusal is not. Assumes nothing.
 use borrow.Author.Needs.{needs}
-use mathlib.Core.Path.{_≡_, sym, ap, _∙_}
+use mathlib.Core.Path.{sym, ap, _∙_}
 use denote.Ref.{now}
 use Rattle.calls.specs.Replies.{replyOfPoints}
 use Rattle.wihupya.specs.Exports.{numberOf, answerWords}

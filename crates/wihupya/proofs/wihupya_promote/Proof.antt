@@ -1,7 +1,6 @@
 -- `wihupya::wihupya_promote` meets its contract: the call on the words' job record, written as words again; a refusal writes none. Assumes nothing.
 use borrow.Author.Needs.{needs}
 use mathlib.Core.Path.{refl, ap, _∙_}
-use Prim.Native.Nat.{_-_}
 use denote.Ref.{now}
 use Rattle.wihupya.specs.Exports.{exported, answerWords}
 use Rattle.area.specs.declared.JobRecord.{JobRecord}

@@ -1,7 +1,6 @@
 -- `wihupya::wihupya_result` meets its contract: the call on the words' job record; counts are written, a refusal is not. Assumes nothing.
 use borrow.Author.Needs.{needs}
 use mathlib.Core.Path.{sym, ap, _∙_}
-use Prim.Native.Nat.{_-_}
 use denote.Ref.{now}
 use Rattle.calls.specs.Replies.{replyOfResult}
 use Rattle.wihupya.specs.Words.{jobOf}
