@@ -15,7 +15,8 @@ mod promotion;
 
 pub use promotion::{choose, limits_passed, promote, Choice, Promotion};
 
-/// The causes of a refusal; their numbers are those of the table.
+/// The causes of a refusal; their numbers are those of the table, and of the requests
+/// that add to it.
 #[derive(Clone, Copy, Debug, PartialEq, Eq, Hash, PartialOrd, Ord)]
 pub enum Cause {
     AxesOutOfRange = 1,
@@ -27,8 +28,10 @@ pub enum Cause {
     ReadingCountWrong = 7,
     ReadingOutOfRange = 8,
     PointNumberTooLarge = 9,
-    JobFileMalformed = 10,
+    HeaderMalformed = 10,
     PlaceNotActive = 11,
+    EntryTableMalformed = 12,
+    ReadingsMalformed = 13,
 }
 
 impl Cause {

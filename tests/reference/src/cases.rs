@@ -57,10 +57,9 @@ fn longer(mut bytes: Vec<u8>, extra: usize) -> Vec<u8> {
 }
 
 pub fn cases() -> Vec<Case> {
-    [endings(), ceilings(), corners(), form(), early_ends(), order()]
-        .into_iter()
-        .flatten()
-        .collect()
+    let runs = [endings(), ceilings(), corners()];
+    let refusals = [form(), wrong_counts(), early_ends(), order(), form_first()];
+    runs.into_iter().chain(refusals).flatten().collect()
 }
 
 /// What a run of the right form prints.
@@ -178,55 +177,70 @@ fn ceilings() -> Vec<Case> {
     ]
 }
 
-/// Each rule of form, just met and just broken.
+/// Each rule of form, just met and just broken: the header's give 10, the table's 12,
+/// bytes after the last reading 13.
 fn form() -> Vec<Case> {
     vec![
         case("513 entries counted", with(&[(16, 513)]), "refused 10 at 16\n"),
         case("table offset 23", with(&[(20, 23)]), "refused 10 at 20\n"),
         case("table offset 25", with(&[(20, 25)]), "refused 10 at 20\n"),
-        case("an entry of 0 readings", with(&[(40, 0)]), "refused 10 at 40\n"),
-        case("an entry of 8,193 readings", with(&[(28, 8193)]), "refused 10 at 28\n"),
-        case("8,193 readings in all", filled(2, 4096, 1), "refused 10 at 52\n"),
+        case("an entry of 0 readings", with(&[(40, 0)]), "refused 12 at 40\n"),
+        case("an entry of 8,193 readings", with(&[(28, 8193)]), "refused 12 at 28\n"),
+        case("8,193 readings in all", filled(2, 4096, 1), "refused 12 at 52\n"),
         case("8,192 readings in all", filled(2, 4096, 0), "refused 7 at 28\n"),
-        case("a gap before an entry's readings", with(&[(44, 80)]), "refused 10 at 44\n"),
-        case("an offset into the table", with(&[(32, 68)]), "refused 10 at 32\n"),
+        case("a gap before an entry's readings", with(&[(44, 80)]), "refused 12 at 44\n"),
+        case("an offset one byte too low", with(&[(44, 75)]), "refused 12 at 44\n"),
+        case("an offset into the table", with(&[(32, 68)]), "refused 12 at 32\n"),
         case("512 entries, the longest file", filled(512, 16, 0), "refused 7 at 28\n"),
         case(
             "a byte after the longest file",
             longer(filled(512, 16, 0), 1),
-            "refused 10 at 38936\n",
+            "refused 13 at 38936\n",
         ),
-        case("the first byte too many", longer(with(&[]), 1), "refused 10 at 100\n"),
-        case("a byte after an empty table", longer(file(2, 64, 40, &[]), 1), "refused 10 at 24\n"),
+        case("the first byte too many", longer(with(&[]), 1), "refused 13 at 100\n"),
+        case("a byte after an empty table", longer(file(2, 64, 40, &[]), 1), "refused 13 at 24\n"),
     ]
 }
 
-/// The file's length where it ends early.
+/// A count that is in range but wrong breaks no rule of its own field; it shows at the
+/// next field with one, or at the file's end.
+fn wrong_counts() -> Vec<Case> {
+    vec![
+        case("a reading count one too low", with(&[(40, 1)]), "refused 12 at 56\n"),
+        case("a reading count one too high", with(&[(40, 3)]), "refused 12 at 56\n"),
+        case("a reading count that takes all the rest", with(&[(40, 8191)]), "refused 12 at 52\n"),
+        case("the last reading count one too low", with(&[(64, 1)]), "refused 13 at 96\n"),
+        case("the last reading count one too high", with(&[(64, 3)]), "refused 13 at 100\n"),
+        case("an entry count one too low", with(&[(16, 3)]), "refused 12 at 32\n"),
+        case("an entry count one too high", with(&[(16, 5)]), "refused 12 at 32\n"),
+        case("an entry count of 0 before a table", with(&[(16, 0)]), "refused 13 at 24\n"),
+    ]
+}
+
+/// The file's length where it ends early, with the number of the part that was due.
 fn early_ends() -> Vec<Case> {
+    let broken_entry = with(&[(40, 0)]);
     vec![
         case("empty file", Vec::new(), "refused 10 at 0\n"),
         case("ends in the header", cut(23), "refused 10 at 23\n"),
-        case("ends after the header", cut(24), "refused 10 at 24\n"),
-        case("ends in the table", cut(71), "refused 10 at 71\n"),
-        case("ends after the table", cut(72), "refused 10 at 72\n"),
-        case("ends in the last reading", cut(99), "refused 10 at 99\n"),
+        case("ends after the header", cut(24), "refused 12 at 24\n"),
+        case("ends in the table", cut(71), "refused 12 at 71\n"),
+        case("ends after the table", cut(72), "refused 13 at 72\n"),
+        case("ends in the last reading", cut(99), "refused 13 at 99\n"),
         case(
             "a broken field before an early end",
-            {
-                let mut bytes = with(&[(16, 513)]);
-                bytes.truncate(20);
-                bytes
-            },
+            with(&[(16, 513)])[..20].to_vec(),
             "refused 10 at 16\n",
         ),
+        case("a broken entry, then an end", broken_entry[..44].to_vec(), "refused 12 at 40\n"),
+        case("an end in a broken field", broken_entry[..43].to_vec(), "refused 12 at 43\n"),
     ]
 }
 
-/// Which refusal comes first, and the byte that it names.
+/// Which refusal of a file of the right form comes first, and the byte that it names.
 fn order() -> Vec<Case> {
     let outside = READING_LIMIT as u32 + 1;
     let lowest = (-READING_LIMIT - 1) as u32;
-    let seven: [(u32, &[i32]); 2] = [(100, &[4160]), (50, &[64])];
     let both: [(u32, &[i32]); 1] = [(100, &[4160, READING_LIMIT + 1])];
     vec![
         case("0 axes", with(&[(0, 0)]), "refused 1 at 0\n"),
@@ -234,14 +248,34 @@ fn order() -> Vec<Case> {
         case("budget 0", with(&[(4, 0)]), "refused 2 at 4\n"),
         case("budget 8,193", with(&[(4, 8193)]), "refused 2 at 4\n"),
         case("1 before 2", with(&[(0, 0), (4, 0)]), "refused 1 at 0\n"),
-        case("10 before 1", with(&[(0, 0), (68, 0)]), "refused 10 at 68\n"),
-        case("10 before 2", with(&[(4, 0), (20, 0)]), "refused 10 at 20\n"),
-        case("10 before 1, at the last byte", with(&[(0, 0)])[..99].to_vec(), "refused 10 at 99\n"),
         case("2 before a reading out of range", with(&[(4, 0), (72, outside)]), "refused 2 at 4\n"),
-        case("7 names the count field", file(2, 64, 40, &seven), "refused 7 at 40\n"),
+        case("7 names the count field", file(2, 64, 40, &SEVEN), "refused 7 at 40\n"),
         case("7 before 8", file(2, 64, 40, &both), "refused 7 at 28\n"),
         case("8 names the reading", with(&[(80, outside)]), "refused 8 at 80\n"),
         case("8 names the first of two", with(&[(84, lowest), (88, outside)]), "refused 8 at 84\n"),
         case("the largest reading passes", with(&[(72, outside - 1)]), "end met\n"),
+    ]
+}
+
+/// Entries of which the second is one reading short of its block.
+const SEVEN: [(u32, &[i32]); 2] = [(100, &[4160]), (50, &[64])];
+
+/// The whole form before start, and so before any delivery.
+fn form_first() -> Vec<Case> {
+    let outside = READING_LIMIT as u32 + 1;
+    let mut seven = file(2, 64, 40, &[SEVEN[0], SEVEN[1], (0, &[4096, 4224])]);
+    seven[56] = 0;
+    vec![
+        case("10 before 1", with(&[(0, 9)])[..23].to_vec(), "refused 10 at 23\n"),
+        case("10 before 2", with(&[(4, 0), (20, 0)]), "refused 10 at 20\n"),
+        case("12 before 1", with(&[(0, 9), (40, 0)]), "refused 12 at 40\n"),
+        case("12 before 1, at the last offset", with(&[(0, 0), (68, 0)]), "refused 12 at 68\n"),
+        case("12 before 2", with(&[(4, 0)])[..24].to_vec(), "refused 12 at 24\n"),
+        case("13 before 1, at the last byte", with(&[(0, 0)])[..99].to_vec(), "refused 13 at 99\n"),
+        case("13 before 2", longer(with(&[(4, 0)]), 1), "refused 13 at 100\n"),
+        case("12 before 7", seven, "refused 12 at 56\n"),
+        case("13 before 7", longer(file(2, 64, 40, &SEVEN), 1), "refused 13 at 56\n"),
+        case("12 before 8", with(&[(72, outside), (68, 0)]), "refused 12 at 68\n"),
+        case("13 before 8", with(&[(72, outside)])[..99].to_vec(), "refused 13 at 99\n"),
     ]
 }

@@ -1,4 +1,5 @@
-//! The job file: its form, tested field by field in byte order, and writing.
+//! The job file: its form, tested field by field in byte order, and writing. The
+//! module `form` tells the form in another way.
 //!
 //! Little-endian. Header of 24 bytes: axes, budget, threshold (8 bytes), entry
 //! count, entry table offset. Entries of 12 bytes: indicator, reading count,
@@ -32,8 +33,10 @@ pub struct JobFile {
     pub entries: Vec<Entry>,
 }
 
-/// The part of the file in which a rule of form is broken. Bytes past the last
-/// reading count as a fault of the readings.
+/// The part of the file in which a rule of form is broken. An early end belongs to the
+/// part in which something was still due, so that a file which ends right after its
+/// header or its table breaks the next part. Bytes past the last reading count as a
+/// fault of the readings, with no entries too.
 #[derive(Clone, Copy, Debug, PartialEq, Eq, Hash, PartialOrd, Ord)]
 pub enum Part {
     Header,

@@ -1,10 +1,11 @@
 //! An independent reference for the sparse-grid integrator.
 //!
 //! Everything here is written from the scope document alone, the calls points
-//! and doubles, the order of a block's points, the carried error and the two calls
-//! choose and promote from the texts that ask for them, and follows their sentences as
-//! literally as possible. Each request changes it first, from the request's words. It
-//! is a test and not a delivery: where a choice lay between clear and fast, it is clear.
+//! and doubles, the order of a block's points, the carried error, the two calls
+//! choose and promote and the numbers of a job file's parts from the texts that ask
+//! for them, and follows their sentences as literally as possible. Each request changes
+//! it first, from the request's words. It is a test and not a delivery: where a choice
+//! lay between clear and fast, it is clear.
 //!
 //! From the inside out:
 //! - [`rule`] and [`trapezoid`]: the rule along one axis, twice;
@@ -17,7 +18,8 @@
 //! - [`algorithm`]: Fig. 1 of the published algorithm, led;
 //! - [`laws`]: what point says of points, that no walk jumps, what result and the
 //!   differences say of doubles, and what result and Fig. 1 say of choose and promote;
-//! - [`jobfile`], [`jobtext`], [`program`], [`replay`]: job files and reports;
+//! - [`jobfile`] and [`form`]: job files, and their form twice;
+//! - [`jobtext`], [`program`], [`replay`]: a job as text, and reports;
 //! - [`rng`], [`style`], [`corner`], [`generate`], [`damage`], [`survey`]: job files
 //!   by seed;
 //! - [`cases`], [`vectors`]: job files by name, and many in one;
@@ -45,6 +47,7 @@ pub mod doubles;
 pub mod drive;
 pub mod examples;
 pub mod figures;
+pub mod form;
 pub mod generate;
 pub mod grid;
 pub mod jobfile;

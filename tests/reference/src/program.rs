@@ -3,7 +3,7 @@
 use crate::area::Area;
 use crate::calls::{self, Cause, Choice, Promotion, Totals};
 use crate::grid::{self, BUDGET_LIMIT, HELD_LIMIT};
-use crate::jobfile::{self, JobFile};
+use crate::jobfile::{self, JobFile, Part};
 
 #[derive(Clone, Copy, Debug, PartialEq, Eq, Hash, PartialOrd, Ord)]
 pub enum Ending {
@@ -39,7 +39,17 @@ pub fn report(input: &[u8]) -> String {
 pub fn outcome(input: &[u8]) -> Outcome {
     match jobfile::parse(input) {
         Ok(job) => run(&job, &mut Area::empty(HELD_LIMIT, BUDGET_LIMIT as usize)),
-        Err(fault) => Outcome::Refused { cause: Cause::JobFileMalformed, byte: fault.byte },
+        Err(fault) => Outcome::Refused { cause: cause_of(fault.part), byte: fault.byte },
+    }
+}
+
+/// "Number 10 is kept for the 24-byte header", and the two other parts have a number
+/// each: "entry faults give 12, reading faults 13".
+fn cause_of(part: Part) -> Cause {
+    match part {
+        Part::Header => Cause::HeaderMalformed,
+        Part::EntryTable => Cause::EntryTableMalformed,
+        Part::Readings => Cause::ReadingsMalformed,
     }
 }
 

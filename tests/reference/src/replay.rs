@@ -1,9 +1,11 @@
 //! A job file worked on the log alone, without an area: the report it must
-//! print, predicted from arguments. Its readings are tested here separately.
+//! print, predicted from arguments. Its form and its readings are tested here
+//! separately, the form by `form`.
 
 use crate::call::{Answer, Call, Lengths};
 use crate::calls::{Cause, Choice, Promotion};
-use crate::jobfile::{self, Entry, JobFile, Part};
+use crate::form;
+use crate::jobfile::{Entry, JobFile};
 use crate::log::{Job, Log};
 use crate::program::{Ending, Outcome};
 use crate::promotes;
@@ -15,26 +17,41 @@ pub const LENT: Lengths = Lengths { records: 512, store: 8192 };
 #[derive(Clone, Debug, PartialEq, Eq)]
 pub struct Prediction {
     pub outcome: Outcome,
-    /// The broken part of a malformed file.
-    pub part: Option<Part>,
+    /// What breaks the form of a malformed file, by name.
+    pub broken_by: Option<&'static str>,
+    /// The refusal over which that of a malformed file goes: the one that what is right
+    /// in the file would come to.
+    pub before: Option<Cause>,
     /// What the chooses and promotes of a run that ended were like, by name.
     pub promotes: BTreeSet<&'static str>,
 }
 
 impl Prediction {
     fn refused(cause: Cause, byte: usize) -> Prediction {
-        let outcome = Outcome::Refused { cause, byte };
-        Prediction { outcome, part: None, promotes: BTreeSet::new() }
+        Prediction::of(Outcome::Refused { cause, byte })
+    }
+
+    fn of(outcome: Outcome) -> Prediction {
+        Prediction { outcome, broken_by: None, before: None, promotes: BTreeSet::new() }
+    }
+
+    fn refusal(&self) -> Option<Cause> {
+        match self.outcome {
+            Outcome::Refused { cause, .. } => Some(cause),
+            Outcome::Ended { .. } => None,
+        }
     }
 }
 
 pub fn predict(input: &[u8]) -> Prediction {
-    match jobfile::parse(input) {
-        Ok(job) => predict_job(&job),
-        Err(fault) => Prediction {
-            part: Some(fault.part),
-            ..Prediction::refused(Cause::JobFileMalformed, fault.byte)
-        },
+    let so_far = form::job_so_far(input).map(|job| predict_job(&job));
+    let Some(found) = form::find(input) else {
+        return so_far.expect("a file of the right form is a job");
+    };
+    Prediction {
+        broken_by: Some(found.by),
+        before: so_far.and_then(|prediction| prediction.refusal()),
+        ..Prediction::refused(form::cause(input, found.byte), found.byte)
     }
 }
 
@@ -117,8 +134,8 @@ impl Replay<'_> {
             unreachable!("result is not refused in a run");
         };
         let (axes, unused) = (self.job().axes as u32, self.entries.len());
-        let outcome = Outcome::Ended { axes, totals, unused, ending };
-        Prediction { outcome, part: None, promotes: std::mem::take(&mut self.promotes) }
+        let promotes = std::mem::take(&mut self.promotes);
+        Prediction { promotes, ..Prediction::of(Outcome::Ended { axes, totals, unused, ending }) }
     }
 }
 

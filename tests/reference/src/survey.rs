@@ -42,16 +42,20 @@ pub fn checked_outcome(seed: u64, generated: &Generated, counts: &mut Counts) ->
 fn assert_fault(seed: u64, generated: &Generated, predicted: &Prediction) {
     if let Some(byte) = generated.fault_byte {
         let text = program::text(&predicted.outcome);
-        assert_eq!(text, format!("refused 10 at {byte}\n"), "the fault of seed {seed}");
+        assert!(text.ends_with(&format!(" at {byte}\n")), "the fault of seed {seed}: {text}");
     }
 }
 
 fn note(predicted: &Prediction, count: &mut impl FnMut(String)) {
     match predicted.outcome {
         Outcome::Refused { cause, .. } => {
-            count(format!("refused {}", cause.number()));
-            if let Some(part) = predicted.part {
-                count(format!("fault in {part:?}"));
+            let number = cause.number();
+            count(format!("refused {number}"));
+            if let Some(by) = predicted.broken_by {
+                count(format!("refused {number} by {by}"));
+            }
+            if let Some(cause) = predicted.before {
+                count(format!("refused {number} before {}", cause.number()));
             }
         }
         Outcome::Ended { axes, totals, unused, ending } => {
@@ -87,7 +91,7 @@ fn ending_name(ending: Ending, predicted: &Prediction) -> String {
     }
 }
 
-const DUE: [&str; 26] = [
+const DUE: [&str; 33] = [
     "end met",
     "end capped",
     "end short",
@@ -111,15 +115,22 @@ const DUE: [&str; 26] = [
     "promote promoted at the ceiling of excess alone",
     "promote promoted at both ceilings",
     "promote spent with carried above 0",
-    "fault in Header",
-    "fault in EntryTable",
-    "fault in Readings",
+    "refused 10 by an early end",
+    "refused 10 by the entry count",
+    "refused 10 by the table offset",
+    "refused 12 by an early end",
+    "refused 12 by a reading count of 0",
+    "refused 12 by a reading count above 8,192",
+    "refused 12 by a total above 8,192",
+    "refused 12 by an offset",
+    "refused 13 by too few readings",
+    "refused 13 by bytes too many",
 ];
 
 /// What a survey has to see and didn't.
 pub fn missing(counts: &Counts) -> Vec<String> {
     let mut due: Vec<String> = DUE.iter().map(|what| what.to_string()).collect();
-    due.extend([1, 2, 7, 8, 10].map(|number| format!("refused {number}")));
+    due.extend([1, 2, 7, 8, 10, 12, 13].map(|number| format!("refused {number}")));
     due.extend((1..=8).map(|axes| format!("ended with axes {axes}")));
     due.extend(DAMAGES.map(|damage| kind_name(Kind::Damaged(damage))));
     due.retain(|what| !counts.contains_key(what));

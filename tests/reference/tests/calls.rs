@@ -301,10 +301,12 @@ fn the_numbers_of_the_causes() {
         Cause::ReadingCountWrong,
         Cause::ReadingOutOfRange,
         Cause::PointNumberTooLarge,
-        Cause::JobFileMalformed,
+        Cause::HeaderMalformed,
         Cause::PlaceNotActive,
+        Cause::EntryTableMalformed,
+        Cause::ReadingsMalformed,
     ];
-    assert_eq!(causes.map(Cause::number), [1, 2, 3, 4, 5, 6, 7, 8, 9, 10, 11]);
+    assert_eq!(causes.map(Cause::number), [1, 2, 3, 4, 5, 6, 7, 8, 9, 10, 11, 12, 13]);
 }
 
 /// "An altered area can be sound with another mean": result gives the recorded

@@ -78,13 +78,22 @@ fn an_empty_file() {
 #[test]
 fn a_file_cut_anywhere_names_its_length() {
     for length in 0..100 {
-        assert_eq!(report(&SCOPE_FILE[..length]), format!("refused 10 at {length}\n"));
-        let part = match length {
-            0..=23 => Part::Header,
-            24..=71 => Part::EntryTable,
-            _ => Part::Readings,
+        let (part, number) = match length {
+            0..=23 => (Part::Header, 10),
+            24..=71 => (Part::EntryTable, 12),
+            _ => (Part::Readings, 13),
         };
+        assert_eq!(report(&SCOPE_FILE[..length]), format!("refused {number} at {length}\n"));
         assert_eq!(jobfile::parse(&SCOPE_FILE[..length]), Err(Fault { part, byte: length }));
+    }
+}
+
+/// A file without entries has no table and no readings to end in.
+#[test]
+fn a_file_without_entries_cut_anywhere() {
+    let none = jobfile::write(&job(2, 64, 40, &[]));
+    for length in 0..24 {
+        assert_eq!(report(&none[..length]), format!("refused 10 at {length}\n"));
     }
 }
 
@@ -93,48 +102,69 @@ fn the_first_byte_too_many() {
     for extra in [1, 4, 50_000] {
         let mut bytes = SCOPE_FILE.to_vec();
         bytes.resize(100 + extra, 0);
-        assert_eq!(report(&bytes), "refused 10 at 100\n");
+        assert_eq!(report(&bytes), "refused 13 at 100\n");
     }
     let none = jobfile::write(&job(2, 64, 40, &[]));
     assert_eq!(none.len(), 24);
     assert!(report(&none).ends_with("end short\n"), "no entries is right in form");
-    let mut one_more = none;
-    one_more.push(0);
-    assert_eq!(report(&one_more), "refused 10 at 24\n");
+    for extra in [1, 12, 50_000] {
+        let mut more = none.clone();
+        more.resize(24 + extra, 0);
+        assert_eq!(report(&more), "refused 13 at 24\n");
+    }
 }
 
 #[test]
 fn every_wrong_field_names_its_first_byte() {
-    for (at, fields) in [
-        (16, vec![513, 514, 1 << 16, u32::MAX]),
-        (20, vec![0, 23, 25, 36, 24 << 8, u32::MAX]),
-        (28, vec![0, 8193, u32::MAX]),
-        (32, vec![0, 24, 71, 73, 76, u32::MAX]),
-        (40, vec![0, 8192, 8193, u32::MAX]),
-        (44, vec![72, 75, 77, 80]),
-        (68, vec![88, 91, 93, 96, 100]),
+    for (number, at, fields) in [
+        (10, 16, vec![513, 514, 1 << 16, u32::MAX]),
+        (10, 20, vec![0, 23, 25, 36, 24 << 8, u32::MAX]),
+        (12, 28, vec![0, 8193, u32::MAX]),
+        (12, 32, vec![0, 24, 71, 73, 76, u32::MAX]),
+        (12, 40, vec![0, 8192, 8193, u32::MAX]),
+        (12, 44, vec![72, 75, 77, 80]),
+        (12, 68, vec![88, 91, 93, 96, 100]),
     ] {
         for field in fields {
-            assert_eq!(report(&with_field(at, field)), format!("refused 10 at {at}\n"), "{field}");
+            let refused = format!("refused {number} at {at}\n");
+            assert_eq!(report(&with_field(at, field)), refused, "{field}");
         }
     }
+}
+
+/// A reading count that is in range but wrong breaks no rule of its own field.
+#[test]
+fn a_wrong_reading_count_shows_at_the_next_rule() {
     // The second entry's count brings the total to just 8,192: its own field is
     // right and the next entry's count passes the total.
-    assert_eq!(report(&with_field(40, 8191)), "refused 10 at 52\n");
-    assert_eq!(report(&with_field(40, 3)), "refused 10 at 56\n", "the third entry's offset");
-    assert_eq!(report(&with_field(64, 1)), "refused 10 at 96\n", "a reading too many");
-    assert_eq!(report(&with_field(64, 3)), "refused 10 at 100\n", "a reading too few");
+    assert_eq!(report(&with_field(40, 8191)), "refused 12 at 52\n");
+    assert_eq!(report(&with_field(40, 8190)), "refused 12 at 52\n");
+    assert_eq!(report(&with_field(40, 8189)), "refused 12 at 56\n", "room for the third entry");
+    assert_eq!(report(&with_field(40, 1)), "refused 12 at 56\n", "the third entry's offset");
+    assert_eq!(report(&with_field(40, 3)), "refused 12 at 56\n", "the third entry's offset");
+    assert_eq!(report(&with_field(64, 1)), "refused 13 at 96\n", "a reading too many");
+    for count in [3, 4, 8187] {
+        assert_eq!(report(&with_field(64, count)), "refused 13 at 100\n", "readings too few");
+    }
+    assert_eq!(report(&with_field(64, 8188)), "refused 12 at 64\n", "the total passed");
 }
 
 #[test]
 fn counts_against_the_end_of_the_file() {
-    assert_eq!(report(&with_field(16, 512)), "refused 10 at 32\n");
+    for count in [1, 2, 3, 5, 512] {
+        assert_eq!(report(&with_field(16, count)), "refused 12 at 32\n", "{count} entries");
+    }
+    assert_eq!(report(&with_field(16, 0)), "refused 13 at 24\n");
+    assert_eq!(report(&with_field(16, 512)[..32]), "refused 12 at 32\n");
     let too_many = with_field(16, 513);
     assert_eq!(report(&too_many[..20]), "refused 10 at 16\n");
     assert_eq!(report(&too_many[..19]), "refused 10 at 19\n");
     assert_eq!(report(&with_field(20, 25)[..24]), "refused 10 at 20\n");
-    assert_eq!(report(&with_field(28, 0)[..32]), "refused 10 at 28\n");
-    assert_eq!(report(&with_field(28, 0)[..31]), "refused 10 at 31\n");
+    assert_eq!(report(&with_field(20, 25)[..23]), "refused 10 at 23\n");
+    assert_eq!(report(&with_field(28, 0)[..32]), "refused 12 at 28\n");
+    assert_eq!(report(&with_field(28, 0)[..31]), "refused 12 at 31\n");
+    assert_eq!(report(&with_field(68, 0)[..72]), "refused 12 at 68\n");
+    assert_eq!(report(&with_field(68, 0)[..71]), "refused 12 at 71\n");
 }
 
 #[test]
@@ -145,9 +175,10 @@ fn form_comes_before_start_and_in_byte_order() {
     assert_eq!(report(&bytes), "refused 1 at 0\n");
     bytes[96..100].copy_from_slice(&i32::MAX.to_le_bytes());
     assert_eq!(report(&bytes), "refused 1 at 0\n");
-    assert_eq!(report(&bytes[..99]), "refused 10 at 99\n");
+    assert_eq!(report(&bytes[..99]), "refused 13 at 99\n");
     bytes[68] = 0;
-    assert_eq!(report(&bytes), "refused 10 at 68\n");
+    assert_eq!(report(&bytes), "refused 12 at 68\n");
+    assert_eq!(report(&bytes[..67]), "refused 12 at 67\n");
     bytes[20] = 0;
     assert_eq!(report(&bytes), "refused 10 at 20\n");
     bytes[17] = 2;
@@ -232,6 +263,6 @@ fn so_many_bytes_decide_every_file() {
     assert_eq!(bytes.len(), 38_936);
     assert_eq!(report(&bytes), "refused 7 at 28\n", "well-formed and as long as can be");
     bytes.extend([0; 1_000]);
-    assert_eq!(report(&bytes), "refused 10 at 38936\n");
-    assert_eq!(report(&bytes[..DECIDING_BYTES]), "refused 10 at 38936\n");
+    assert_eq!(report(&bytes), "refused 13 at 38936\n");
+    assert_eq!(report(&bytes[..DECIDING_BYTES]), "refused 13 at 38936\n");
 }
