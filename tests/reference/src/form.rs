@@ -1,6 +1,6 @@
 //! The form of a job file, told by places and lengths, and not field after field as
-//! `jobfile` tests it. A field lies where the entry count says, an entry's readings lie
-//! behind those of the entry before, and the file ends behind the last entry's. The
+//! `jobfile` tests it. Each field is looked up at its place, an entry's readings are due
+//! where those of the entry before end, and the file's end where the last entry's do. The
 //! number of a refusal is told by its byte. The two ways hold each other.
 
 use crate::calls::Cause;

@@ -4,12 +4,13 @@
 
 use crate::call::{Answer, Call};
 use crate::corner::{self, Corner};
-use crate::damage::{self, Damage};
-use crate::grid::{self, Levels, BUDGET_LIMIT, READING_LIMIT, ROOT};
+use crate::damage::{self, Damage, Damaged, Refusal};
+use crate::grid::{Levels, BUDGET_LIMIT, ROOT};
 use crate::jobfile::{self, Entry, JobFile, MOST_ENTRIES, MOST_READINGS};
 use crate::log::{Job, Log};
 use crate::replay::{self, LENT};
 use crate::rng::Rng;
+use crate::spoil;
 use crate::style::{self, IndicatorStyle, ReadingStyle};
 
 #[derive(Clone, Copy, Debug, PartialEq, Eq, Hash, PartialOrd, Ord)]
@@ -47,9 +48,8 @@ pub enum Kind {
 pub struct Generated {
     pub kind: Kind,
     pub bytes: Vec<u8>,
-    /// For damaged files, the byte a report must name, where the damage alone
-    /// tells it.
-    pub fault_byte: Option<usize>,
+    /// For damaged files, what the report must be, where the damage alone tells it.
+    pub refusal: Option<Refusal>,
 }
 
 /// How a job is to run.
@@ -172,15 +172,12 @@ fn choose_kind(rng: &mut Rng) -> Kind {
 pub fn generate(seed: u64) -> Generated {
     let mut rng = Rng::new(seed);
     let kind = choose_kind(&mut rng);
-    let (bytes, fault_byte) = match kind {
-        Kind::Damaged(how) => {
-            let shape = any_shape(&mut rng);
-            let job = job_of(&shape, run(&shape, &mut rng).entries);
-            damage::damage(how, &job, &mut rng)
-        }
-        _ => (jobfile::write(&job_of_kind(kind, &mut rng)), None),
+    let job = job_of_kind(kind, &mut rng);
+    let Damaged { bytes, refusal } = match kind {
+        Kind::Damaged(how) => damage::damage(how, &job, &mut rng),
+        _ => Damaged { bytes: jobfile::write(&job), refusal: None },
     };
-    Generated { kind, bytes, fault_byte }
+    Generated { kind, bytes, refusal }
 }
 
 fn job_of_kind(kind: Kind, rng: &mut Rng) -> JobFile {
@@ -230,11 +227,15 @@ fn job_of_kind(kind: Kind, rng: &mut Rng) -> JobFile {
             let shape = lasting_shape(rng);
             let mut entries = run(&shape, rng).entries;
             let place = rng.place(entries.len());
-            corrupt(kind, &mut entries[place].readings, rng);
+            let readings = &mut entries[place].readings;
+            match kind {
+                Kind::CountWrong => spoil::count(readings, rng),
+                _ => spoil::reading(readings, rng),
+            }
             if rng.percent(30) {
                 // A second fault in the same entry: 7 comes before 8, and 8
                 // names the first bad reading.
-                corrupt(Kind::ReadingOutside, &mut entries[place].readings, rng);
+                spoil::reading(readings, rng);
             }
             job_of(&shape, entries)
         }
@@ -242,10 +243,10 @@ fn job_of_kind(kind: Kind, rng: &mut Rng) -> JobFile {
             let shape = any_shape(rng);
             let mut job = job_of(&shape, run(&shape, rng).entries);
             if kind == Kind::AxesOutside {
-                job.axes = rng.pick(&[0, 9, 10, 256, 257, u32::MAX]);
+                spoil::axes(&mut job, rng);
             }
             if kind == Kind::BudgetOutside || rng.percent(30) {
-                job.budget = rng.pick(&[0, 8_193, 8_194, 65_537, u32::MAX]);
+                spoil::budget(&mut job, rng);
             }
             job
         }
@@ -322,19 +323,4 @@ fn fill_up(entries: &mut Vec<Entry>) {
         };
         entries.push(Entry { indicator: 7, readings: vec![i32::MIN; own] });
     }
-}
-
-fn corrupt(kind: Kind, readings: &mut Vec<i32>, rng: &mut Rng) {
-    if kind == Kind::CountWrong {
-        if readings.len() > 1 && rng.percent(50) {
-            readings.pop();
-        } else {
-            readings.push(0);
-        }
-        return;
-    }
-    let place = rng.place(readings.len());
-    readings[place] =
-        rng.pick(&[READING_LIMIT + 1, -READING_LIMIT - 1, i32::MAX, i32::MIN, READING_LIMIT * 2]);
-    assert!(!grid::reading_in_range(readings[place]));
 }

@@ -20,8 +20,8 @@
 //!   differences say of doubles, and what result and Fig. 1 say of choose and promote;
 //! - [`jobfile`] and [`form`]: job files, and their form twice;
 //! - [`jobtext`], [`program`], [`replay`]: a job as text, and reports;
-//! - [`rng`], [`style`], [`corner`], [`generate`], [`damage`], [`survey`]: job files
-//!   by seed;
+//! - [`rng`], [`style`], [`corner`], [`generate`], [`spoil`], [`damage`], [`survey`]:
+//!   job files by seed;
 //! - [`cases`], [`vectors`]: job files by name, and many in one;
 //! - [`choice`], [`places`], [`drive`] and [`promotes`]: lists of calls by seed, where
 //!   they promote, and what their chooses and promotes were like;
@@ -64,6 +64,7 @@ pub mod rng;
 pub mod rule;
 pub mod sample;
 pub mod soundness;
+pub mod spoil;
 pub mod steps;
 pub mod style;
 pub mod sums;

@@ -1,7 +1,7 @@
 //! Runs generated job files through the program, holds each report against the
 //! one predicted from the log, and counts what was seen.
 
-use crate::damage::DAMAGES;
+use crate::damage::{Refusal, DAMAGES};
 use crate::generate::{self, Generated, Kind};
 use crate::program::{self, Ending, Outcome};
 use crate::replay::{self, Prediction};
@@ -31,18 +31,18 @@ pub fn checked_outcome(seed: u64, generated: &Generated, counts: &mut Counts) ->
     let outcome = program::outcome(&generated.bytes);
     let predicted = replay::predict(&generated.bytes);
     assert_eq!(outcome, predicted.outcome, "the report of seed {seed}");
-    assert_fault(seed, generated, &predicted);
+    assert_refusal(seed, generated, &outcome);
     let mut count = |what: String| *counts.entry(what).or_insert(0) += 1;
     count(kind_name(generated.kind));
     note(&predicted, &mut count);
     outcome
 }
 
-/// Where the damage alone tells the byte, the report names it.
-fn assert_fault(seed: u64, generated: &Generated, predicted: &Prediction) {
-    if let Some(byte) = generated.fault_byte {
-        let text = program::text(&predicted.outcome);
-        assert!(text.ends_with(&format!(" at {byte}\n")), "the fault of seed {seed}: {text}");
+/// Where the damage alone tells the refusal, the report is that.
+fn assert_refusal(seed: u64, generated: &Generated, outcome: &Outcome) {
+    if let Some(Refusal { number, byte }) = generated.refusal {
+        let text = program::text(outcome);
+        assert_eq!(text, format!("refused {number} at {byte}\n"), "the damage of seed {seed}");
     }
 }
 
@@ -91,7 +91,7 @@ fn ending_name(ending: Ending, predicted: &Prediction) -> String {
     }
 }
 
-const DUE: [&str; 33] = [
+const DUE: [&str; 43] = [
     "end met",
     "end capped",
     "end short",
@@ -125,6 +125,16 @@ const DUE: [&str; 33] = [
     "refused 12 by an offset",
     "refused 13 by too few readings",
     "refused 13 by bytes too many",
+    "refused 10 before 1",
+    "refused 10 before 2",
+    "refused 12 before 1",
+    "refused 12 before 2",
+    "refused 12 before 7",
+    "refused 12 before 8",
+    "refused 13 before 1",
+    "refused 13 before 2",
+    "refused 13 before 7",
+    "refused 13 before 8",
 ];
 
 /// What a survey has to see and didn't.

@@ -1,9 +1,10 @@
 //! What the runs of fixed seeds in the repository's tests see of choose, promote and
 //! the carried error: every answer, each place that is and isn't an active index's,
-//! every end, each ceiling, each way that the threshold lies to both errors.
+//! every end, each ceiling, each way that the threshold lies to both errors. And what
+//! they see of job files: every refusal, each way to break the form.
 
 use reference::drive::{drive, missing, Counts, ENOUGH};
-use reference::survey::survey;
+use reference::survey::{self, survey};
 
 /// What the carried error comes to, by the rule or not.
 const CARRIED: [&str; 14] = [
@@ -45,17 +46,21 @@ fn lists_of_calls_see_what_is_carried() {
     assert!(seen["highest carried error"] > 1 << 32, "{seen:?}");
 }
 
-/// By the rule alone a job that carries is never met. Let c be the indicator of
-/// an index that is carried, and e the last promotion, its own or a later one, of
-/// an indicator of at most c. At e the pending error was above the threshold, so
-/// that the other active indices had more than the threshold less c; none of them
-/// was larger than e, so that none is promoted later, for then only indicators
+/// All that a survey has to see. By the rule alone a job that carries is never met. Let
+/// c be the indicator of an index that is carried, and e the last promotion, its own or
+/// a later one, of an indicator of at most c. At e the pending error was above the
+/// threshold, so that the other active indices had more than the threshold less c; none
+/// of them was larger than e, so that none is promoted later, for then only indicators
 /// above c are. So pending and c together stay above the threshold. The program goes
 /// by the rule; lists in which each promoted place was the one that choose would have
 /// answered are asserted in `drive`. Where another place is promoted it can be met.
 #[test]
-fn job_files_see_what_is_carried() {
+fn job_files_see_all_that_is_due() {
     let seen = survey(1, 1_000);
+    assert_eq!(survey::missing(&seen), [] as [String; 0], "{seen:?}");
+    for (name, count) in seen.iter().filter(|(name, _)| name.starts_with("refused")) {
+        assert!(*count >= 2, "{name}: {count}");
+    }
     assert_seen(&seen, &CARRIED, 2);
     assert!(!seen.contains_key("choose met with carried above 0"), "{seen:?}");
     for name in seen.keys().filter(|name| name.starts_with("promote")) {

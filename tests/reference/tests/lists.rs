@@ -1,9 +1,8 @@
-//! Lists of calls against the log, and generated files against the log's own
-//! report; short runs of fixed seeds.
+//! Lists of calls against the log, and generated files made again; short runs of
+//! fixed seeds. Generated files are held against the log's own report in `coverage`.
 
 use reference::drive::{drive, missing};
 use reference::generate::{generate, Kind};
-use reference::survey;
 
 /// What points comes to as the block or the buffer ends first, and as a row does.
 const POINTS: [&str; 8] = [
@@ -57,12 +56,6 @@ fn random_lists_of_calls() {
     for answer in DOUBLES {
         assert!(seen[&format!("doubles {answer}")] > 5, "{answer}: {seen:?}");
     }
-}
-
-#[test]
-fn a_survey_sees_all_there_is_to_see() {
-    let counts = survey::survey(1, 400);
-    assert_eq!(survey::missing(&counts), [] as [String; 0], "{counts:?}");
 }
 
 #[test]
