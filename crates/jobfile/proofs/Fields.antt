@@ -5,7 +5,7 @@ use mathlib.Core.Bool.{Bool, true, false, cond, _&&_}
 use Prim.Native.Nat.{ℕ, _+_, _<_, _≤_}
 use native.Mathlib.Omega.{arith}
 use lib.Dec.{ltb, leb}
-use borrow.Author.Tests.{ltb-false, lt-ltb, le-ltb, leb-true, le-leb, lt-leb}
+use borrow.Author.Tests.{ltb-true, ltb-false, lt-ltb, le-ltb, leb-true, le-leb, lt-leb}
 use Rattle.jobfile.specs.Form.{Fault, Form, formed, broken, field}
 
 pub never-both : {f : Fault} → formed ≡ broken f → ⊥
@@ -24,6 +24,17 @@ module _ (part : ℕ → Fault) (size from n : ℕ) (rule : Bool) (next : Form) 
   unfolding field
   kept h e = rw (le-ltb size (from + n) h, e)
 
+  -- so what holds in each of the three cases holds of the test
+  pub by-field : (P : Form → Type 0) → (size < from + n → P (broken (part size))) → (from + n ≤ size → rule ≡ true → P next)
+      → (from + n ≤ size → rule ≡ false → P (broken (part from))) → P (field part size from n rule next)
+  unfolding field
+  by-field P early later wrong = by (ltb size (from + n)) rule refl refl
+    where
+      by : (t r : Bool) → ltb size (from + n) ≡ t → rule ≡ r → P (cond t (broken (part size)) (cond r next (broken (part from))))
+      by true r t u = early (ltb-true size (from + n) t)
+      by false true t u = later (ltb-false size (from + n) t) u
+      by false false t u = wrong (ltb-false size (from + n) t) u
+
 -- a field without a rule, where the file ends before what comes next: it ends early all the same
 pub cut-later : (part : ℕ → Fault) (size from n : ℕ) (next : Form) → next ≡ broken (part size) → field part size from n true next ≡ broken (part size)
 unfolding field
@@ -39,15 +50,10 @@ pub record Kept (size from n : ℕ) (rule : Bool) (next : Form) : Type 0 where
   pub keeps : rule ≡ true
   pub rest : next ≡ formed
 
-kept-by : (part : ℕ → Fault) (size from n : ℕ) (b rule : Bool) (next : Form) → ltb size (from + n) ≡ b
-    → cond b (broken (part size)) (cond rule next (broken (part from))) ≡ formed → Kept size from n rule next
-kept-by part size from n true rule next t e = absurd (never-both (sym e))
-kept-by part size from n false true next t e = record { inside = ltb-false size (from + n) t; keeps = refl; rest = e }
-kept-by part size from n false false next t e = absurd (never-both (sym e))
-
 pub has-field : (part : ℕ → Fault) (size from n : ℕ) (rule : Bool) (next : Form) → field part size from n rule next ≡ formed → Kept size from n rule next
-unfolding field
-has-field part size from n rule next e = kept-by part size from n (ltb size (from + n)) rule next refl e
+has-field part size from n rule next =
+    by-field part size from n rule next (λ t. t ≡ formed → Kept size from n rule next) (λ h e. absurd (never-both (sym e)))
+    (λ h u e. record { inside = h; keeps = u; rest = e }) (λ h u e. absurd (never-both (sym e)))
 
 -- a field that stops the test does so whatever comes next
 pub stops : (part : ℕ → Fault) (size from n : ℕ) (rule : Bool) (a b : Form) {f : Fault} → (a ≡ broken f → b ≡ broken f)

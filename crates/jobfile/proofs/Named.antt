@@ -6,14 +6,14 @@ use mathlib.Core.Bool.{Bool, true, false, cond}
 use mathlib.Core.List.{List}
 use Prim.Native.Nat.{ℕ, zero, suc, _+_, _*_, _<_, _≤_}
 use native.Mathlib.Omega.{arith}
-use lib.Dec.{ltb, leb, eqb}
+use lib.Dec.{leb, eqb}
 use lib.ListN.{length}
-use borrow.Author.Tests.{ltb-true, ltb-false, leb-true, le-leb, eqb-true, eqb-false, eq-eqb}
+use borrow.Author.Tests.{leb-true, le-leb, eqb-true, eqb-false, eq-eqb}
 use Rattle.jobfile.specs.Bytes.{four}
 use Rattle.jobfile.specs.Form.{Fault, Form, header, entry, readings, formed, broken, field, headerForm, entryCount, entryByte, readingsByte, tableForm, readingsForm, formOf}
 use Rattle.jobfile.specs.File.{totalBefore}
 use Rattle.jobfile.specs.Fields.{Field, axes, budget, threshold, entries, tableOffset, indicator, count, offset, reading, width, firstByte, total, HasField, Rule, KeptBefore, NamedByte}
-use Rattle.jobfile.proofs.Fields.{never-both, countRule, rule-kept, in-range}
+use Rattle.jobfile.proofs.Fields.{never-both, by-field, countRule, rule-kept, in-range}
 use Rattle.jobfile.proofs.TableForm.{nothing-before, before-next}
 use Rattle.jobfile.proofs.Places.{one-more, none-before, before-end}
 
@@ -34,25 +34,19 @@ module _ (c : List ℕ) where
   module _ (part : ℕ → Fault) (names : (b : ℕ) → part b .byte ≡ b) (f : Field) (has : HasField c f) (r : Bool) (sure : r ≡ true → Rule c f) (back : Rule c f → r ≡ true)
       (next : Form) (later : From (firstByte c f + width f) next) where
     tested : From (firstByte c f) (field part (length c) (firstByte c f) (width f) r next)
-    unfolding field
-    tested l before x = by (ltb (length c) (firstByte c f + width f)) r refl refl
-      where
-        by : (t q : Bool) → ltb (length c) (firstByte c f + width f) ≡ t → r ≡ q
-            → cond t (broken (part (length c))) (cond q next (broken (part (firstByte c f)))) ≡ broken x → NamedByte c (x .byte)
-        by true q t u e =
-            inr (inl (record { field = f; has = has; before = before; cut-off = ltb-true (length c) (firstByte c f + width f) t; named = same-byte e ∙ names (length c) }))
-        by false true t u e =
-            let inside = ltb-false (length c) (firstByte c f + width f) t in
-            later inside (one-more c f has before (record { inside = inside; rule = sure u })) x e
-        by false false t u e =
-            inl (record {
-              field = f;
-              has = has;
-              before = before;
-              inside = ltb-false (length c) (firstByte c f + width f) t;
-              breaks = λ k. let clash : true ≡ false = sym (back k) ∙ u in let z : _≡_ {A = ℕ} 0 1 = cc in omega arith;
-              named = same-byte e ∙ names (firstByte c f);
-            })
+    tested l before x =
+        by-field part (length c) (firstByte c f) (width f) r next (λ t. t ≡ broken x → NamedByte c (x .byte))
+        (λ cut e. inr (inl (record { field = f; has = has; before = before; cut-off = cut; named = same-byte e ∙ names (length c) })))
+        (λ inside u e. later inside (one-more c f has before (record { inside = inside; rule = sure u })) x e)
+        (λ inside u e.
+        inl (record {
+          field = f;
+          has = has;
+          before = before;
+          inside = inside;
+          breaks = λ k. let clash : true ≡ false = sym (back k) ∙ u in let z : _≡_ {A = ℕ} 0 1 = cc in omega arith;
+          named = same-byte e ∙ names (firstByte c f);
+        }))
 
   from-byte : (a b : ℕ) (t : Form) → a ≡ b → From b t → From a t
   from-byte a b t e w = subst (λ n. From n t) (sym e) w
