@@ -8,6 +8,7 @@ pub mod Formed
 pub mod Back
 pub mod Decided
 pub mod Numbers
+pub mod Parts
 pub mod Places
 pub mod Named
 pub mod OneByte

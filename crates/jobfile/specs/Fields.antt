@@ -1,5 +1,5 @@
--- The fields of a job file ("Job file and report") and the byte that a malformed one names, said without a test: what each field is, where it
--- begins and which rule it has. `c` is the list of the file's bytes.
+-- The fields of a job file ("Job file and report"), and the number and the byte that a malformed one is refused by, said without a test: what
+-- each field is, where it begins, which rule it has, and which part it is of. `c` is the list of the file's bytes.
 use mathlib.Core.Path.{_≡_}
 use mathlib.Core.Logic.{_⊎_}
 use mathlib.Core.List.{List}
@@ -112,3 +112,24 @@ pub record TooMany (c : List ℕ) (b : ℕ) : Type 0 where
 
 abbrev pub NamedByte : List ℕ → ℕ → Type 0
 NamedByte c b = BreaksRule c b ⊎ EndsEarly c b ⊎ TooMany c b
+
+-- ---- the number
+
+-- By the part that a field is of: the 24-byte header 10, the entry table 12, the readings 13.
+abbrev pub partNumber : Field → ℕ
+partNumber axes = 10
+partNumber budget = 10
+partNumber threshold = 10
+partNumber entries = 10
+partNumber tableOffset = 10
+partNumber (indicator i) = 12
+partNumber (count i) = 12
+partNumber (offset i) = 12
+partNumber (reading n) = 13
+
+-- n is the number of the part at fault, b the byte named: the part of the field that breaks a rule, or of the field within or before which the
+-- file ends; bytes after the last reading are a fault of the readings.
+pub record PartAtFault (c : List ℕ) (n b : ℕ) : Type 0 where
+  pub broken-rule : (x : BreaksRule c b) → n ≡ partNumber (x .field)
+  pub early-end : (x : EndsEarly c b) → n ≡ partNumber (x .field)
+  pub too-many : TooMany c b → n ≡ 13

@@ -11,15 +11,8 @@ use Rattle.jobfile.specs.declared.Table as code-table
 use Rattle.jobfile.specs.declared.Table.the-variants as tables
 use Rattle.jobfile.specs.Bytes.{four}
 
--- The part of the file in which a rule is broken. Bytes past the last reading are a fault of the readings.
-pub data Part : Type 0 where
-  inHeader : Part
-  inTable : Part
-  inReadings : Part
-
--- What a malformed file is refused by: the part, the number of the cause, and the byte named.
+-- What a malformed file is refused by: the number of the cause, which tells the part of the file at fault, and the byte named.
 pub record Fault : Type 0 where
-  pub part : Part
   pub number : ℕ
   pub byte : ℕ
 
@@ -27,16 +20,17 @@ pub data Form : Type 0 where
   formed : Form
   broken : Fault → Form
 
--- A rule broken in each of the parts, at a byte. Each part gives 10, and the answer still tells the three apart: so a number of its own for
--- a part is a change of its definition here and of its case in `formIn`.
+-- A rule broken at a byte of each part. Number 10 is kept for the 24-byte header, a file that ends within it included.
 abbrev pub header : ℕ → Fault
-header b = record { part = inHeader; number = 10; byte = b }
+header b = record { number = 10; byte = b }
 
+-- A fault in the entry table, its early end included, gives 12.
 abbrev pub entry : ℕ → Fault
-entry b = record { part = inTable; number = 10; byte = b }
+entry b = record { number = 12; byte = b }
 
+-- One in the readings gives 13: too few, or bytes after the last.
 abbrev pub readings : ℕ → Fault
-readings b = record { part = inReadings; number = 10; byte = b }
+readings b = record { number = 13; byte = b }
 
 -- A field of n bytes from a byte on, in a file of so many bytes: it must be there and keep its rule, and then the next is tested.
 unfoldable pub field : (ℕ → Fault) → (size from n : ℕ) → Bool → Form → Form
@@ -82,13 +76,13 @@ readingsForm size (suc n) from = field readings size from 4 true (readingsForm s
 unfoldable pub formOf : List ℕ → Form
 formOf c = headerForm c (tableForm c (entryCount c) 0 0 (λ total. readingsForm (length c) total (readingsByte c)))
 
--- The code's answer, case by case: *job file malformed* has the number 10 and the byte that the case holds. A file of the right form has no
--- number.
+-- The code's answer, case by case: the number of the part at fault, 10 for the header, 12 for the entry table and 13 for the readings, and
+-- the byte that the case holds. A file of the right form has no number.
 unfoldable pub formIn : code.Form → Form
 formIn forms.Formed = formed
-formIn (forms.Header b) = broken (record { part = inHeader; number = 10; byte = b })
-formIn (forms.Entry b) = broken (record { part = inTable; number = 10; byte = b })
-formIn (forms.Readings b) = broken (record { part = inReadings; number = 10; byte = b })
+formIn (forms.Header b) = broken (record { number = 10; byte = b })
+formIn (forms.Entry b) = broken (record { number = 12; byte = b })
+formIn (forms.Readings b) = broken (record { number = 13; byte = b })
 
 -- The code's answer on the table, before what comes next.
 unfoldable pub tableIn : code-table.Table → (ℕ → Form) → Form

@@ -174,7 +174,7 @@ module _ (c : List ℕ) (e : Ending) (m : Machine) (used : ℕ) (is : resultOf c
     where
       by : (t : Form) → formOf c ≡ t → formOf c ≡ formed
       by formed q = q
-      by (broken f) q = absurd (apart 10 (f .byte) (sym (execution-facts .malformed c f q) ∙ is))
+      by (broken f) q = absurd (apart (f .number) (f .byte) (sym (execution-facts .malformed c f q) ∙ is))
 
   -- and start accepts it
   pub start-accepts-it : startCause c ≡ 0

@@ -82,12 +82,22 @@ file-cases =
       out-of-range = prints (set exampleFile 82 16) (settingsOf 2 40 64) 4 (exampleEntries (pos 1065024) 0) _ refl refl refl refl refl (λ n. refl);
       many-entries = refl;
       table-offset = refl;
-      no-readings = refl;
-      gap = refl;
-      early-end = refl;
       header-cut = refl;
+      no-readings = refl;
+      overlap = refl;
+      gap = refl;
+      wrong-count = refl;
+      no-table = refl;
+      table-cut = refl;
+      no-reading = refl;
+      early-end = refl;
       too-many = refl;
-      before-all = refl;
+      after-header = refl;
+      last-count = refl;
+      header-first = refl;
+      table-first = refl;
+      readings-first = refl;
+      before-deliveries = refl;
     }
 
 -- ---- a job that reaches a ceiling

@@ -85,9 +85,9 @@ report-of c buffer e m used f h is values =
 
 -- ---- what it comes to
 
-malformed-of : (c : List ℕ) (f : Fault) → formOf c ≡ broken f → resultOf c ≡ refusedAt 10 (f .byte)
+malformed-of : (c : List ℕ) (f : Fault) → formOf c ≡ broken f → resultOf c ≡ refusedAt (f .number) (f .byte)
 unfolding resultOf resultIn
-malformed-of c f e = ap (λ x. resultIn x c) e ∙ ap (λ n. refusedAt n (f .byte)) (form-facts .malformed c f e)
+malformed-of c f e = ap (λ x. resultIn x c) e
 
 allowed-of : (c : List ℕ) → formOf c ≡ formed → AllowedResult (entryCount c) (resultOf c)
 allowed-of c e = run-allowed c (form-facts .formed-file c e .entries-at-most) e
@@ -100,10 +100,10 @@ ends-of c u = step (formOf c) refl
   where
     step : (f : Form) → formOf c ≡ f → ⊥
     step formed e = subst (AllowedResult (entryCount c)) u (allowed-of c e)
-    step (broken f) e = apart 10 (f .byte) (sym (malformed-of c f e) ∙ u)
+    step (broken f) e = apart (f .number) (f .byte) (sym (malformed-of c f e) ∙ u)
 
--- a broken form is told by its byte alone
-broken-text : (c : List ℕ) (f : Fault) → formOf c ≡ broken f → textOf c ≡ refusalText 10 (f .byte)
+-- a broken form is told by its fault alone
+broken-text : (c : List ℕ) (f : Fault) → formOf c ≡ broken f → textOf c ≡ refusalText (f .number) (f .byte)
 unfolding textOf
 broken-text c f e = ap (textIn (entryCount c)) (malformed-of c f e) ∙ unfold textIn in refl
 

@@ -124,17 +124,31 @@ pub record FileCases : Type 0 where
   pub other-count : textOf (set (set exampleFile 0 1) 48 50) ≡ bytesOf "refused 7 at 64\n"
   -- the second entry's second reading, 16448 + 2^20
   pub out-of-range : textOf (set exampleFile 82 16) ≡ bytesOf "refused 8 at 80\n"
-  -- the field that breaks a rule: 516 entries, a table offset of 25, the second entry's count of 0 and its offset of 77
-  pub many-entries : textOf (set exampleFile 17 2) ≡ bytesOf "refused 10 at 16\n"
+  -- 10, the header: 513 entries, a table offset of 25, an end within it
+  pub many-entries : textOf (set (set exampleFile 16 1) 17 2) ≡ bytesOf "refused 10 at 16\n"
   pub table-offset : textOf (set exampleFile 20 25) ≡ bytesOf "refused 10 at 20\n"
-  pub no-readings : textOf (set exampleFile 40 0) ≡ bytesOf "refused 10 at 40\n"
-  pub gap : textOf (set exampleFile 44 77) ≡ bytesOf "refused 10 at 44\n"
-  -- the file's length where it ends early
-  pub early-end : textOf (take 99 exampleFile) ≡ bytesOf "refused 10 at 99\n"
   pub header-cut : textOf (take 23 exampleFile) ≡ bytesOf "refused 10 at 23\n"
-  -- the first byte too many, also with 9 axes: 10 before all
-  pub too-many : textOf (exampleFile ++ 0 ∷ []) ≡ bytesOf "refused 10 at 100\n"
-  pub before-all : textOf (set exampleFile 0 9 ++ 0 ∷ []) ≡ bytesOf "refused 10 at 100\n"
+  -- 12, the entry table: the second entry's count of 0, its offset of 75 or 77, and its count of 1, which the next offset shows; an end before or
+  -- within the table
+  pub no-readings : textOf (set exampleFile 40 0) ≡ bytesOf "refused 12 at 40\n"
+  pub overlap : textOf (set exampleFile 44 75) ≡ bytesOf "refused 12 at 44\n"
+  pub gap : textOf (set exampleFile 44 77) ≡ bytesOf "refused 12 at 44\n"
+  pub wrong-count : textOf (set exampleFile 40 1) ≡ bytesOf "refused 12 at 56\n"
+  pub no-table : textOf (take 24 exampleFile) ≡ bytesOf "refused 12 at 24\n"
+  pub table-cut : textOf (take 71 exampleFile) ≡ bytesOf "refused 12 at 71\n"
+  -- 13, the readings: an end before or within them, and the first byte too many, also after the header of a file with no entries and with a
+  -- last count of 1
+  pub no-reading : textOf (take 72 exampleFile) ≡ bytesOf "refused 13 at 72\n"
+  pub early-end : textOf (take 99 exampleFile) ≡ bytesOf "refused 13 at 99\n"
+  pub too-many : textOf (exampleFile ++ 0 ∷ []) ≡ bytesOf "refused 13 at 100\n"
+  pub after-header : textOf (take 25 (set exampleFile 16 0)) ≡ bytesOf "refused 13 at 24\n"
+  pub last-count : textOf (set exampleFile 64 1) ≡ bytesOf "refused 13 at 96\n"
+  -- each of the three before all else: with 9 axes and a table offset of 25, a second count of 0 or a byte too many; a byte too many and a
+  -- reading out of range
+  pub header-first : textOf (set (set exampleFile 0 9) 20 25) ≡ bytesOf "refused 10 at 20\n"
+  pub table-first : textOf (set (set exampleFile 0 9) 40 0) ≡ bytesOf "refused 12 at 40\n"
+  pub readings-first : textOf (set exampleFile 0 9 ++ 0 ∷ []) ≡ bytesOf "refused 13 at 100\n"
+  pub before-deliveries : textOf (set exampleFile 82 16 ++ 0 ∷ []) ≡ bytesOf "refused 13 at 100\n"
 
 -- A job that reaches a ceiling.
 pub record CeilingFileCases : Type 0 where

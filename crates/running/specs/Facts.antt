@@ -65,9 +65,10 @@ abbrev pub BudgetFits : List ℕ → Type 0
 BudgetFits c = (1 ≤ four c 4) × (four c 4 ≤ 8192)
 
 pub record ExecutionFacts : Type 0 where
-  -- 10 comes of a broken form, before all, with the byte that the form names
-  pub malformed : (c : List ℕ) (f : Fault) → formOf c ≡ broken f → resultOf c ≡ refusedAt 10 (f .byte)
-  -- and of nothing else: a file of the right form is refused by 1, 2, 7 or 8, or it ends
+  -- a broken form is refused by the number of its fault, 10, 12 or 13 by the part of the file (`FormFacts.by-byte`, crate `jobfile`), at the byte
+  -- that the fault names, before all else
+  pub malformed : (c : List ℕ) (f : Fault) → formOf c ≡ broken f → resultOf c ≡ refusedAt (f .number) (f .byte)
+  -- these numbers come of nothing else: a file of the right form is refused by 1, 2, 7 or 8, or it ends
   pub well-formed : (c : List ℕ) → formOf c ≡ formed → AllowedResult (entryCount c) (resultOf c)
   -- numbers 1 and 2 name bytes 0 and 4
   pub axes-refused : (c : List ℕ) → formOf c ≡ formed → (AxesFit c → ⊥) → resultOf c ≡ refusedAt 1 0
@@ -76,7 +77,7 @@ pub record ExecutionFacts : Type 0 where
   pub count-byte : (c : List ℕ) (i : ℕ) → deliveryByte c i 7 ≡ entryByte i + 4
   pub reading-byte : (c : List ℕ) (i : ℕ) → inRange (entryOf c i .readings) ≡ false → NamesReading c i (deliveryByte c i 8)
   pub named-reading : (rs : List ℤ) (k : ℕ) → k < length rs → (IsReading (getD rs k (pos 0)) → ⊥) → FirstOut rs (firstOutOfRange rs)
-  -- the first 38,937 bytes decide what is printed: a program need not read more
+  -- the first 38,937 bytes decide what is printed, a refusal's number and byte included: a program need not read more
   pub decided : (c : List ℕ) → 38937 ≤ length c → textOf (take 38937 c) ≡ textOf c
   pub ends : (c : List ℕ) → resultOf c ≡ unfinished → ⊥
   pub room : (c : List ℕ) → length (textOf c) ≤ 512

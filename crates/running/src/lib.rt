@@ -315,9 +315,9 @@ pub fn run(bytes: &[u8], report: &mut [u8]) -> RunStatus
     match form {
         jobfile::Form::Formed => RunStatus::Written(run_formed(bytes, report)),
         jobfile::Form::Header(byte) => RunStatus::Written(reporting::put_refusal(10, byte, report)),
-        jobfile::Form::Entry(byte) => RunStatus::Written(reporting::put_refusal(10, byte, report)),
+        jobfile::Form::Entry(byte) => RunStatus::Written(reporting::put_refusal(12, byte, report)),
         jobfile::Form::Readings(byte) => RunStatus::Written(reporting::put_refusal(
-            10,
+            13,
             byte,
             report,
         )),
