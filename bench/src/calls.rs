@@ -8,7 +8,7 @@ use crate::steps::{self, Choice, Counts, Doubles, PointCounts, Promotion};
 
 pub use crate::check::check;
 
-/// The causes of a refusal, with the scope document's numbers.
+/// The causes of a refusal, with their numbers.
 #[derive(Clone, Copy, Debug, PartialEq, Eq)]
 pub enum Cause {
     AxesOutOfRange = 1,
@@ -20,8 +20,10 @@ pub enum Cause {
     ReadingCountWrong = 7,
     ReadingOutOfRange = 8,
     PointNumberTooLarge = 9,
-    JobFileMalformed = 10,
+    HeaderMalformed = 10,
     PlaceNotActive = 11,
+    EntryTableMalformed = 12,
+    ReadingsMalformed = 13,
 }
 
 /// Causes 1 and 2.

@@ -1,6 +1,7 @@
 //! The job file: its form, tested in byte order, and what it says.
 
 use crate::area::BUDGET_LIMIT;
+use crate::calls::Cause;
 use std::ops::Range;
 
 pub const HEADER_BYTES: usize = 24;
@@ -27,21 +28,31 @@ pub struct Entry {
     pub readings: Range<usize>,
 }
 
-/// The byte that a malformed file is named by.
+/// The cause by which a malformed file is refused, one for each part of the
+/// file, and the byte that it names.
 #[derive(Debug)]
-pub struct Malformed(pub usize);
+pub struct Malformed {
+    pub cause: Cause,
+    pub byte: usize,
+}
 
 /// Takes field after field; one that is cut off names the file's length.
 struct Fields<'a> {
     bytes: &'a [u8],
     at: usize,
+    /// Of the part that is read.
+    cause: Cause,
 }
 
 impl Fields<'_> {
     fn take<const N: usize>(&mut self) -> Result<[u8; N], Malformed> {
-        let field = self.bytes[self.at..].first_chunk().ok_or(Malformed(self.bytes.len()))?;
+        let field = self.bytes[self.at..].first_chunk().ok_or(self.fault(self.bytes.len()))?;
         self.at += N;
         Ok(*field)
+    }
+
+    fn fault(&self, byte: usize) -> Malformed {
+        Malformed { cause: self.cause, byte }
     }
 
     fn number(&mut self) -> Result<u32, Malformed> {
@@ -55,21 +66,23 @@ impl Fields<'_> {
         if rule(number) {
             Ok(number)
         } else {
-            Err(Malformed(first))
+            Err(self.fault(first))
         }
     }
 }
 
 impl JobFile {
     pub fn parse(bytes: &[u8]) -> Result<JobFile, Malformed> {
-        let mut fields = Fields { bytes, at: 0 };
+        let mut fields = Fields { bytes, at: 0, cause: Cause::HeaderMalformed };
         let axes = fields.number()?;
         let budget = fields.number()?;
         let threshold = u64::from_le_bytes(fields.take()?);
         let count = fields.ruled(|count| count <= MOST_ENTRIES)?;
         fields.ruled(|offset| offset as usize == HEADER_BYTES)?;
+        fields.cause = Cause::EntryTableMalformed;
         let entries = parse_table(&mut fields, count)?;
         let total = entries.last().map_or(0, |entry| entry.readings.end);
+        fields.cause = Cause::ReadingsMalformed;
         let readings = parse_readings(&fields, total)?;
         Ok(JobFile { axes, budget, threshold, entries, readings })
     }
@@ -106,7 +119,7 @@ fn parse_readings(fields: &Fields, total: usize) -> Result<Vec<i32>, Malformed> 
     let (rest, _) = fields.bytes[fields.at..].as_chunks();
     let end = fields.at + 4 * total;
     if fields.bytes.len() != end {
-        return Err(Malformed(fields.bytes.len().min(end)));
+        return Err(fields.fault(fields.bytes.len().min(end)));
     }
     Ok(rest.iter().map(|&reading| i32::from_le_bytes(reading)).collect())
 }

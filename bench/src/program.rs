@@ -19,8 +19,8 @@ pub fn report(bytes: &[u8]) -> String {
 }
 
 fn run(bytes: &[u8]) -> Result<String, Refusal> {
-    let file = JobFile::parse(bytes)
-        .map_err(|Malformed(byte)| Refusal { cause: Cause::JobFileMalformed, byte })?;
+    let file =
+        JobFile::parse(bytes).map_err(|Malformed { cause, byte }| Refusal { cause, byte })?;
     calls::judge_job(file.axes, file.budget).map_err(|cause| match cause {
         Cause::AxesOutOfRange => Refusal { cause, byte: 0 },
         _ => Refusal { cause, byte: 4 },
