@@ -82,7 +82,8 @@ extern "C" {
 /* Length in doubles. */
 #define WIHUPYA_DOUBLES_LENGTH 3
 
-/* Causes of a refusal. Where several apply, the lowest number is returned. (10 is the program's: a malformed job file.) */
+/* Causes of a refusal. Where several apply, the lowest number is returned. (10, 12 and 13 are the program's: a fault in the header, the
+ * entry table or the readings of a job file. No call returns them.) */
 #define WIHUPYA_ACCEPTED 0             /* not refused */
 #define WIHUPYA_AXES_OUT_OF_RANGE 1    /* start: the axes are not 1 to 8 */
 #define WIHUPYA_BUDGET_OUT_OF_RANGE 2  /* start: the budget is not 1 to 8,192 */

@@ -6,7 +6,8 @@ use std::fmt::{self, Display, Formatter};
 /// The cause for which a call was refused. What was lent is then as it was.
 /// Where several causes apply, the call names the one of lowest number.
 ///
-/// Number 10, a malformed job file, is the program's: no call returns it.
+/// Numbers 10, 12 and 13 are the program's, for a fault in the header, the
+/// entry table or the readings of a job file: no call returns them.
 #[derive(Clone, Copy, Debug, PartialEq, Eq, PartialOrd, Ord, Hash)]
 #[repr(u32)]
 pub enum Refusal {
@@ -102,9 +103,13 @@ mod tests {
     }
 
     #[test]
-    #[should_panic(expected = "10 is no answer")]
     fn another_number_is_no_answer_of_a_call() {
-        let _ = Refusal::judge(10);
+        for number in [10, 12, 13] {
+            let judged = std::panic::catch_unwind(|| Refusal::judge(number));
+            let said = judged.expect_err("no cause has this number");
+            let said = said.downcast_ref::<String>().expect("a message");
+            assert_eq!(*said, format!("{number} is no answer of a call"));
+        }
     }
 
     #[test]
