@@ -1,4 +1,4 @@
--- The rows of the table of causes ("Causes and numbers", and 11 of request No. 4), each in its own case. What is asked is said of the arguments,
+-- The calls' rows of the table of causes ("Causes and numbers", and 11 of request No. 4), each in its own case. What is asked is said of the arguments,
 -- the lent storage and the area; the lists of causes by which the calls are defined (crate `machine`, specs/Causes.antt) do not occur. That each
 -- call is accepted where none of these is the case is said in crate `history` (`Excluded`).
 use mathlib.Core.Path.{_≡_}

@@ -10,7 +10,7 @@ use lib.IntN.{ℤ, pos, negsuc}
 use lib.ListN.{length, set, take, replicate}
 use lib.Seq.{sets}
 use Rattle.jobfile.specs.File.{JobFile, FileEntry, fileOf, entryOf}
-use Rattle.reporting.specs.Text.{reportText, capped}
+use Rattle.reporting.specs.Text.{reportText, refusalText, capped}
 use Rattle.running.specs.Report.{textOf}
 
 -- The bytes of a text, a letter's being its code; `\n` is the line feed.
@@ -124,24 +124,32 @@ pub record FileCases : Type 0 where
   pub other-count : textOf (set (set exampleFile 0 1) 48 50) ≡ bytesOf "refused 7 at 64\n"
   -- the second entry's second reading, 16448 + 2^20
   pub out-of-range : textOf (set exampleFile 82 16) ≡ bytesOf "refused 8 at 80\n"
-  -- 10, the header: 513 entries, a table offset of 25, an end within it
+  -- the largest byte that is ever named: a byte too many after the longest file of the right form
+  pub refusal-line : refusalText 13 38936 ≡ bytesOf "refused 13 at 38936\n"
+  -- 10, the header: 513 entries, a table offset of 25, an end within it, also before one of these two fields
   pub many-entries : textOf (set (set exampleFile 16 1) 17 2) ≡ bytesOf "refused 10 at 16\n"
   pub table-offset : textOf (set exampleFile 20 25) ≡ bytesOf "refused 10 at 20\n"
   pub header-cut : textOf (take 23 exampleFile) ≡ bytesOf "refused 10 at 23\n"
-  -- 12, the entry table: the second entry's count of 0, its offset of 75 or 77, and its count of 1, which the next offset shows; an end before or
-  -- within the table
+  pub before-entries : textOf (take 16 exampleFile) ≡ bytesOf "refused 10 at 16\n"
+  pub before-offset : textOf (take 20 exampleFile) ≡ bytesOf "refused 10 at 20\n"
+  -- 12, the entry table: the second entry's count of 0, of 8,193, and of 8,191, with which the third passes 8,192 in all; its offset of 75 or 77; its
+  -- count of 1, which the next offset shows; an entry count of 3, which the first offset shows; an end before or within the table
   pub no-readings : textOf (set exampleFile 40 0) ≡ bytesOf "refused 12 at 40\n"
+  pub many-readings : textOf (sets exampleFile 40 (1 ∷ 32 ∷ [])) ≡ bytesOf "refused 12 at 40\n"
+  pub total : textOf (sets exampleFile 40 (255 ∷ 31 ∷ [])) ≡ bytesOf "refused 12 at 52\n"
   pub overlap : textOf (set exampleFile 44 75) ≡ bytesOf "refused 12 at 44\n"
   pub gap : textOf (set exampleFile 44 77) ≡ bytesOf "refused 12 at 44\n"
   pub wrong-count : textOf (set exampleFile 40 1) ≡ bytesOf "refused 12 at 56\n"
+  pub few-entries : textOf (set exampleFile 16 3) ≡ bytesOf "refused 12 at 32\n"
   pub no-table : textOf (take 24 exampleFile) ≡ bytesOf "refused 12 at 24\n"
   pub table-cut : textOf (take 71 exampleFile) ≡ bytesOf "refused 12 at 71\n"
-  -- 13, the readings: an end before or within them, and the first byte too many, also after the header of a file with no entries and with a
-  -- last count of 1
+  -- 13, the readings: an end before or within them, and the first byte too many, also after the header of a file with no entries, with an entry
+  -- count of 0 before a table, and with a last count of 1
   pub no-reading : textOf (take 72 exampleFile) ≡ bytesOf "refused 13 at 72\n"
   pub early-end : textOf (take 99 exampleFile) ≡ bytesOf "refused 13 at 99\n"
   pub too-many : textOf (exampleFile ++ 0 ∷ []) ≡ bytesOf "refused 13 at 100\n"
   pub after-header : textOf (take 25 (set exampleFile 16 0)) ≡ bytesOf "refused 13 at 24\n"
+  pub no-entries : textOf (set exampleFile 16 0) ≡ bytesOf "refused 13 at 24\n"
   pub last-count : textOf (set exampleFile 64 1) ≡ bytesOf "refused 13 at 96\n"
   -- each of the three before all else: with 9 axes and a table offset of 25, a second count of 0 or a byte too many; a byte too many and a
   -- reading out of range
