@@ -41,8 +41,9 @@
  * two words more, result gives two words more, and what was met before may be capped (see wihupya_choose). Choosing and promoting became two
  * calls: before, wihupya_promote took no place, chose by itself, and answered met and capped too. Call wihupya_choose instead, and where it
  * answers a place, wihupya_promote with that place: a job that goes on so is the same as before. No word of the job record moved, and job files
- * stay as they are. The program, not a call, tells the part of a malformed job file since then: what was number 10 is 10, 12 or 13. Kept for later, and none of them in use: job words 12 to 17 (means of outputs 2 to 4), 18 (outputs), 19 (edition) and 20
- * (weight); words 11 to 16 (further means) of result.
+ * stay as they are. Then the program, not a call, came to tell which part of a malformed job file is at fault: what was number 10 is 10, 12 or 13.
+ * Kept for later, and none of them in use: job words 12 to 17 (means of outputs 2 to 4), 18 (outputs), 19 (edition) and 20 (weight); words 11
+ * to 16 (further means) of result.
  *
  * WHAT A CALL RETURNS. 0 if it did what you asked, else the number of the cause for which it refused; a refused call leaves
  * everything that you lent as it was. Only wihupya_check cannot be refused: it returns its answer.
