@@ -2,10 +2,10 @@
 //!
 //! Everything here is written from the scope document alone, the calls points
 //! and doubles, the order of a block's points, the carried error, the two calls
-//! choose and promote and the numbers of a job file's parts from the texts that ask
-//! for them, and follows their sentences as literally as possible. Each request changes
-//! it first, from the request's words. It is a test and not a delivery: where a choice
-//! lay between clear and fast, it is clear.
+//! choose and promote, the numbers of a job file's parts and the word of eight levels
+//! from the texts that ask for them, and follows their sentences as literally as
+//! possible. Each request changes it first, from the request's words. It is a test and
+//! not a delivery: where a choice lay between clear and fast, it is clear.
 //!
 //! From the inside out:
 //! - [`rule`] and [`trapezoid`]: the rule along one axis, twice;
@@ -30,6 +30,8 @@
 //! - [`reports`]: areas by name, with what doubles must answer;
 //! - [`steps`]: areas by name, with what choose and promote must answer and leave;
 //! - [`walks`]: blocks by name, with their points in order;
+//! - [`search`]: the search for an index among the held, the word of eight levels, and
+//!   lists to search, by name and by seed;
 //! - [`pump`] and [`examples`]: the example jobs.
 
 pub mod algorithm;
@@ -63,6 +65,7 @@ pub mod reports;
 pub mod rng;
 pub mod rule;
 pub mod sample;
+pub mod search;
 pub mod soundness;
 pub mod spoil;
 pub mod steps;
