@@ -2,15 +2,16 @@
 use mathlib.Core.Path.{_≡_}
 use mathlib.Core.Bool.{true, false, cond}
 use mathlib.Core.List.{List, [], _∷_, _++_}
-use Prim.Native.Nat.{ℕ, _+_, _^_, _<_, _≤_}
+use Prim.Native.Nat.{ℕ, _+_, _/_, _%_, _^_, _<_, _≤_}
 use lib.Dec.{leb}
 use lib.ListN.{length, getD, set}
-use Rattle.grid.specs.Index.{Index, atCeiling}
+use Rattle.grid.specs.Index.{level, Index, atCeiling}
 use Rattle.grid.specs.Boundary.{pair}
 use Rattle.area.specs.declared.IndexRecord.{IndexRecord}
 use Rattle.area.specs.declared.LookupResult.the-variants.{At, NotFound}
 use Rattle.area.specs.Records.{Run, runOf, cellsOf, blank, levelsOf}
 use Rattle.area.specs.Lookup.{lookupIn}
+use Rattle.area.specs.Packed.{packed, FitsByte, AllFitByte, fitsByte, allFitByte}
 use Rattle.area.specs.Entry.{Entry, pendingOf, carriedOf}
 use Rattle.area.specs.Encoding.{none, placeOf}
 
@@ -25,6 +26,19 @@ pub record RunFacts : Type 0 where
   -- the lookup as an answer and as a place are one: it finds the place, or nothing where the place is none
   pub found : (rs : List IndexRecord) (k : List ℕ) → length rs ≤ none
       → lookupIn rs k ≡ cond (leb none (placeOf (levelsOf rs) k)) NotFound (At (placeOf (levelsOf rs) k))
+
+-- ---- levels packed into a word
+
+pub record PackFacts : Type 0 where
+  -- two lists of one length whose levels all fit a byte have equal words exactly if they are equal
+  pub exactly : (k l : List ℕ) → length k ≡ length l → FitsByte k → FitsByte l → (packed k ≡ packed l → k ≡ l) × (k ≡ l → packed k ≡ packed l)
+  -- of eight such levels the word has 64 bits
+  pub small : (k : List ℕ) → length k ≡ 8 → FitsByte k → packed k < 2 ^ 64
+  -- the test says whether they fit, of one level list and of a run of records
+  pub tested : (k : List ℕ) → (fitsByte k ≡ true → FitsByte k) × (FitsByte k → fitsByte k ≡ true)
+  pub all-tested : (rs : List IndexRecord) → (allFitByte rs ≡ true → AllFitByte rs) × (AllFitByte rs → allFitByte rs ≡ true)
+  -- a byte for each: that of an axis is its level, axis 1 lowest
+  pub byte : (k : List ℕ) (a : ℕ) → FitsByte k → a < length k → packed k / 256 ^ a % 256 ≡ level k a
 
 -- ---- the carried error
 

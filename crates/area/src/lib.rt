@@ -1,6 +1,6 @@
 // Storage: what a job is started with and how many readings its points have; the job record by value, and index records in one lent
 // slice of cells, 27 words to a record. Only the functions of this file touch a cell; their contracts speak of the records that the
-// cells hold.
+// cells hold. For a search the levels of records can be packed, eight to a word of 64 bits, in an array beside the cells.
 ghost use mathlib.Core.Path.{_≡_};
 ghost use Prim.Native.Nat.{_+_, _*_, _<_, _≤_};
 ghost use lib.ListN.{length, getD, take, drop};
@@ -11,6 +11,7 @@ ghost use Rattle.grid.specs.Coefficient.{sameLevels};
 ghost use Rattle.area.specs.Settings.{readingsFor, readingCount, leastStore};
 ghost use Rattle.area.specs.Records.{recordsOf, runOf, stored, blank, heldIn};
 ghost use Rattle.area.specs.Lookup.{lookupIn};
+ghost use Rattle.area.specs.Packed.{fitsByte, allFitByte, packingOf, wordsWith, wordFrom, PackedIf};
 
 // The link to a neighbour that is not held.
 pub const NONE: u32 = 4294967295;
@@ -50,6 +51,12 @@ pub struct IndexRecord {
 pub enum LookupResult {
     At(usize),
     NotFound,
+}
+
+// Eight levels as one word, or that one of them is larger than a byte.
+pub enum Packed {
+    Word(u64),
+    Larger,
 }
 
 // How many readings so many points have.
@@ -215,6 +222,101 @@ pub fn lookup(cells: &[u32], held: usize, levels: [u32; 8]) -> LookupResult
         place += 1;
     }
     LookupResult::NotFound
+}
+
+// The levels as one word, a byte for each, axis 1 lowest. It begins with the last axis: what is packed is moved up a byte, and the next level
+// put below it.
+pub fn pack(levels: [u32; 8]) -> Packed
+    ensures { λ r. ⌜ r ≡ packingOf levels ⌝ }
+{
+    let mut word: u64 = 0;
+    let mut axis: usize = 8;
+    while 0 < axis {
+        axis -= 1;
+        let level = levels[axis];
+        if 255 < level {
+            return Packed::Larger;
+        }
+        word = word * 256 + level as u64;
+    }
+    Packed::Word(word)
+}
+
+// Writes the word of these levels at a place, and answers whether they fit; where they do not, no word changes.
+pub fn put_word(place: usize, levels: [u32; 8], words: &mut [u64; 512]) -> bool
+    requires { ⌜ place < 512 ⌝ }
+    ensures answer { λ r. ⌜ r ≡ fitsByte levels ⌝ }
+    ensures words { λ r. ⌜ now (words .exit) ≡ wordsWith (now (words .entry)) place levels ⌝ }
+{
+    match pack(levels) {
+        Packed::Word(word) => {
+            words[place] = word;
+            true
+        }
+        Packed::Larger => false,
+    }
+}
+
+// Packs the held records: yes if every held level fits a byte, and then the words are those of the held run.
+pub fn pack_held(cells: &[u32], held: usize, words: &mut [u64; 512]) -> bool
+    requires { ⌜ (held * 27 ≤ length (now cells)) × (held ≤ 512) × (length (now words) ≡ 512) ⌝ }
+    ensures answer { λ r. ⌜ r ≡ allFitByte (heldIn (now (cells .entry)) held) ⌝ }
+    ensures words { λ r. ⌜ PackedIf r (now (words .exit)) (heldIn (now (cells .entry)) held) ⌝ }
+{
+    let mut place: usize = 0;
+    while place < held {
+        if !put_word(place, levels_at(cells, place), words) {
+            return false;
+        }
+        place += 1;
+    }
+    true
+}
+
+// The first of the held places that has this word. It looks at two places in each pass, since most searches pass many.
+fn lookup_word(words: &[u64; 512], held: usize, word: u64) -> LookupResult
+    requires { ⌜ (held ≤ 512) × (length (now words) ≡ 512) ⌝ }
+    ensures { λ r. ⌜ r ≡ wordFrom 0 (take held (now (words .entry))) word ⌝ }
+{
+    let mut place: usize = 0;
+    while place + 1 < held {
+        if words[place] == word {
+            return LookupResult::At(place);
+        }
+        let next = place + 1;
+        if words[next] == word {
+            return LookupResult::At(next);
+        }
+        place += 2;
+    }
+    if place < held {
+        if words[place] == word {
+            return LookupResult::At(place);
+        }
+    }
+    LookupResult::NotFound
+}
+
+// The lookup again, a word at a time where the held records are packed and the levels sought fit a byte. `packed` is what `pack_held` answered. Where
+// a level is larger, held or sought, levels are compared unpacked, by `lookup`.
+pub fn lookup_packed(
+    cells: &[u32],
+    held: usize,
+    levels: [u32; 8],
+    words: &[u64; 512],
+    packed: bool,
+) -> LookupResult
+    requires { ⌜ held * 27 ≤ length (now cells) ⌝ }
+    requires { ⌜ PackedIf packed (now words) (heldIn (now cells) held) ⌝ }
+    ensures { λ r. ⌜ r ≡ lookupIn (heldIn (now (cells .entry)) held) levels ⌝ }
+{
+    if !packed {
+        return lookup(cells, held, levels);
+    }
+    match pack(levels) {
+        Packed::Word(word) => lookup_word(words, held, word),
+        Packed::Larger => lookup(cells, held, levels),
+    }
 }
 
 // Writes eight cells in a row; the others stay.
