@@ -9,6 +9,7 @@ ghost use Rattle.grid.specs.Index.{level, Within, atCeiling};
 ghost use Rattle.area.specs.Settings.{readingsFor};
 ghost use Rattle.area.specs.Records.{recordsOf, runOf, heldIn};
 ghost use Rattle.area.specs.Encoding.{areaOf, entriesOf, machineOf};
+ghost use Rattle.area.specs.Packed.{PackedIf};
 ghost use Rattle.quadrature.specs.Readings.{recordAt};
 ghost use Rattle.machine.specs.Log.{firstWanted};
 ghost use Rattle.machine.specs.Areas.{refineOn};
@@ -60,11 +61,19 @@ pub fn select(held: usize, cells: &[u32]) -> usize
 }
 
 // Whether an index is held and old; the place that is refined counts as old.
-fn is_old(held: usize, refined: usize, levels: [u32; 8], cells: &[u32]) -> bool
+fn is_old(
+    held: usize,
+    refined: usize,
+    levels: [u32; 8],
+    cells: &[u32],
+    words: &[u64; 512],
+    packed: bool,
+) -> bool
     requires { ⌜ (held * 27 ≤ length (now cells)) × (refined < held) × Searchable (heldIn (now cells) held) ⌝ }
+    requires { ⌜ PackedIf packed (now words) (heldIn (now cells) held) ⌝ }
     ensures { λ r. ⌜ r ≡ isOld (makeOld (headsOf (heldIn (now (cells .entry)) held)) refined) levels ⌝ }
 {
-    match area::lookup(cells, held, levels) {
+    match area::lookup_packed(cells, held, levels, words, packed) {
         area::LookupResult::At(place) => {
             if place == refined {
                 true
@@ -78,8 +87,16 @@ fn is_old(held: usize, refined: usize, levels: [u32; 8], cells: &[u32]) -> bool
 
 // Marks the axes along which the place that is refined has a forward neighbour to admit: within the ceilings, all its backward
 // neighbours old. The scan leaves a neighbour for the next axis at the first that is not.
-fn admitted(axes: usize, held: usize, refined: usize, cells: &[u32]) -> [u32; 8]
+fn admitted(
+    axes: usize,
+    held: usize,
+    refined: usize,
+    cells: &[u32],
+    words: &[u64; 512],
+    packed: bool,
+) -> [u32; 8]
     requires { ⌜ (axes ≤ 8) × (held * 27 ≤ length (now cells)) × (refined < held) × Searchable (heldIn (now cells) held) ⌝ }
+    requires { ⌜ PackedIf packed (now words) (heldIn (now cells) held) ⌝ }
     ensures { λ r. ⌜ r ≡ marksOf axes (admits axes (makeOld (headsOf (heldIn (now (cells .entry)) held)) refined) (recordAt (heldIn (now (cells .entry)) held) refined .levels)) ⌝ }
 {
     let levels = area::levels_at(cells, refined);
@@ -96,6 +113,8 @@ fn admitted(axes: usize, held: usize, refined: usize, cells: &[u32]) -> [u32; 8]
                     refined,
                     grid::backward_neighbour(neighbour, other),
                     cells,
+                    words,
+                    packed,
                 ) {
                     continue 'axes;
                 }
@@ -147,10 +166,14 @@ fn append_marked(
     levels: [u32; 8],
     marks: [u32; 8],
     cells: &mut [u32],
+    words: &mut [u64; 512],
+    packed: bool,
 )
     requires { ⌜ (axes ≤ 8) × MarkedWithin axes levels marks × ((a : ℕ) → a < 8 → level levels a ≤ 8) ⌝ }
     requires { ⌜ ((held + length (markedAxes axes marks)) * 27 ≤ length (now cells)) × (held + length (markedAxes axes marks) ≤ 512) × (first + readingsFor settings (sizesOf levels (markedAxes axes marks)) ≤ 8192) ⌝ }
+    requires { ⌜ PackedIf packed (now words) (heldIn (now cells) held) ⌝ }
     ensures { λ r. ⌜ runOf (now (cells .exit)) ≡ record { records = appendedAll settings (recordsOf (now (cells .entry))) held first levels (markedAxes axes marks); rest = runOf (now (cells .entry)) .rest } ⌝ }
+    ensures words { λ r. ⌜ PackedIf packed (now (words .exit)) (heldIn (now (cells .exit)) (held + length (markedAxes axes marks))) ⌝ }
 {
     let mut count = held;
     let mut next = first;
@@ -159,7 +182,7 @@ fn append_marked(
         if marks[axis] == 1 {
             let neighbour = grid::forward_neighbour(levels, axis);
             let readings = area::reading_count(settings, neighbour);
-            writing::append(count, next, neighbour, cells);
+            writing::append(count, next, neighbour, cells, words, packed);
             count += 1;
             next += readings;
         }
@@ -179,7 +202,8 @@ fn carried_after(carried: u64, levels: [u32; 8], indicator: u32) -> u64
     }
 }
 
-// Refines an active place, unless that is spent. At most so many readings may then be reserved; the limit is no more than the budget.
+// Refines an active place, unless that is spent. At most so many readings may then be reserved; the limit is no more than the budget. The held records are
+// packed once, for all searches of the scan and of the appends; in a valid area they always can be.
 pub fn refine(
     job: area::JobRecord,
     place: usize,
@@ -197,8 +221,10 @@ pub fn refine(
     let held = job.held as usize;
     let reserved = job.reserved as usize;
     let most = limit as usize;
+    let mut words = [0u64; 512];
+    let packed = area::pack_held(cells, held, &mut words);
     let levels = area::levels_at(cells, place);
-    let marks = admitted(axes, held, place, cells);
+    let marks = admitted(axes, held, place, cells, &words, packed);
     let count = marked_count(axes, marks);
     let sizes = marked_sizes(axes, levels, marks);
     if 512 < held + count {
@@ -216,7 +242,17 @@ pub fn refine(
     let indicator = area::indicator_at(cells, place);
     writing::set_state(place, area::OLD, indicator, cells);
     let first = area::readings_for(settings, reserved);
-    append_marked(settings, axes, held, first, levels, marks, cells);
+    append_marked(
+        settings,
+        axes,
+        held,
+        first,
+        levels,
+        marks,
+        cells,
+        &mut words,
+        packed,
+    );
     let mut after = job;
     after.held = (held + count) as u32;
     after.reserved = (reserved + sizes) as u32;

@@ -4,6 +4,7 @@ pub mod Fields
 pub mod Places
 pub mod Links
 pub mod Named
+pub mod Words
 pub mod Kept
 pub mod Entries
 pub mod Unread

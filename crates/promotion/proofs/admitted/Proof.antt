@@ -40,21 +40,21 @@ raisable cells held refined levels room h e s a l =
     subst (λ k. level k a ≤ 8) (sym (held-levels cells held refined levels room h e)) (s .low refined a (omega (arith, held-length cells held room)) l)
 
 abbrev Inv-loop : tie.InvT-loop
-Inv-loop axes held refined cells levels marks axis₀ neighbour other₀ axis other =
+Inv-loop axes held refined cells words packed levels marks axis₀ neighbour other₀ axis other =
     (other ≤ axes) × (axis ≡ axis₀) × (length neighbour ≡ 8)
     × (allFrom axes 0 (backwardOld (refinedEntries cells held refined) neighbour) ≡ allFrom (axes - other) other (backwardOld (refinedEntries cells held refined) neighbour))
 
 abbrev μ-loop : tie.MeasureT-loop
-μ-loop axes held refined cells levels marks axis₀ neighbour other₀ axis other = axes - other
+μ-loop axes held refined cells words packed levels marks axis₀ neighbour other₀ axis other = axes - other
 
 abbrev Inv-axes : tie.InvT-axes
-Inv-axes axes held refined cells levels marks₀ axis₀ marks axis = (axis ≤ axes) × SoFar (admits axes (refinedEntries cells held refined) levels) axis marks
+Inv-axes axes held refined cells words packed levels marks₀ axis₀ marks axis = (axis ≤ axes) × SoFar (admits axes (refinedEntries cells held refined) levels) axis marks
 
 abbrev μ-axes : tie.MeasureT-axes
-μ-axes axes held refined cells levels marks₀ axis₀ marks axis = axes - axis
+μ-axes axes held refined cells words packed levels marks₀ axis₀ marks axis = axes - axis
 
 levels-at-requires : tie.Need-levels-at-requires Inv-loop μ-loop Inv-axes μ-axes
-levels-at-requires c κs = omega (arith, c .before .pre .1, c .before .pre .2)
+levels-at-requires c κs = omega (arith, c .before .pre .0 .1, c .before .pre .0 .2)
 
 axes-holds : tie.Need-axes-holds Inv-loop μ-loop Inv-axes μ-axes
 axes-holds c = (omega arith, so-far-start (admits (c .before .before .args .axes) (refinedEntries (now (c .before .before .args .cells)) (c .before .before .args .held) (c .before .before .args .refined)) (c .levels-at .result)))
@@ -62,13 +62,13 @@ axes-holds c = (omega arith, so-far-start (admits (c .before .before .args .axes
 forward-neighbour-requires : tie.Need-forward-neighbour-requires Inv-loop μ-loop Inv-axes μ-axes
 forward-neighbour-requires c κs =
     let s = c .before .before .before .before in
-    (omega (arith, s .pre .0), raisable (now (s .args .cells)) (s .args .held) (s .args .refined) (c .before .before .levels-at .result) (s .pre .1) (s .pre .2) (c .before .before .levels-at .ensures) (s .pre .3) (c .before .axes .axis) (omega (arith, s .pre .0)))
+    (omega (arith, s .pre .0 .0), raisable (now (s .args .cells)) (s .args .held) (s .args .refined) (c .before .before .levels-at .result) (s .pre .0 .1) (s .pre .0 .2) (c .before .before .levels-at .ensures) (s .pre .0 .3) (c .before .axes .axis) (omega (arith, s .pre .0 .0)))
 
 within-ceilings-requires : tie.Need-within-ceilings-requires Inv-loop μ-loop Inv-axes μ-axes
 within-ceilings-requires c κs = search needs
 
 add-axis : tie.Need-add-axis Inv-loop μ-loop Inv-axes μ-axes
-add-axis c = omega (arith, c .before .before .before .before .before .before .before .pre .0)
+add-axis c = omega (arith, c .before .before .before .before .before .before .before .pre .0 .0)
 
 axes-less : tie.Need-axes-less Inv-loop μ-loop Inv-axes μ-axes
 axes-less c = omega arith
@@ -80,7 +80,7 @@ axes-again c =
     let es = refinedEntries (now (s .args .cells)) (s .args .held) (s .args .refined) in
     let k = c .before .before .before .before .before .levels-at .result in
     let past = ap within (sym (c .before .before .forward-neighbour .ensures)) ∙ (sym (c .before .within-ceilings .ensures) ∙ not-true (c .before .within-ceilings .result) (c .if1 .taken)) in
-    (omega arith, so-far-skip (admits (s .args .axes) es k) (l .axis) (l .marks) (omega (arith, s .pre .0)) (l .inv .1) (past-ceiling (s .args .axes) es k (l .axis) past))
+    (omega arith, so-far-skip (admits (s .args .axes) es k) (l .axis) (l .marks) (omega (arith, s .pre .0 .0)) (l .inv .1) (past-ceiling (s .args .axes) es k (l .axis) past))
 
 loop-holds : tie.Need-loop-holds Inv-loop μ-loop Inv-axes μ-axes
 loop-holds c =
@@ -89,19 +89,19 @@ loop-holds c =
     (omega arith, refl, search needs, ap (λ n. allFrom n 0 (backwardOld es (c .before .before .forward-neighbour .result))) (omega arith))
 
 mul-if2 : tie.Need-mul-if2 Inv-loop μ-loop Inv-axes μ-axes
-mul-if2 c = omega (arith, c .before .before .before .before .before .before .before .before .before .pre .0)
+mul-if2 c = omega (arith, c .before .before .before .before .before .before .before .before .before .pre .0 .0)
 
 array-read-if2 : tie.Need-array-read-if2 Inv-loop μ-loop Inv-axes μ-axes
-array-read-if2 c = omega (arith, c .before .before .before .before .before .before .before .before .before .pre .0)
+array-read-if2 c = omega (arith, c .before .before .before .before .before .before .before .before .before .pre .0 .0)
 
 backward-neighbour-requires : tie.Need-backward-neighbour-requires Inv-loop μ-loop Inv-axes μ-axes
-backward-neighbour-requires c κs = (omega (arith, c .before .before .before .before .before .before .before .before .before .before .pre .0), c .if2 .taken)
+backward-neighbour-requires c κs = (omega (arith, c .before .before .before .before .before .before .before .before .before .before .pre .0 .0), c .if2 .taken)
 
 is-old-requires : tie.Need-is-old-requires Inv-loop μ-loop Inv-axes μ-axes
-is-old-requires c κs = (c .before .before .before .before .before .before .before .before .before .before .before .pre .1, c .before .before .before .before .before .before .before .before .before .before .before .pre .2, c .before .before .before .before .before .before .before .before .before .before .before .pre .3)
+is-old-requires c κs = let s = c .before .before .before .before .before .before .before .before .before .before .before in ((s .pre .0 .1, s .pre .0 .2, s .pre .0 .3), s .pre .1)
 
 add-axis-2 : tie.Need-add-axis-2 Inv-loop μ-loop Inv-axes μ-axes
-add-axis-2 c = omega (arith, c .before .before .before .before .before .loop .inv .1, c .before .before .before .before .before .before .before .before .before .before .before .before .before .pre .0)
+add-axis-2 c = omega (arith, c .before .before .before .before .before .loop .inv .1, c .before .before .before .before .before .before .before .before .before .before .before .before .before .pre .0 .0)
 
 axes-less-2 : tie.Need-axes-less-2 Inv-loop μ-loop Inv-axes μ-axes
 axes-less-2 c = omega (arith, c .before .before .before .before .before .loop .inv .1)
@@ -121,10 +121,10 @@ axes-again-2 c =
     ∙ not-true (c .before .is-old .result) (c .if3 .taken) in
     let all = i .inv .3 ∙ all-stop (backwardOld es neighbour) (s .args .axes) (i .other) (omega arith) one in
     let no = by-neighbours (s .args .axes) es k (l .axis) inside ∙ ap (λ x. allFrom (s .args .axes) 0 (backwardOld es x)) (sym (c .before .before .before .before .before .before .before .before .forward-neighbour .ensures)) ∙ all in
-    (omega (arith, i .inv .1), subst (λ n. SoFar f (n + 1) (l .marks)) (sym (i .inv .1)) (so-far-skip f (l .axis) (l .marks) (omega (arith, s .pre .0)) (l .inv .1) no))
+    (omega (arith, i .inv .1), subst (λ n. SoFar f (n + 1) (l .marks)) (sym (i .inv .1)) (so-far-skip f (l .axis) (l .marks) (omega (arith, s .pre .0 .0)) (l .inv .1) no))
 
 add-other : tie.Need-add-other Inv-loop μ-loop Inv-axes μ-axes
-add-other c = omega (arith, c .before .before .before .before .before .before .before .before .before .before .pre .0)
+add-other c = omega (arith, c .before .before .before .before .before .before .before .before .before .before .pre .0 .0)
 
 loop-less : tie.Need-loop-less Inv-loop μ-loop Inv-axes μ-axes
 loop-less c = omega arith
@@ -153,13 +153,13 @@ loop-again c =
     (c .if2 .came)
 
 mul-marks : tie.Need-mul-marks Inv-loop μ-loop Inv-axes μ-axes
-mul-marks c = omega (arith, c .before .loop .inv .1, c .before .before .before .before .before .before .before .before .before .pre .0)
+mul-marks c = omega (arith, c .before .loop .inv .1, c .before .before .before .before .before .before .before .before .before .pre .0 .0)
 
 array-write-marks : tie.Need-array-write-marks Inv-loop μ-loop Inv-axes μ-axes
-array-write-marks c = omega (arith, c .before .loop .inv .1, c .before .before .before .before .before .before .before .before .before .pre .0)
+array-write-marks c = omega (arith, c .before .loop .inv .1, c .before .before .before .before .before .before .before .before .before .pre .0 .0)
 
 add-axis-3 : tie.Need-add-axis-3 Inv-loop μ-loop Inv-axes μ-axes
-add-axis-3 c = omega (arith, c .before .loop .inv .1, c .before .before .before .before .before .before .before .before .before .pre .0)
+add-axis-3 c = omega (arith, c .before .loop .inv .1, c .before .before .before .before .before .before .before .before .before .pre .0 .0)
 
 axes-less-3 : tie.Need-axes-less-3 Inv-loop μ-loop Inv-axes μ-axes
 axes-less-3 c = omega (arith, c .before .loop .inv .1)
@@ -176,7 +176,7 @@ axes-again-3 c =
     let inside = ap within (sym (c .before .before .before .before .forward-neighbour .ensures)) ∙ (sym (c .before .before .before .within-ceilings .ensures) ∙ not-false (c .before .before .before .within-ceilings .result) (c .before .before .if1 .left)) in
     let all = i .inv .3 ∙ all-end (backwardOld es neighbour) (s .args .axes) (i .other) (omega arith) in
     let yes = by-neighbours (s .args .axes) es k (l .axis) inside ∙ ap (λ x. allFrom (s .args .axes) 0 (backwardOld es x)) (sym (c .before .before .before .before .forward-neighbour .ensures)) ∙ all in
-    (omega (arith, i .inv .1), subst (λ n. SoFar f (n + 1) (set (l .marks) n 1)) (sym (i .inv .1)) (so-far-put f (l .axis) (l .marks) (omega (arith, s .pre .0)) (l .inv .1) yes))
+    (omega (arith, i .inv .1), subst (λ n. SoFar f (n + 1) (set (l .marks) n 1)) (sym (i .inv .1)) (so-far-put f (l .axis) (l .marks) (omega (arith, s .pre .0 .0)) (l .inv .1) yes))
 
 returns : tie.Need-returns Inv-loop μ-loop Inv-axes μ-axes
 returns c =
@@ -185,8 +185,8 @@ returns c =
     let es = refinedEntries (now (s .args .cells)) (s .args .held) (s .args .refined) in
     let k = c .before .before .levels-at .result in
     let done : l .axis ≡ s .args .axes = omega arith in
-    so-far-end (admits (s .args .axes) es k) (s .args .axes) (l .marks) (s .pre .0) (subst (λ n. SoFar (admits (s .args .axes) es k) n (l .marks)) done (l .inv .1))
-    ∙ ap (λ x. marksOf (s .args .axes) (admits (s .args .axes) es x)) (held-levels (now (s .args .cells)) (s .args .held) (s .args .refined) k (s .pre .1) (s .pre .2) (c .before .before .levels-at .ensures))
+    so-far-end (admits (s .args .axes) es k) (s .args .axes) (l .marks) (s .pre .0 .0) (subst (λ n. SoFar (admits (s .args .axes) es k) n (l .marks)) done (l .inv .1))
+    ∙ ap (λ x. marksOf (s .args .axes) (admits (s .args .axes) es x)) (held-levels (now (s .args .cells)) (s .args .held) (s .args .refined) k (s .pre .0 .1) (s .pre .0 .2) (c .before .before .levels-at .ensures))
 
 pub admitted-spec : {M : Type 1} → statement M
 admitted-spec =

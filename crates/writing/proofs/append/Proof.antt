@@ -1,6 +1,6 @@
--- `writing::append` meets its contract: its links are gathered, its backward neighbours name it, and its record is stored at the next place. Assumes nothing.
+-- `writing::append` meets its contract: its links are gathered, its backward neighbours name it, and its record and its word are stored at the next place. Assumes nothing.
 use borrow.Author.Needs.{needs}
-use mathlib.Core.Path.{_≡_, ap, _∙_}
+use mathlib.Core.Path.{_≡_, sym, ap, _∙_, subst}
 use mathlib.Core.Logic.{_⊎_, inl, inr, ⊎-elim}
 use mathlib.Core.List.{List}
 use Prim.Native.Nat.{ℕ, _+_, _*_, _-_, _<_, _≤_}
@@ -9,10 +9,12 @@ use denote.Ref.{now}
 use lib.ListN.{length, getD, set}
 use Rattle.area.specs.Records.{Run, recordsOf, runOf, stored, heldIn, levelsOf}
 use Rattle.area.specs.Encoding.{none}
+use Rattle.area.specs.Packed.{PackedRun}
 use Rattle.area.proofs.Records.{length-recordsOf}
 use Rattle.writing.specs.Changes.{newLinks, namedFrom, appended, admittedRecord}
 use Rattle.quadrature.proofs.Held.{held-length}
 use Rattle.writing.proofs.Linking.{link-held, levels-count}
+use Rattle.writing.proofs.Words.{appended-words}
 use Rattle.writing.proofs.append.Statement.{statement}
 use Rattle.writing.proofs.append.Tie as tie
 
@@ -30,16 +32,17 @@ new-links-requires c κs = search needs
 
 name-back-requires : tie.Need-name-back-requires
 name-back-requires c κs =
-    let s = c .before .before .before .before in
-    (omega (arith, s .pre .1), named-there (now (s .args .cells)) (s .args .held) (s .args .levels) (c .before .new-links .result) (omega (arith, s .pre .0)) (c .before .new-links .ensures))
+    let s = c .before .before .before .before .before in
+    (omega (arith, s .pre .0 .1), named-there (now (s .args .cells)) (s .args .held) (s .args .levels) (c .before .new-links .result) (omega (arith, s .pre .0 .0)) (c .before .new-links .ensures))
 
-cast-t12 : tie.Need-cast-t12
-cast-t12 c = search needs
+cast-t15 : tie.Need-cast-t15
+cast-t15 c = search needs
 
 store-requires : tie.Need-store-requires
-store-requires c κs =
-    let s = c .before .before .before .before .before .before .before .before in
-    omega (arith, s .pre .0, c .before .before .before .name-back .kept .1 .1 .0)
+store-requires c κs = search needs
+
+put-word-requires : tie.Need-put-word-requires
+put-word-requires c κs = search needs
 
 same-length : tie.Need-same-length
 same-length c = search needs
@@ -47,15 +50,20 @@ same-length c = search needs
 returns : tie.Need-returns
 unfolding appended admittedRecord heldIn
 returns c =
-    let s = c .before .before .before .before .before .before .before .before .before .before .before in
+    let s = c .before .before .before .before .before .before .before .before .before .before .before .before .before .before in
     let cells = now (s .args .cells) in
-    let links = c .before .before .before .before .before .before .before .before .new-links .result in
-    let named = namedFrom 8 0 links (s .args .held) (recordsOf cells) in
-    c .before .before .store .ensures
-    ∙ ap (λ (u : Run). stored u (s .args .held) (record { levels = s .args .levels; state = 0; indicator = 0; first = s .args .first; links = links })) (c .before .before .before .before .before .before .name-back .ensures)
-    ∙ ap (λ ks. record { records = set (namedFrom 8 0 ks (s .args .held) (recordsOf cells)) (s .args .held) (record { levels = s .args .levels; state = 0; indicator = 0; first = s .args .first; links = ks }); rest = runOf cells .rest }) (c .before .before .before .before .before .before .before .before .new-links .ensures)
+    let links = c .before .before .before .before .before .before .before .before .before .before .new-links .result in
+    let after = c .before .before .before .before .store .last .0 in
+    let is : runOf after ≡ record { records = appended (recordsOf cells) (s .args .held) (s .args .first) (s .args .levels); rest = runOf cells .rest } =
+    c .before .before .before .before .store .ensures
+    ∙ ap (λ (u : Run). stored u (s .args .held) (record { levels = s .args .levels; state = 0; indicator = 0; first = s .args .first; links = links })) (c .before .before .before .before .before .before .before .before .name-back .ensures)
+    ∙ ap (λ ks. record { records = set (namedFrom 8 0 ks (s .args .held) (recordsOf cells)) (s .args .held) (record { levels = s .args .levels; state = 0; indicator = 0; first = s .args .first; links = ks }); rest = runOf cells .rest }) (c .before .before .before .before .before .before .before .before .before .before .new-links .ensures) in (
+      is,
+      λ f t. subst (λ ws. PackedRun ws (heldIn after (s .args .held + 1))) (sym (c .put-word .ensures .1))
+          (appended-words cells after (now (s .args .words)) (s .args .held) (s .args .first) (s .args .levels) (s .pre .0 .0) (s .pre .0 .1) (ap (λ (u : Run). u .records) is) (s .pre .1 t) f),
+    )
 
 pub append-spec : {M : Type 1} → statement M
 append-spec =
     tie.close
-    (tie.spec new-links-requires name-back-requires cast-t12 store-requires same-length returns)
+    (tie.spec new-links-requires name-back-requires cast-t15 store-requires put-word-requires same-length returns)

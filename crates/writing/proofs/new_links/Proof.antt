@@ -11,10 +11,10 @@ use Rattle.writing.proofs.new_links.Statement.{statement}
 use Rattle.writing.proofs.new_links.Tie as tie
 
 abbrev Inv-loop : tie.InvT-loop
-Inv-loop held cells levels links₀ axis₀ links axis = (axis ≤ 8) × SoFar (linkAlong (levelsOf (heldIn cells held)) levels) axis links
+Inv-loop held cells words packed levels links₀ axis₀ links axis = (axis ≤ 8) × SoFar (linkAlong (levelsOf (heldIn cells held)) levels) axis links
 
 abbrev μ-loop : tie.MeasureT-loop
-μ-loop held cells levels links₀ axis₀ links axis = 8 - axis
+μ-loop held cells words packed levels links₀ axis₀ links axis = 8 - axis
 
 loop-holds : tie.Need-loop-holds Inv-loop μ-loop
 unfolding none

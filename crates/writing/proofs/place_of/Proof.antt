@@ -28,8 +28,8 @@ module _ (cells : List ℕ) (held : ℕ) (k : List ℕ) (room : held * 27 ≤ le
   no-place : lookupIn (heldIn cells held) k ≡ NotFound → none ≡ placeOf (levelsOf (heldIn cells held)) k
   no-place e = sym (not-held (heldIn cells held) k few-held (found-none (heldIn cells held) k few-held e))
 
-lookup-requires : tie.Need-lookup-requires
-lookup-requires c κs = search needs
+lookup-packed-requires : tie.Need-lookup-packed-requires
+lookup-packed-requires c κs = search needs
 
 enum-known-place : tie.Need-enum-known-place
 enum-known-place c = search needs
@@ -37,7 +37,7 @@ enum-known-place c = search needs
 cast-result : tie.Need-cast-result
 cast-result c =
     let s = c .before .before .before .before .before in
-    omega (arith, at-small (now (s .args .cells)) (s .args .held) (s .args .levels) (s .pre .0) (s .pre .1) (c .before .place .given .0 .0) (sym (c .before .before .before .lookup .ensures) ∙ c .before .place .given .1))
+    omega (arith, at-small (now (s .args .cells)) (s .args .held) (s .args .levels) (s .pre .0 .0) (s .pre .0 .1) (c .before .place .given .0 .0) (sym (c .before .before .before .lookup-packed .ensures) ∙ c .before .place .given .1))
 
 enum-told : tie.Need-enum-told
 enum-told c = search needs
@@ -45,14 +45,14 @@ enum-told c = search needs
 returns : tie.Need-returns
 returns c =
     let s = c .before .before .before .before .before in
-    at-place (now (s .args .cells)) (s .args .held) (s .args .levels) (s .pre .0) (s .pre .1) (c .before .place .given .0 .0) (sym (c .before .before .before .lookup .ensures) ∙ c .before .place .given .1)
+    at-place (now (s .args .cells)) (s .args .held) (s .args .levels) (s .pre .0 .0) (s .pre .0 .1) (c .before .place .given .0 .0) (sym (c .before .before .before .lookup-packed .ensures) ∙ c .before .place .given .1)
 
 returns-2 : tie.Need-returns-2
 unfolding none
 returns-2 c =
     let s = c .before .before .before .before in
-    no-place (now (s .args .cells)) (s .args .held) (s .args .levels) (s .pre .0) (s .pre .1) (sym (c .before .before .lookup .ensures) ∙ c .enum-told .given .1)
+    no-place (now (s .args .cells)) (s .args .held) (s .args .levels) (s .pre .0 .0) (s .pre .0 .1) (sym (c .before .before .lookup-packed .ensures) ∙ c .enum-told .given .1)
 
 pub place-of-spec : {M : Type 1} → statement M
 place-of-spec =
-    tie.close (tie.spec lookup-requires enum-known-place cast-result enum-told returns returns-2)
+    tie.close (tie.spec lookup-packed-requires enum-known-place cast-result enum-told returns returns-2)
