@@ -2,10 +2,13 @@
 
 use reference::area::WORDS;
 
-/// The exported functions. Each asks for what a sound area gives, so nothing
+pub mod search;
+
+/// The exported functions. Those on figures and points ask for what a sound area
+/// gives, those of the search for at most 512 records that lie in the cells, so nothing
 /// here may hand them anything else.
 pub mod proved {
-    use reference::grid::Point;
+    use reference::grid::{Levels, Point};
 
     #[allow(improper_ctypes)]
     extern "C" {
@@ -19,6 +22,8 @@ pub mod proved {
             store: &[i32],
         ) -> i64;
         pub fn figures_point(place: usize, n: usize, point: &mut Point, cells: &[u32]);
+        pub fn figures_search(held: usize, levels: &Levels, cells: &[u32]) -> usize;
+        pub fn figures_same_word(left: &Levels, right: &Levels) -> u32;
     }
 }
 

@@ -1,12 +1,13 @@
 //! Compares the proved figures with the reference's, on areas that the
 //! reference writes as bytes: those that the example jobs and the generator's
-//! jobs end with, samples by seed, and full areas; and the points of every
-//! block of up to four axes. One figure or one point apart fails.
+//! jobs end with, samples by seed, and full areas; the points of every block of up
+//! to four axes; and the search for levels, in those areas and among records with
+//! levels of every size. One figure, one point or one place apart fails.
 
-use comparison::{proved, words};
+use comparison::{proved, search as packed, words};
 use reference::area::{Area, WORDS};
 use reference::grid::{self, Levels, BUDGET_LIMIT, HELD_LIMIT, MOST_AXES};
-use reference::{calls, examples, generate, jobfile, program, sample, soundness, sums};
+use reference::{calls, examples, generate, jobfile, program, sample, search, soundness, sums};
 use std::process::ExitCode;
 
 /// The most axes of the blocks that are compared point by point, each of them.
@@ -20,6 +21,10 @@ struct Tally {
     indices: usize,
     blocks: usize,
     points: usize,
+    searches: usize,
+    found: usize,
+    pairs: usize,
+    equal: usize,
     faults: usize,
 }
 
@@ -80,6 +85,44 @@ impl Tally {
         }
     }
 
+    /// Compares each search among the held records, and each pair of the sought list
+    /// and the one found, or the one at a place by turns.
+    fn compare_search(&mut self, name: &str, held: &[Levels], sought: &[Levels], cells: &[u32]) {
+        for (turn, levels) in sought.iter().enumerate() {
+            let place = packed::found(held.len(), levels, cells);
+            let expected = search::first_with(held, levels);
+            self.searches += 1;
+            self.found += usize::from(expected.is_some());
+            if place != expected {
+                self.faults += 1;
+                eprintln!(
+                    "{name}, search for {levels:?}: proved {place:?}, reference {expected:?}"
+                );
+            }
+            if let Some(other) = expected.or(turn.checked_rem(held.len())).map(|at| &held[at]) {
+                self.compare_pair(name, levels, other);
+            }
+        }
+    }
+
+    fn compare_pair(&mut self, name: &str, left: &Levels, right: &Levels) {
+        let proved = packed::same_word(left, right);
+        let expected = search::same_packed(left, right);
+        self.pairs += 1;
+        self.equal += usize::from(expected == search::Comparison::Equal);
+        if proved != expected {
+            self.faults += 1;
+            eprintln!("{name}, {left:?} and {right:?}: proved {proved:?}, reference {expected:?}");
+        }
+    }
+
+    /// The searches that a promotion and a check could make in an area, among its own
+    /// cells.
+    fn search_area(&mut self, name: &str, area: &Area) {
+        let (cells, _) = words(&area.to_bytes());
+        self.compare_search(name, &search::held_in(area), &search::sought_in(area), &cells);
+    }
+
     fn compare_job(&mut self, name: &str, bytes: &[u8]) {
         if let Ok(job) = jobfile::parse(bytes) {
             let mut area = Area::empty(HELD_LIMIT, BUDGET_LIMIT as usize);
@@ -101,18 +144,30 @@ fn main() -> ExitCode {
         tally.compare_job(&format!("generated job {seed}"), &generate::generate(seed).bytes);
     }
     for seed in 0..1000 {
-        tally.compare(&format!("sample {seed}"), &sample::area(seed));
+        let (name, area) = (format!("sample {seed}"), sample::area(seed));
+        tally.compare(&name, &area);
+        tally.search_area(&name, &area);
     }
     for seed in 0..8 {
         let axes = 1 + seed as usize;
-        tally.compare(&format!("full area {seed}"), &sample::full_area(seed, axes));
+        let (name, area) = (format!("full area {seed}"), sample::full_area(seed, axes));
+        tally.compare(&name, &area);
+        tally.search_area(&name, &area);
     }
-    let Tally { areas, unsound, indices, blocks, points, faults } = tally;
+    for seed in 0..1000 {
+        let (held, sought) = search::held_lists(seed);
+        tally.compare_search(&format!("lists {seed}"), &held, &sought, &packed::cells(&held));
+    }
+    let Tally { areas, unsound, indices, blocks, points, .. } = tally;
+    let Tally { searches, found, pairs, equal, faults, .. } = tally;
     println!("comparison: {areas} areas, {indices} delivered indices");
     println!("comparison: {blocks} blocks of one to four axes, {points} points by number");
-    println!("comparison: {faults} figures or points apart");
+    println!(
+        "comparison: {searches} searches, {found} of them found; {pairs} pairs, {equal} equal"
+    );
+    println!("comparison: {faults} figures, points or places apart");
     println!("comparison: {unsound} areas left out, whose jobs were refused and are not sound");
-    match faults == 0 && areas > 1000 && blocks > 1000 {
+    match faults == 0 && areas > 1000 && blocks > 1000 && found > 1000 && searches > found {
         true => ExitCode::SUCCESS,
         false => ExitCode::FAILURE,
     }
