@@ -1,6 +1,6 @@
 /*
  * Wihupya, the sparse-grid integrator, for callers in C (C99) and C++. Link target/staticlib/libwihupya.a, which `make exported`
- * writes for x86-64 Linux; of other libraries it needs memcpy alone.
+ * writes for x86-64 Linux; of other libraries it needs memcpy and memset alone.
  *
  * The library decides which points to measure and averages the readings. You measure. A job runs like this (as a program:
  * examples/pump-in-c/pump.c):
@@ -32,7 +32,7 @@
  * the arrays: old, altered, garbage or never set.
  *
  * STACK. Measured, on jobs at both ceilings and with 512 indices: wihupya_deliver and wihupya_doubles take up to 16 KB of stack,
- * wihupya_cross_total 3 KB, every other call less than 1 KB.
+ * wihupya_promote 5 KB, wihupya_cross_total 3 KB, every other call less than 1 KB.
  *
  * LATER RELEASES. Words, doubles and values of a word are only ever appended, never moved. When they are, compile anew with the new header: the arrays that
  * you lend become longer. There is no version word: an area that an earlier release saved has to be started anew; do not count on
@@ -41,7 +41,8 @@
  * two words more, result gives two words more, and what was met before may be capped (see wihupya_choose). Choosing and promoting became two
  * calls: before, wihupya_promote took no place, chose by itself, and answered met and capped too. Call wihupya_choose instead, and where it
  * answers a place, wihupya_promote with that place: a job that goes on so is the same as before. No word of the job record moved, and job files
- * stay as they are. Then the program, not a call, came to tell which part of a malformed job file is at fault: what was number 10 is 10, 12 or 13.
+ * stay as they are. Then the program, not a call, came to tell which part of a malformed job file is at fault: what was number 10 is 10, 12 or 13. Then
+ * wihupya_promote came to take 4 KB of stack more, and to need memset; its answers are the same.
  * Kept for later, and none of them in use: job words 12 to 17 (means of outputs 2 to 4), 18 (outputs), 19 (edition) and 20 (weight); words 11
  * to 16 (further means) of result.
  *
