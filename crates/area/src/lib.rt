@@ -257,7 +257,8 @@ pub fn put_word(place: usize, levels: [u32; 8], words: &mut [u64; 512]) -> bool
     }
 }
 
-// Packs the held records: yes if every held level fits a byte, and then the words are those of the held run.
+// Packs the held records: yes exactly if every held level fits a byte, and then the words are those of the held run. (That the array behind the reference has
+// its 512 words is known to the caller that made it.)
 pub fn pack_held(cells: &[u32], held: usize, words: &mut [u64; 512]) -> bool
     requires { ⌜ (held * 27 ≤ length (now cells)) × (held ≤ 512) × (length (now words) ≡ 512) ⌝ }
     ensures answer { λ r. ⌜ r ≡ allFitByte (heldIn (now (cells .entry)) held) ⌝ }
