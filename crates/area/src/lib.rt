@@ -1,3 +1,4 @@
+#![tactic(auto)]
 // Storage: what a job is started with and how many readings its points have; the job record by value, and index records in one lent
 // slice of cells, 27 words to a record. Only the functions of this file touch a cell; their contracts speak of the records that the
 // cells hold. For a search the levels of records can be packed, eight to a word of 64 bits, in an array beside the cells.
@@ -21,14 +22,14 @@ pub const ACTIVE: u32 = 1;
 pub const OLD: u32 = 2;
 
 // What a job is started with.
-#[derive(Drop)]
+#[derive(Clone, Copy)]
 pub struct Settings {
     pub axes: u32,
     pub threshold: u64,
     pub budget: u32,
 }
 
-#[derive(Drop)]
+#[derive(Clone, Copy)]
 pub struct JobRecord {
     pub settings: Settings,
     pub held: u32,
@@ -39,7 +40,7 @@ pub struct JobRecord {
 }
 
 // The links are the places of the forward neighbours along axes 1 to 8, then those of the backward neighbours.
-#[derive(Drop)]
+#[derive(Clone, Copy)]
 pub struct IndexRecord {
     pub levels: [u32; 8],
     pub state: u32,
@@ -49,14 +50,14 @@ pub struct IndexRecord {
 }
 
 // Where a level list is held.
-#[derive(Drop)]
+#[derive(Clone, Copy)]
 pub enum LookupResult {
     At(usize),
     NotFound,
 }
 
 // Eight levels as one word, or that one of them is larger than a byte.
-#[derive(Drop)]
+#[derive(Clone, Copy)]
 pub enum Packed {
     Word(u64),
     Larger,

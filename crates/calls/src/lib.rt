@@ -1,15 +1,16 @@
+#![tactic(auto)]
 // The calls start, point, points, deliver, choose, promote, result, doubles and cross total. Each first looks for a cause to refuse; a refused
 // call changes nothing.
 ghost use Rattle.std.specs.Prelude.{◌≡◌};
 ghost use Rattle.area.specs.Encoding.{area_of};
 ghost use Rattle.machine.specs.Causes.{first_cause, in_range, start_causes};
 ghost use Rattle.promotion.specs.Outcomes.{choice_of, outcome_of};
-ghost use Rattle.calls.specs.Replies.{chosen, promotion as outcomeReply, reply_of, reply_of_points, reply_of_choose, reply_of_result, reply_of_doubles, reply_of_total};
-ghost use Rattle.calls.specs.Table.{start, point, points, deliver, choose, promote, result, doubles, cross_total, answer};
+ghost use Rattle.calls.specs.Replies.{chosen, promotion as outcome_reply, reply_of, reply_of_points, reply_of_choose, reply_of_result, reply_of_doubles, reply_of_total};
+ghost use Rattle.calls.specs.Table.{start, point, points, deliver, choose, promote, result as result_call, doubles, cross_total, answer};
 ghost use Rattle.calls.specs.Calls.{call_on, call_result_of, point_cause, deliver_cause, choose_cause, promote_cause, area_cause};
 
 // What a call answers; `Refused` carries the number of the cause.
-#[derive(Drop)]
+#[derive(Clone, Copy)]
 pub enum Answer {
     Refused(u32),
     Accepted,
@@ -18,21 +19,21 @@ pub enum Answer {
 }
 
 // An answer with the job record that the call leaves.
-#[derive(Drop)]
+#[derive(Clone, Copy)]
 pub struct CallOutput {
     pub answer: Answer,
     pub job: area::JobRecord,
 }
 
 // The answer of points.
-#[derive(Drop)]
+#[derive(Clone, Copy)]
 pub enum PointsAnswer {
     Refused(u32),
     Wrote(delivery::PointCounts),
 }
 
 // The answer of choose; `Chosen` carries the place that the rule selects.
-#[derive(Drop)]
+#[derive(Clone, Copy)]
 pub enum ChooseAnswer {
     Refused(u32),
     Met,
@@ -41,21 +42,21 @@ pub enum ChooseAnswer {
 }
 
 // Result's answer.
-#[derive(Drop)]
+#[derive(Clone, Copy)]
 pub enum ResultAnswer {
     Refused(u32),
     Counted(counting::Counts),
 }
 
 // The answer of doubles.
-#[derive(Drop)]
+#[derive(Clone, Copy)]
 pub enum Doubled {
     Refused(u32),
     Reported(doubles::Report),
 }
 
 // Cross total's answer.
-#[derive(Drop)]
+#[derive(Clone, Copy)]
 pub enum TotalAnswer {
     Refused(u32),
     Total(i64),
@@ -63,14 +64,14 @@ pub enum TotalAnswer {
 
 // Whether all are readings.
 fn in_range(readings: &[i32]) -> bool
-    ensures* { λ r. ⌜ r ≡ in_range readings.now ⌝ }
+    ensures { result ≡ in_range readings.now }
 {
     checking::readings_fit(0, readings.len(), readings)
 }
 
 // Why start is refused, in lent storage of so many records and readings; 0 if it isn't.
 pub fn start_cause(settings: area::Settings, records: usize, readings: usize) -> u32
-    ensures* { λ r. ⌜ r ≡ first_cause (start_causes (record { records = records; readings = readings }) settings) ⌝ }
+    ensures { result ≡ first_cause (start_causes (record { records = records; readings = readings }) settings) }
 {
     if settings.axes < 1 {
         return 1;
@@ -95,7 +96,7 @@ pub fn start_cause(settings: area::Settings, records: usize, readings: usize) ->
 
 // Why the storage or the area refuses a call other than start and check; 0 if neither does.
 fn area_cause(job: area::JobRecord, cells: &[u32], store: &[i32]) -> u32
-    ensures* { λ r. ⌜ r ≡ area_cause (area_of job cells.now store.now) ⌝ }
+    ensures { result ≡ area_cause (area_of job cells.now store.now) }
 {
     if cells.len() / 27 < 512 {
         return 3;
@@ -112,7 +113,7 @@ fn area_cause(job: area::JobRecord, cells: &[u32], store: &[i32]) -> u32
 
 // Why point and points are refused.
 fn point_cause(job: area::JobRecord, n: usize, room: usize, cells: &[u32], store: &[i32]) -> u32
-    ensures* { λ r. ⌜ r ≡ point_cause (area_of job cells.now store.now) n room ⌝ }
+    ensures { result ≡ point_cause (area_of job cells.now store.now) n room }
 {
     let axes = job.settings.axes as usize;
     if room < axes {
@@ -136,7 +137,7 @@ fn point_cause(job: area::JobRecord, n: usize, room: usize, cells: &[u32], store
 
 // Why deliver is refused.
 fn deliver_cause(job: area::JobRecord, readings: &[i32], cells: &[u32], store: &[i32]) -> u32
-    ensures* { λ r. ⌜ r ≡ deliver_cause (area_of job cells.now store.now) readings.now ⌝ }
+    ensures { result ≡ deliver_cause (area_of job cells.now store.now) readings.now }
 {
     let cause = area_cause(job, cells, store);
     if cause != 0 {
@@ -160,7 +161,7 @@ fn deliver_cause(job: area::JobRecord, readings: &[i32], cells: &[u32], store: &
 
 // Why choose is refused.
 fn choose_cause(job: area::JobRecord, cells: &[u32], store: &[i32]) -> u32
-    ensures* { λ r. ⌜ r ≡ choose_cause (area_of job cells.now store.now) ⌝ }
+    ensures { result ≡ choose_cause (area_of job cells.now store.now) }
 {
     let cause = area_cause(job, cells, store);
     if cause != 0 {
@@ -175,7 +176,7 @@ fn choose_cause(job: area::JobRecord, cells: &[u32], store: &[i32]) -> u32
 
 // Why promote is refused: as choose is, and then if the place is not that of an active index.
 fn promote_cause(job: area::JobRecord, place: usize, cells: &[u32], store: &[i32]) -> u32
-    ensures* { λ r. ⌜ r ≡ promote_cause (area_of job cells.now store.now) place ⌝ }
+    ensures { result ≡ promote_cause (area_of job cells.now store.now) place }
 {
     let cause = choose_cause(job, cells, store);
     if cause != 0 {
@@ -198,7 +199,7 @@ pub fn start(
     cells: &mut [u32],
     store: &[i32],
 ) -> CallOutput
-    ensures* { λ r. ⌜ call_result_of r cells.new store.now ≡ call_on (area_of job cells.old store.now) (start settings) ⌝ }
+    ensures { call_result_of result cells.new store.now ≡ call_on (area_of job cells.old store.now) (start settings) }
 {
     let cause = start_cause(settings, cells.len() / 27, store.len());
     if cause != 0 {
@@ -222,7 +223,7 @@ pub fn point(
     store: &[i32],
     buffer: &mut [u8],
 ) -> Answer
-    ensures* { λ r. ⌜ record { reply = reply_of r; buffer = buffer.new } ≡ (call_on (area_of job cells.now store.now) (point n buffer.old)).answer ⌝ }
+    ensures { record { reply = reply_of result; buffer = buffer.new } ≡ (call_on (area_of job cells.now store.now) (point n buffer.old)).answer }
 {
     let cause = point_cause(job, n, buffer.len(), cells, store);
     if cause != 0 {
@@ -242,7 +243,7 @@ pub fn points(
     store: &[i32],
     buffer: &mut [u8],
 ) -> PointsAnswer
-    ensures* { λ r. ⌜ record { reply = reply_of_points r; buffer = buffer.new } ≡ (call_on (area_of job cells.now store.now) (points n buffer.old)).answer ⌝ }
+    ensures { record { reply = reply_of_points result; buffer = buffer.new } ≡ (call_on (area_of job cells.now store.now) (points n buffer.old)).answer }
 {
     let cause = point_cause(job, n, buffer.len(), cells, store);
     if cause != 0 {
@@ -261,7 +262,7 @@ pub fn deliver(
     cells: &mut [u32],
     store: &mut [i32],
 ) -> CallOutput
-    ensures* { λ r. ⌜ call_result_of r cells.new store.new ≡ call_on (area_of job cells.old store.old) (deliver readings.now indicator) ⌝ }
+    ensures { call_result_of result cells.new store.new ≡ call_on (area_of job cells.old store.old) (deliver readings.now indicator) }
 {
     let cause = deliver_cause(job, readings, cells, store);
     if cause != 0 {
@@ -280,7 +281,7 @@ pub fn deliver(
 
 // Chooses: met, capped or the place that the rule selects.
 pub fn choose(job: area::JobRecord, cells: &[u32], store: &[i32]) -> ChooseAnswer
-    ensures* { λ r. ⌜ answer (reply_of_choose r) ≡ (call_on (area_of job cells.now store.now) choose).answer ⌝ }
+    ensures { answer (reply_of_choose result) ≡ (call_on (area_of job cells.now store.now) choose).answer }
 {
     let cause = choose_cause(job, cells, store);
     if cause != 0 {
@@ -292,7 +293,7 @@ pub fn choose(job: area::JobRecord, cells: &[u32], store: &[i32]) -> ChooseAnswe
 
 // A choice as an answer.
 fn as_chosen(choice: promotion::Choice) -> ChooseAnswer
-    ensures* { λ r. ⌜ reply_of_choose r ≡ chosen (choice_of choice) ⌝ }
+    ensures { reply_of_choose result ≡ chosen (choice_of choice) }
 {
     match choice {
         promotion::Choice::Met => ChooseAnswer::Met,
@@ -303,7 +304,7 @@ fn as_chosen(choice: promotion::Choice) -> ChooseAnswer
 
 // Promotes: the active index at the place is refined, unless that is spent.
 pub fn promote(job: area::JobRecord, place: usize, cells: &mut [u32], store: &[i32]) -> CallOutput
-    ensures* { λ r. ⌜ call_result_of r cells.new store.now ≡ call_on (area_of job cells.old store.now) (promote place) ⌝ }
+    ensures { call_result_of result cells.new store.now ≡ call_on (area_of job cells.old store.now) (promote place) }
 {
     let cause = promote_cause(job, place, cells, store);
     if cause != 0 {
@@ -319,7 +320,7 @@ pub fn promote(job: area::JobRecord, place: usize, cells: &mut [u32], store: &[i
 
 // A promotion as an answer.
 fn as_answer(promotion: promotion::Promotion) -> CallOutput
-    ensures* { λ r. ⌜ (reply_of r.answer ≡ outcomeReply (outcome_of promotion.outcome)) × (r.job ≡ promotion.job) ⌝ }
+    ensures { (reply_of result.answer ≡ outcome_reply (outcome_of promotion.outcome)) × (result.job ≡ promotion.job) }
 {
     let outcome = promotion.outcome;
     let job = promotion.job;
@@ -337,7 +338,7 @@ fn as_answer(promotion: promotion::Promotion) -> CallOutput
 
 // The counts of the area.
 pub fn result(job: area::JobRecord, cells: &[u32], store: &[i32]) -> ResultAnswer
-    ensures* { λ r. ⌜ answer (reply_of_result r) ≡ (call_on (area_of job cells.now store.now) result).answer ⌝ }
+    ensures { answer (reply_of_result result) ≡ (call_on (area_of job cells.now store.now) result_call).answer }
 {
     let cause = area_cause(job, cells, store);
     if cause != 0 {
@@ -348,7 +349,7 @@ pub fn result(job: area::JobRecord, cells: &[u32], store: &[i32]) -> ResultAnswe
 
 // The report of doubles of the area.
 pub fn doubles(job: area::JobRecord, cells: &[u32], store: &[i32]) -> Doubled
-    ensures* { λ r. ⌜ answer (reply_of_doubles r) ≡ (call_on (area_of job cells.now store.now) doubles).answer ⌝ }
+    ensures { answer (reply_of_doubles result) ≡ (call_on (area_of job cells.now store.now) doubles).answer }
 {
     let cause = area_cause(job, cells, store);
     if cause != 0 {
@@ -359,7 +360,7 @@ pub fn doubles(job: area::JobRecord, cells: &[u32], store: &[i32]) -> Doubled
 
 // The scaled mean worked out from the readings, whatever mean is recorded.
 pub fn cross_total(job: area::JobRecord, cells: &[u32], store: &[i32]) -> TotalAnswer
-    ensures* { λ r. ⌜ answer (reply_of_total r) ≡ (call_on (area_of job cells.now store.now) cross_total).answer ⌝ }
+    ensures { answer (reply_of_total result) ≡ (call_on (area_of job cells.now store.now) cross_total).answer }
 {
     let cause = area_cause(job, cells, store);
     if cause != 0 {

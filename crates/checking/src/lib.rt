@@ -1,3 +1,4 @@
+#![tactic(auto)]
 // Whether an area is sound. Links are followed and never searched for, so the work grows with what is held. Two passes over the
 // places: the second asks for completeness, and reads where the first has tested.
 ghost use Rattle.std.specs.Prelude.{◌≡◌, true, ℕ, ◌+◌, ◌*◌, ◌^◌, ◌<◌, ◌≤◌, leb, nat_abs, length};

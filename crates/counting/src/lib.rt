@@ -1,3 +1,4 @@
+#![tactic(auto)]
 // Result, doubles and cross total on an area that is known to be sound. The public calls are those of the crate `calls`.
 ghost use Rattle.std.specs.Prelude.{◌≡◌, ℕ, ◌*◌, ◌<◌, ◌≤◌, length};
 ghost use Rattle.grid.specs.Index.{Within};
@@ -11,7 +12,7 @@ ghost use Rattle.writing.specs.ValidArea.{ValidArea};
 ghost use Rattle.counting.specs.Answer.{counts_in};
 ghost use Rattle.counting.specs.Doubles.{doubles_of};
 
-#[derive(Drop)]
+#[derive(Clone, Copy)]
 pub struct Counts {
     pub old: u32,
     pub active: u32,

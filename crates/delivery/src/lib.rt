@@ -1,3 +1,4 @@
+#![tactic(auto)]
 // Start, point, points and deliver as the calls do them once nothing refuses: deliver asks for a valid area, the others for room and ranges.
 // The public calls are those of the crate `calls`.
 ghost use Rattle.std.specs.Prelude.{◌≡◌, ◌⊎◌, true, ◌++◌, ◌+◌, ◌*◌, ◌<◌, ◌≤◌, pos, length, take, drop};
@@ -102,7 +103,7 @@ fn lesser(a: usize, b: usize) -> usize
 }
 
 // How many points a call wrote, and how many the block has.
-#[derive(Drop)]
+#[derive(Clone, Copy)]
 pub struct PointCounts {
     pub written: u32,
     pub size: u32,

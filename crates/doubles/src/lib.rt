@@ -1,9 +1,10 @@
+#![tactic(auto)]
 // Whole numbers as IEEE doubles, with nothing lost; and the report of doubles, which is made of them.
 ghost use Rattle.std.specs.Prelude.{◌≡◌, ◌^◌, ◌<◌, pos, nat_abs};
 ghost use Rattle.doubles.specs.Double.{double, report_of};
 
 // The mean, the pending error and the largest delivered difference.
-#[derive(Drop)]
+#[derive(Clone, Copy)]
 pub struct Report {
     pub mean: f64,
     pub pending: f64,

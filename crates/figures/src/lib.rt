@@ -1,3 +1,4 @@
+#![tactic(auto)]
 // The figures of an area, the points of its blocks and the search among its records, exported so that a program in another language can compare them: only the
 // comparison links them, and the library for callers (`wihupya`) does not have them.
 // Nothing asks a caller outside for what is required here, so the comparison hands over areas that meet it.
@@ -6,7 +7,7 @@ ghost use Rattle.grid.specs.Index.{Within};
 ghost use Rattle.grid.specs.Block.{block_size, point_of};
 ghost use Rattle.grid.specs.Difference.{scaled_difference, scaled_mean};
 ghost use Rattle.grid.specs.Tensor.{tensor_rule};
-ghost use Rattle.grid.specs.Coefficient.{coefficient as coefficientOf, same_levels};
+ghost use Rattle.grid.specs.Coefficient.{coefficient as coefficient_of, same_levels};
 ghost use Rattle.area.specs.Records.{records_of, held_in, levels_of};
 ghost use Rattle.area.specs.Encoding.{place_of};
 ghost use Rattle.area.specs.Packed.{fits_byte};
@@ -41,7 +42,7 @@ pub extern "C" fn figures_tensor_rule(
 #[unsafe(no_mangle)]
 pub extern "C" fn figures_coefficient(axes: usize, held: usize, place: usize, cells: &[u32]) -> i64
     requires { Linked axes (held_in cells.now held) × (held * 27 ≤ length cells.now) × (place < held) }
-    ensures { result ≡ coefficientOf (delivered_in (held_in cells.now held)) (record_at (held_in cells.now held) place).levels }
+    ensures { result ≡ coefficient_of (delivered_in (held_in cells.now held)) (record_at (held_in cells.now held) place).levels }
 {
     quadrature::coefficient(axes, held, place, cells)
 }

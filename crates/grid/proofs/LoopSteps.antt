@@ -18,7 +18,7 @@ use lib.Pow.{pow-add, pow_mono, pow_pos, shr-shr}
 use lib.Seq.{drop-cons, take-suc-set, drop-set-lt, take-suc, append_snoc}
 use Rattle.rule.specs.Points.{new_count, new_point}
 use Rattle.grid.specs.Index.{level, excess, Within, levels_within, within}
-use Rattle.grid.specs.Block.{turned as turnedAt, block_size, point_after}
+use Rattle.grid.specs.Block.{turned as turned_at, block_size, point_after}
 use Rattle.grid.specs.Coefficient.{sign, raised_on, marks}
 use Rattle.grid.proofs.Levels.{Levels, within_levels}
 
@@ -125,7 +125,7 @@ factor_le a b n h e = le_trans (le_of_eq (sym (NatL.mul-one a))) (le_trans (mul-
 
 pub point_step : (r : ℕ) (k : List ℕ) (a n : ℕ) → a < length k
     → point_after r (drop a k) n
-    ≡ new_point (level k a) (turnedAt r (new_count (level k a)) (n / block_size (drop (a + 1) k)))
+    ≡ new_point (level k a) (turned_at r (new_count (level k a)) (n / block_size (drop (a + 1) k)))
     ∷ point_after (r * new_count (level k a) + n / block_size (drop (a + 1) k)) (drop (a + 1) k) (n % block_size (drop (a + 1) k))
 unfolding point_after
 point_step r k a n h = rw (axis_left k a h)

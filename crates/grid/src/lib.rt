@@ -1,3 +1,4 @@
+#![tactic(auto)]
 // Indices by value: ceilings, neighbours, blocks and their points, subsets of the axes as masks.
 ghost use Rattle.std.specs.Prelude.{◌≡◌, ◌≤◌, ◌<◌};
 ghost use Rattle.grid.specs.Index.{level, excess, Within, within, forward, backward, capped_axes, at_ceiling};

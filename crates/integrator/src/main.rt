@@ -1,3 +1,4 @@
+#![tactic(auto)]
 // The program: a job file on standard input, its report or the line of its refusal on standard output.
 ghost use Rattle.std.specs.Prelude.{◌≡◌, ◌+◌, ◌≤◌, length};
 ghost use Rattle.std.proofs.Math.Seq.{paste};
@@ -6,7 +7,7 @@ ghost use Rattle.integrator.specs.Reading.{Read, Fits};
 use libc::{STDIN_FILENO, STDOUT_FILENO};
 
 // What reading gave: it failed, or so many bytes came, 0 of them at the end of the input.
-#[derive(Drop)]
+#[derive(Clone, Copy)]
 enum ReadResult {
     Failed,
     Bytes(usize),

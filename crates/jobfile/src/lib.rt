@@ -1,10 +1,11 @@
+#![tactic(auto)]
 // The job file: its form, tested field by field in byte order before anything else, and reading its fields in place.
 ghost use Rattle.std.specs.Prelude.{◌≡◌, ℕ, ◌+◌, ◌<◌, ◌≤◌, length};
 ghost use Rattle.jobfile.specs.Bytes.{four, eight, signed_four};
 ghost use Rattle.jobfile.specs.Form.{Form as FileForm, formed, header_form, entry_count, table_form, readings_form, form_of, form_in, table_in};
 
 // Formed, or the part in which a rule of form is broken, with the byte named. `form_in` (specs/Form.antt) gives the number of each case.
-#[derive(Drop)]
+#[derive(Clone, Copy)]
 pub enum Form {
     Formed,
     Header(usize),
@@ -13,7 +14,7 @@ pub enum Form {
 }
 
 // The table's entries: how many readings they and those before them count, or the byte named.
-#[derive(Drop)]
+#[derive(Clone, Copy)]
 enum Table {
     Formed(usize),
     Broken(usize),

@@ -1,3 +1,4 @@
+#![tactic(auto)]
 // Choose and promote on an area that is known to be sound: whether to go on, selecting a place, and refining any active place. The public calls
 // are those of the crate `calls`.
 ghost use Rattle.std.specs.Prelude.{◌≡◌, cond, ℕ, ◌+◌, ◌*◌, ◌^◌, ◌<◌, ◌≤◌, leb, length};
@@ -18,20 +19,20 @@ ghost use Rattle.promotion.specs.Outcomes.{choice_of, promotion_of};
 ghost use Rattle.promotion.specs.Marks.{marks_of, marked_axes, Searchable, MarkedWithin};
 
 // What choose answers; `Place` carries the place that the rule selects.
-#[derive(Drop)]
+#[derive(Clone, Copy)]
 pub enum Choice {
     Met,
     Capped,
     Place(usize),
 }
 
-#[derive(Drop)]
+#[derive(Clone, Copy)]
 pub enum Outcome {
     Spent,
     Promoted,
 }
 
-#[derive(Drop)]
+#[derive(Clone, Copy)]
 pub struct Promotion {
     pub outcome: Outcome,
     pub job: area::JobRecord,

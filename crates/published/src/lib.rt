@@ -1,1 +1,2 @@
+#![tactic(auto)]
 // The published algorithm, and that the machine follows it. No functions.

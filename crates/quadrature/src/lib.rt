@@ -1,3 +1,4 @@
+#![tactic(auto)]
 // Numbers over storage: the difference of an index, its full tensor rule, its combination coefficient, the sum of differences, the
 // largest of them, and the sum of coefficient times full tensor rule, which is the same mean worked out another way.
 // An index is reached along forward links, from the root or, for a coefficient, from the index itself: in a sound area they name
@@ -9,7 +10,7 @@ ghost use Rattle.grid.specs.Terms.{IsReading};
 ghost use Rattle.grid.specs.Difference.{units, scaled_difference, scaled_mean};
 ghost use Rattle.grid.specs.Largest.{largest_difference};
 ghost use Rattle.grid.specs.Tensor.{tensor_sum, tensor_rule};
-ghost use Rattle.grid.specs.Coefficient.{raised_on, marks, coefficient as coefficientOf};
+ghost use Rattle.grid.specs.Coefficient.{raised_on, marks, coefficient as coefficient_of};
 ghost use Rattle.grid.specs.Cross.{cross_total};
 ghost use Rattle.area.specs.Records.{records_of, held_in};
 ghost use Rattle.area.specs.Lookup.{lookup_in};
@@ -258,7 +259,7 @@ fn subset_term(axes: usize, held: usize, place: usize, mask: u8, cells: &[u32]) 
 // The combination coefficient of the index at a place, over the delivered indices among the held.
 pub fn coefficient(axes: usize, held: usize, place: usize, cells: &[u32]) -> i64
     requires { Linked axes (held_in cells.now held) × (held * 27 ≤ length cells.now) × (place < held) }
-    ensures is { result ≡ coefficientOf (delivered_in (held_in cells.now held)) (record_at (held_in cells.now held) place).levels }
+    ensures is { result ≡ coefficient_of (delivered_in (held_in cells.now held)) (record_at (held_in cells.now held) place).levels }
     ensures small { nat_abs result ≤ 256 }
 {
     let subsets = 1usize << axes;

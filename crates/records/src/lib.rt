@@ -1,3 +1,4 @@
+#![tactic(auto)]
 // The calls over a lent run of index record structs. Each but start serializes the records into cells and makes the call on the cells; start
 // reads none. One that changed the area stores the records then held, start record 0 alone; a refused call stores none. A job holds at most
 // 512 records, so no more are serialized; a call never looks at the others or changes them.
@@ -5,7 +6,7 @@ ghost use Rattle.std.specs.Prelude.{◌≡◌, ◌*◌, ◌<◌, ◌≤◌, leng
 ghost use Rattle.area.specs.Records.{records_of, run_of, blank};
 ghost use Rattle.soundness.specs.Clauses.{checked};
 ghost use Rattle.calls.specs.Replies.{reply_of, reply_of_points, reply_of_choose, reply_of_result, reply_of_doubles, reply_of_total};
-ghost use Rattle.calls.specs.Table.{start, point, points, deliver, choose, promote, result, doubles, cross_total, answer};
+ghost use Rattle.calls.specs.Table.{start, point, points, deliver, choose, promote, result as result_call, doubles, cross_total, answer};
 ghost use Rattle.calls.specs.Calls.{call_on};
 ghost use Rattle.records.specs.Lent.{area_on, call_result_on, min, over, over_run, front, stored_by, StartedOver};
 
@@ -13,14 +14,14 @@ ghost use Rattle.records.specs.Lent.{area_on, call_result_on, min, over, over_ru
 const MOST: usize = 512;
 
 // Records as cells: so many of them, 27 words to a record, with room for 512.
-#[derive(Drop)]
+#[derive(Clone, Copy)]
 pub struct Flat {
     pub count: usize,
     pub words: [u32; 13824],
 }
 
 // What a call on cells leaves: its answer, how many records are to be stored back, and the cells.
-#[derive(Drop)]
+#[derive(Clone, Copy)]
 pub struct FlatOutput {
     pub answer: calls::CallOutput,
     pub stored: usize,
@@ -28,21 +29,21 @@ pub struct FlatOutput {
 }
 
 fn count(records: &[area::IndexRecord]) -> usize
-    ensures* { λ r. ⌜ r ≡ length records.now ⌝ }
+    ensures { result ≡ length records.now }
 {
     records.len()
 }
 
 fn load(records: &[area::IndexRecord], place: usize) -> area::IndexRecord
     requires { place < length records.now }
-    ensures* { λ r. ⌜ r ≡ get_or records.now place blank ⌝ }
+    ensures { result ≡ get_or records.now place blank }
 {
     records[place]
 }
 
 fn store(records: &mut [area::IndexRecord], place: usize, index: area::IndexRecord)
     requires { place < length records.old }
-    ensures* { λ r. ⌜ records.new ≡ set records.old place index ⌝ }
+    ensures { records.new ≡ set records.old place index }
 {
     records[place] = index;
 }
@@ -50,7 +51,7 @@ fn store(records: &mut [area::IndexRecord], place: usize, index: area::IndexReco
 // The first n records, into the cells.
 fn serialize(records: &[area::IndexRecord], n: usize, cells: &mut [u32])
     requires { (n ≤ length records.now) × (n * 27 ≤ length cells.old) }
-    ensures* { λ r. ⌜ run_of cells.new ≡ over_run n records.now (run_of cells.old) ⌝ }
+    ensures { run_of cells.new ≡ over_run n records.now (run_of cells.old) }
 {
     let mut place = 0usize;
     while place < n {
@@ -63,7 +64,7 @@ fn serialize(records: &[area::IndexRecord], n: usize, cells: &mut [u32])
 // The first n records of the cells, into the records.
 fn deserialize(records: &mut [area::IndexRecord], n: usize, cells: &[u32])
     requires { (n ≤ length records.old) × (n * 27 ≤ length cells.now) }
-    ensures* { λ r. ⌜ records.new ≡ over n (records_of cells.now) records.old ⌝ }
+    ensures { records.new ≡ over n (records_of cells.now) records.old }
 {
     let mut place = 0usize;
     while place < n {
@@ -75,20 +76,20 @@ fn deserialize(records: &mut [area::IndexRecord], n: usize, cells: &[u32])
 
 // How many of so many records a call looks at: 512 at most, since no job holds more.
 fn looked_at(count: usize) -> usize
-    ensures* { λ r. ⌜ r ≡ min count 512 ⌝ }
+    ensures { result ≡ min count 512 }
 {
     if count < MOST { count } else { MOST }
 }
 
 fn lesser(a: usize, b: usize) -> usize
-    ensures* { λ r. ⌜ r ≡ min a b ⌝ }
+    ensures { result ≡ min a b }
 {
     if a < b { a } else { b }
 }
 
 // How many of so many records a call has to store back: those held where it changed the area, else none.
 fn to_store(output: calls::CallOutput, count: usize) -> usize
-    ensures* { λ r. ⌜ r ≡ stored_by output.answer (min output.job.held count) ⌝ }
+    ensures { result ≡ stored_by output.answer (min output.job.held count) }
 {
     let answer = output.answer;
     let held = lesser(output.job.held as usize, count);
@@ -106,7 +107,7 @@ fn no_words() -> [u32; 13824] {
 
 // The records as cells, no more than a job can hold.
 fn flatten(records: &[area::IndexRecord]) -> Flat
-    ensures* { λ r. ⌜ (r.count ≡ min (length records.now) 512) × (front r.count r.words ≡ take r.count records.now) ⌝ }
+    ensures { (result.count ≡ min (length records.now) 512) × (front result.count result.words ≡ take result.count records.now) }
 {
     let n = looked_at(count(records));
     let mut words = no_words();
@@ -117,7 +118,7 @@ fn flatten(records: &[area::IndexRecord]) -> Flat
 // The first n records of the words, into the records.
 fn put_back(records: &mut [area::IndexRecord], n: usize, words: [u32; 13824])
     requires { (n ≤ length records.old) × (n ≤ 512) }
-    ensures* { λ r. ⌜ records.new ≡ over n (records_of words) records.old ⌝ }
+    ensures { records.new ≡ over n (records_of words) records.old }
 {
     deserialize(records, n, &words);
 }
@@ -131,7 +132,7 @@ fn flat_start(
     count: usize,
     store: &[i32],
 ) -> FlatOutput
-    ensures* { λ r. ⌜ (r.stored ≤ min count 512) × StartedOver job settings count r store.now ⌝ }
+    ensures { (result.stored ≤ min count 512) × StartedOver job settings count result store.now }
 {
     let n = looked_at(count);
     let mut words = no_words();
@@ -152,7 +153,7 @@ fn flat_point(
     buffer: &mut [u8],
 ) -> calls::Answer
     requires { flat.count ≤ 512 }
-    ensures* { λ r. ⌜ record { reply = reply_of r; buffer = buffer.new } ≡ (call_on (area_on job (front flat.count flat.words) store.now) (point n buffer.old)).answer ⌝ }
+    ensures { record { reply = reply_of result; buffer = buffer.new } ≡ (call_on (area_on job (front flat.count flat.words) store.now) (point n buffer.old)).answer }
 {
     let words = flat.words;
     calls::point(job, n, &words[..flat.count * 27], store, buffer)
@@ -166,7 +167,7 @@ fn flat_points(
     buffer: &mut [u8],
 ) -> calls::PointsAnswer
     requires { flat.count ≤ 512 }
-    ensures* { λ r. ⌜ record { reply = reply_of_points r; buffer = buffer.new } ≡ (call_on (area_on job (front flat.count flat.words) store.now) (points n buffer.old)).answer ⌝ }
+    ensures { record { reply = reply_of_points result; buffer = buffer.new } ≡ (call_on (area_on job (front flat.count flat.words) store.now) (points n buffer.old)).answer }
 {
     let words = flat.words;
     calls::points(job, n, &words[..flat.count * 27], store, buffer)
@@ -180,7 +181,7 @@ fn flat_deliver(
     store: &mut [i32],
 ) -> FlatOutput
     requires { flat.count ≤ 512 }
-    ensures* { λ r. ⌜ (r.stored ≤ flat.count) × (call_result_on r.answer (over r.stored (records_of r.words) (front flat.count flat.words)) store.new ≡ call_on (area_on job (front flat.count flat.words) store.old) (deliver readings.now indicator)) ⌝ }
+    ensures { (result.stored ≤ flat.count) × (call_result_on result.answer (over result.stored (records_of result.words) (front flat.count flat.words)) store.new ≡ call_on (area_on job (front flat.count flat.words) store.old) (deliver readings.now indicator)) }
 {
     let mut words = flat.words;
     let answer = calls::deliver(
@@ -200,7 +201,7 @@ fn flat_deliver(
 
 fn flat_choose(job: area::JobRecord, flat: Flat, store: &[i32]) -> calls::ChooseAnswer
     requires { flat.count ≤ 512 }
-    ensures* { λ r. ⌜ answer (reply_of_choose r) ≡ (call_on (area_on job (front flat.count flat.words) store.now) choose).answer ⌝ }
+    ensures { answer (reply_of_choose result) ≡ (call_on (area_on job (front flat.count flat.words) store.now) choose).answer }
 {
     let words = flat.words;
     calls::choose(job, &words[..flat.count * 27], store)
@@ -208,7 +209,7 @@ fn flat_choose(job: area::JobRecord, flat: Flat, store: &[i32]) -> calls::Choose
 
 fn flat_promote(job: area::JobRecord, place: usize, flat: Flat, store: &[i32]) -> FlatOutput
     requires { flat.count ≤ 512 }
-    ensures* { λ r. ⌜ (r.stored ≤ flat.count) × (call_result_on r.answer (over r.stored (records_of r.words) (front flat.count flat.words)) store.now ≡ call_on (area_on job (front flat.count flat.words) store.now) (promote place)) ⌝ }
+    ensures { (result.stored ≤ flat.count) × (call_result_on result.answer (over result.stored (records_of result.words) (front flat.count flat.words)) store.now ≡ call_on (area_on job (front flat.count flat.words) store.now) (promote place)) }
 {
     let mut words = flat.words;
     let answer = calls::promote(job, place, &mut words[..flat.count * 27], store);
@@ -222,7 +223,7 @@ fn flat_promote(job: area::JobRecord, place: usize, flat: Flat, store: &[i32]) -
 
 fn flat_result(job: area::JobRecord, flat: Flat, store: &[i32]) -> calls::ResultAnswer
     requires { flat.count ≤ 512 }
-    ensures* { λ r. ⌜ answer (reply_of_result r) ≡ (call_on (area_on job (front flat.count flat.words) store.now) result).answer ⌝ }
+    ensures { answer (reply_of_result result) ≡ (call_on (area_on job (front flat.count flat.words) store.now) result_call).answer }
 {
     let words = flat.words;
     calls::result(job, &words[..flat.count * 27], store)
@@ -230,7 +231,7 @@ fn flat_result(job: area::JobRecord, flat: Flat, store: &[i32]) -> calls::Result
 
 fn flat_doubles(job: area::JobRecord, flat: Flat, store: &[i32]) -> calls::Doubled
     requires { flat.count ≤ 512 }
-    ensures* { λ r. ⌜ answer (reply_of_doubles r) ≡ (call_on (area_on job (front flat.count flat.words) store.now) doubles).answer ⌝ }
+    ensures { answer (reply_of_doubles result) ≡ (call_on (area_on job (front flat.count flat.words) store.now) doubles).answer }
 {
     let words = flat.words;
     calls::doubles(job, &words[..flat.count * 27], store)
@@ -238,7 +239,7 @@ fn flat_doubles(job: area::JobRecord, flat: Flat, store: &[i32]) -> calls::Doubl
 
 fn flat_cross_total(job: area::JobRecord, flat: Flat, store: &[i32]) -> calls::TotalAnswer
     requires { flat.count ≤ 512 }
-    ensures* { λ r. ⌜ answer (reply_of_total r) ≡ (call_on (area_on job (front flat.count flat.words) store.now) cross_total).answer ⌝ }
+    ensures { answer (reply_of_total result) ≡ (call_on (area_on job (front flat.count flat.words) store.now) cross_total).answer }
 {
     let words = flat.words;
     calls::cross_total(job, &words[..flat.count * 27], store)
@@ -246,7 +247,7 @@ fn flat_cross_total(job: area::JobRecord, flat: Flat, store: &[i32]) -> calls::T
 
 fn flat_check(job: area::JobRecord, flat: Flat, store: &[i32]) -> bool
     requires { flat.count ≤ 512 }
-    ensures* { λ r. ⌜ r ≡ checked (area_on job (front flat.count flat.words) store.now) ⌝ }
+    ensures { result ≡ checked (area_on job (front flat.count flat.words) store.now) }
 {
     let words = flat.words;
     checking::check(job, &words[..flat.count * 27], store)
@@ -261,7 +262,7 @@ pub fn start(
     records: &mut [area::IndexRecord],
     store: &[i32],
 ) -> calls::CallOutput
-    ensures* { λ r. ⌜ call_result_on r records.new store.now ≡ call_on (area_on job records.old store.now) (start settings) ⌝ }
+    ensures { call_result_on result records.new store.now ≡ call_on (area_on job records.old store.now) (start settings) }
 {
     let lent = count(records);
     let done = flat_start(job, settings, lent, store);
@@ -277,7 +278,7 @@ pub fn point(
     store: &[i32],
     buffer: &mut [u8],
 ) -> calls::Answer
-    ensures* { λ r. ⌜ record { reply = reply_of r; buffer = buffer.new } ≡ (call_on (area_on job records.now store.now) (point n buffer.old)).answer ⌝ }
+    ensures { record { reply = reply_of result; buffer = buffer.new } ≡ (call_on (area_on job records.now store.now) (point n buffer.old)).answer }
 {
     let flat = flatten(records);
     flat_point(job, n, flat, store, buffer)
@@ -291,7 +292,7 @@ pub fn points(
     store: &[i32],
     buffer: &mut [u8],
 ) -> calls::PointsAnswer
-    ensures* { λ r. ⌜ record { reply = reply_of_points r; buffer = buffer.new } ≡ (call_on (area_on job records.now store.now) (points n buffer.old)).answer ⌝ }
+    ensures { record { reply = reply_of_points result; buffer = buffer.new } ≡ (call_on (area_on job records.now store.now) (points n buffer.old)).answer }
 {
     let flat = flatten(records);
     flat_points(job, n, flat, store, buffer)
@@ -305,7 +306,7 @@ pub fn deliver(
     records: &mut [area::IndexRecord],
     store: &mut [i32],
 ) -> calls::CallOutput
-    ensures* { λ r. ⌜ call_result_on r records.new store.new ≡ call_on (area_on job records.old store.old) (deliver readings.now indicator) ⌝ }
+    ensures { call_result_on result records.new store.new ≡ call_on (area_on job records.old store.old) (deliver readings.now indicator) }
 {
     let flat = flatten(records);
     let done = flat_deliver(job, readings, indicator, flat, store);
@@ -319,7 +320,7 @@ pub fn choose(
     records: &[area::IndexRecord],
     store: &[i32],
 ) -> calls::ChooseAnswer
-    ensures* { λ r. ⌜ answer (reply_of_choose r) ≡ (call_on (area_on job records.now store.now) choose).answer ⌝ }
+    ensures { answer (reply_of_choose result) ≡ (call_on (area_on job records.now store.now) choose).answer }
 {
     let flat = flatten(records);
     flat_choose(job, flat, store)
@@ -332,7 +333,7 @@ pub fn promote(
     records: &mut [area::IndexRecord],
     store: &[i32],
 ) -> calls::CallOutput
-    ensures* { λ r. ⌜ call_result_on r records.new store.now ≡ call_on (area_on job records.old store.now) (promote place) ⌝ }
+    ensures { call_result_on result records.new store.now ≡ call_on (area_on job records.old store.now) (promote place) }
 {
     let flat = flatten(records);
     let done = flat_promote(job, place, flat, store);
@@ -346,7 +347,7 @@ pub fn result(
     records: &[area::IndexRecord],
     store: &[i32],
 ) -> calls::ResultAnswer
-    ensures* { λ r. ⌜ answer (reply_of_result r) ≡ (call_on (area_on job records.now store.now) result).answer ⌝ }
+    ensures { answer (reply_of_result result) ≡ (call_on (area_on job records.now store.now) result_call).answer }
 {
     let flat = flatten(records);
     flat_result(job, flat, store)
@@ -354,7 +355,7 @@ pub fn result(
 
 // The report of doubles of the area.
 pub fn doubles(job: area::JobRecord, records: &[area::IndexRecord], store: &[i32]) -> calls::Doubled
-    ensures* { λ r. ⌜ answer (reply_of_doubles r) ≡ (call_on (area_on job records.now store.now) doubles).answer ⌝ }
+    ensures { answer (reply_of_doubles result) ≡ (call_on (area_on job records.now store.now) doubles).answer }
 {
     let flat = flatten(records);
     flat_doubles(job, flat, store)
@@ -366,7 +367,7 @@ pub fn cross_total(
     records: &[area::IndexRecord],
     store: &[i32],
 ) -> calls::TotalAnswer
-    ensures* { λ r. ⌜ answer (reply_of_total r) ≡ (call_on (area_on job records.now store.now) cross_total).answer ⌝ }
+    ensures { answer (reply_of_total result) ≡ (call_on (area_on job records.now store.now) cross_total).answer }
 {
     let flat = flatten(records);
     flat_cross_total(job, flat, store)
@@ -374,7 +375,7 @@ pub fn cross_total(
 
 // Whether the area is sound and lies in storage that is long enough.
 pub fn check(job: area::JobRecord, records: &[area::IndexRecord], store: &[i32]) -> bool
-    ensures* { λ r. ⌜ r ≡ checked (area_on job records.now store.now) ⌝ }
+    ensures { result ≡ checked (area_on job records.now store.now) }
 {
     let flat = flatten(records);
     flat_check(job, flat, store)

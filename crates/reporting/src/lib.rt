@@ -1,3 +1,4 @@
+#![tactic(auto)]
 // Writing a report's text into a lent buffer.
 ghost use Rattle.std.specs.Prelude.{◌≡◌, ◌++◌, ◌+◌, ◌≤◌, length, drop};
 ghost use Rattle.reporting.specs.Decimal.{decimal, signed_decimal};
@@ -5,7 +6,7 @@ ghost use Rattle.reporting.specs.Text.{line, end_word, ending_word, report_text,
 ghost use Rattle.reporting.specs.Code.{Written, ending_in, report_values_in, count_lines, sum_lines};
 
 // How a run ends.
-#[derive(Drop)]
+#[derive(Clone, Copy)]
 pub enum Ending {
     Met,
     Capped,
@@ -14,7 +15,7 @@ pub enum Ending {
 }
 
 // A report's figures, in its order.
-#[derive(Drop)]
+#[derive(Clone, Copy)]
 pub struct ReportValues {
     pub axes: u32,
     pub old: u32,

@@ -1,3 +1,4 @@
+#![tactic(auto)]
 // The rule along one axis: how many points are new at a level, where they lie, and what they weigh.
 ghost use Rattle.std.specs.Prelude.{◌≡◌, ◌≤◌, ◌<◌};
 ghost use Rattle.rule.specs.Points.{new_count, new_point};

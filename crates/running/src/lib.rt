@@ -1,3 +1,4 @@
+#![tactic(auto)]
 // A job file's run, from bytes to report.
 ghost use Rattle.std.specs.Prelude.{◌≡◌, List, ◌++◌, ℕ, suc, ◌+◌, ◌*◌, ◌<◌, ◌≤◌, length, drop};
 ghost use Rattle.area.specs.Encoding.{area_of, entries_of, machine_of};
@@ -9,7 +10,7 @@ ghost use Rattle.promotion.specs.Outcomes.{choice_of};
 ghost use Rattle.jobfile.specs.Form.{formed, form_of, entry_count};
 ghost use Rattle.jobfile.specs.File.{readings_at, entry_of};
 ghost use Rattle.jobfile.specs.Facts.{FormedFile};
-ghost use Rattle.running.specs.Execution.{own_lengths, file_settings, first_out_of_range, unless_refused, by_choice, execution as executionOf};
+ghost use Rattle.running.specs.Execution.{own_lengths, file_settings, first_out_of_range, unless_refused, by_choice, execution as execution_of};
 ghost use Rattle.machine.specs.Causes.{first_cause, start_causes};
 ghost use Rattle.reporting.specs.Text.{report_text};
 ghost use Rattle.reporting.specs.Code.{ending_in};
@@ -18,14 +19,14 @@ ghost use Rattle.running.specs.Code.{after_delivery, ValidDelivery, step_of_deli
 
 // What a run answers: the buffer is too short for a report, or the text is in it, so many bytes long. `answer_in` (specs/Code.antt) says what
 // each case stands for.
-#[derive(Drop)]
+#[derive(Clone, Copy)]
 pub enum RunStatus {
     TooShort,
     Written(usize),
 }
 
 // One step of a run: refused by a cause that names a byte, ended, or the job record after a delivery or a promotion.
-#[derive(Drop)]
+#[derive(Clone, Copy)]
 enum Step {
     Refused(u32, usize),
     Ended(reporting::Ending),
@@ -34,7 +35,7 @@ enum Step {
 }
 
 // An entry delivered, with the job record after it, or refused by a cause that names a byte.
-#[derive(Drop)]
+#[derive(Clone, Copy)]
 enum EntryDelivery {
     Refused(u32, usize),
     Done(area::JobRecord),
@@ -83,7 +84,7 @@ fn deliver_entry(
 ) -> EntryDelivery
     requires valid_area { ValidArea (area_of job cells.old store.old) × (place ≡ first_wanted (entries_of (area_of job cells.old store.old))) × (place < job.held) }
     requires formed_file { FormedFile bytes.now × (i < entry_count bytes.now) × (8192 ≤ length block.old) }
-    ensures is { (n : ℕ) → unless_refused bytes.now (machine_of (area_of job cells.old store.old)) i (executionOf bytes.now n (deliver (machine_of (area_of job cells.old store.old)) (entry_of bytes.now i).readings (entry_of bytes.now i).indicator) (i + 1)) ≡ after_delivery bytes.now n i result cells.new store.new }
+    ensures is { (n : ℕ) → unless_refused bytes.now (machine_of (area_of job cells.old store.old)) i (execution_of bytes.now n (deliver (machine_of (area_of job cells.old store.old)) (entry_of bytes.now i).readings (entry_of bytes.now i).indicator) (i + 1)) ≡ after_delivery bytes.now n i result cells.new store.new }
     ensures valid { ValidDelivery result cells.new store.new }
 {
     let at = 24 + 12 * i;
@@ -133,7 +134,7 @@ fn promote_chosen(
 ) -> Step
     requires valid_area { ValidArea (area_of job cells.old store.now) × (length (entries_of (area_of job cells.old store.now)) ≤ first_wanted (entries_of (area_of job cells.old store.now))) }
     requires choice_value { choice_of choice ≡ choose (machine_of (area_of job cells.old store.now)).log }
-    ensures is { (bytes : List ℕ) (n used : ℕ) → by_choice (choice_of choice) (machine_of (area_of job cells.old store.now)) used (λ p. executionOf bytes n (promote_step (machine_of (area_of job cells.old store.now)) p) used) ≡ after_step bytes n used (machine_of (area_of job cells.old store.now)) result cells.new store.now }
+    ensures is { (bytes : List ℕ) (n used : ℕ) → by_choice (choice_of choice) (machine_of (area_of job cells.old store.now)) used (λ p. execution_of bytes n (promote_step (machine_of (area_of job cells.old store.now)) p) used) ≡ after_step bytes n used (machine_of (area_of job cells.old store.now)) result cells.new store.now }
     ensures left { (n used : ℕ) → StepPostcondition n used job cells.old store.now result cells.new store.now }
 {
     match choice {
@@ -160,7 +161,7 @@ fn next_step(
     store: &mut [i32],
 ) -> Step
     requires { ValidArea (area_of job cells.old store.old) × FormedFile bytes.now × (entries ≡ entry_count bytes.now) × (8192 ≤ length block.old) }
-    ensures is { (n : ℕ) → executionOf bytes.now (suc n) (machine_of (area_of job cells.old store.old)) used ≡ after_step bytes.now n used (machine_of (area_of job cells.old store.old)) result cells.new store.new }
+    ensures is { (n : ℕ) → execution_of bytes.now (suc n) (machine_of (area_of job cells.old store.old)) used ≡ after_step bytes.now n used (machine_of (area_of job cells.old store.old)) result cells.new store.new }
     ensures left { StepPostcondition entries used job cells.old store.old result cells.new store.new }
 {
     let held = job.held as usize;
@@ -219,7 +220,7 @@ fn run_from(
 ) -> usize
     requires valid_area { ValidArea (area_of job cells.old store.old) × FormedFile bytes.now × (entries ≡ entry_count bytes.now) × (8192 ≤ length block.old) }
     requires used_le_entries { (used ≤ entries) × (512 ≤ length report.old) }
-    ensures { Printed (text_in entries (executionOf bytes.now left (machine_of (area_of job cells.old store.old)) used)) report.old report.new result }
+    ensures { Printed (text_in entries (execution_of bytes.now left (machine_of (area_of job cells.old store.old)) used)) report.old report.new result }
 {
     if left == 0 {
         return 0;
@@ -256,7 +257,7 @@ fn run_from(
 // Runs a job that start accepts, with the area in locals: 512 records, and 8,192 readings for the store and for a block.
 fn run_started(settings: area::Settings, entries: usize, bytes: &[u8], report: &mut [u8]) -> usize
     requires { (first_cause (start_causes own_lengths settings) ≡ 0) × FormedFile bytes.now × (entries ≡ entry_count bytes.now) × (512 ≤ length report.old) }
-    ensures { Printed (text_in entries (executionOf bytes.now 1025 (started settings) 0)) report.old report.new result }
+    ensures { Printed (text_in entries (execution_of bytes.now 1025 (started settings) 0)) report.old report.new result }
 {
     let mut cells = [0u32; 13824];
     let mut store = [0i32; 8192];

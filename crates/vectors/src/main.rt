@@ -1,3 +1,4 @@
+#![tactic(auto)]
 // Runs named job files one after the other, and prints each name and what its run gives. They come as a bundle on standard input: their number,
 // then for each its name and its bytes, both with their length in front. Numbers have four bytes.
 ghost use Rattle.std.specs.Prelude.{◌≤◌};

@@ -1,3 +1,4 @@
+#![tactic(auto)]
 // The calls, exported for C and Rust: the proved functions, with nothing asked of what the storage holds. A job record is twelve words
 // (specs/Words.antt). The length of cells counts words, 27 to a record; that of the store counts readings. A call but check returns 0
 // if it was not refused, else the number of the cause. include/wihupya.h says it for C, and bindings/ for Rust.
@@ -11,21 +12,21 @@ ghost use Rattle.area.specs.Records.{run_of};
 ghost use Rattle.doubles.specs.Exact.{NoneNan};
 ghost use Rattle.counting.specs.Answer.{counts_in};
 ghost use Rattle.calls.specs.Replies.{reply_of};
-ghost use Rattle.calls.specs.Table.{start, point, points, deliver, choose, promote, result, doubles, cross_total};
+ghost use Rattle.calls.specs.Table.{start, point, points, deliver, choose, promote, result as result_call, doubles, cross_total};
 ghost use Rattle.calls.specs.Calls.{call_on};
 ghost use Rattle.wihupya.specs.Words.{job_of, low_word, high_word, words_of};
 ghost use Rattle.wihupya.specs.Exports.{number_of, exported, count_words, report_bits, total_words, answer_words};
 
 // Two words as a 64-bit number.
 fn wide(low: u32, high: u32) -> u64
-    ensures* { λ r. ⌜ r ≡ low + high * 2 ^ 32 ⌝ }
+    ensures { result ≡ low + high * 2 ^ 32 }
 {
     low as u64 + high as u64 * 4294967296
 }
 
 // A 64-bit number as two's complement.
 fn signed(bits: u64) -> i64
-    ensures* { λ r. ⌜ r ≡ to_z w64 bits ⌝ }
+    ensures { result ≡ to_z w64 bits }
 {
     if bits < 9223372036854775808 {
         bits as i64
@@ -37,7 +38,7 @@ fn signed(bits: u64) -> i64
 
 // The job record that twelve words are.
 fn job_of(words: &[u32; 12]) -> area::JobRecord
-    ensures* { λ r. ⌜ r ≡ job_of words.now ⌝ }
+    ensures { result ≡ job_of words.now }
 {
     area::JobRecord {
         settings: area::Settings {
@@ -55,27 +56,27 @@ fn job_of(words: &[u32; 12]) -> area::JobRecord
 
 // The job record that twelve words are, and that they are the words of that record, so that a refused call can leave them.
 fn job_in(words: [u32; 12]) -> area::JobRecord
-    ensures* { λ r. ⌜ (r ≡ job_of words) × (words_of (job_of words) ≡ words) ⌝ }
+    ensures { (result ≡ job_of words) × (words_of (job_of words) ≡ words) }
 {
     job_of(&words)
 }
 
 // The low and the high word of a 64-bit number.
 fn low_word(number: u64) -> u32
-    ensures* { λ r. ⌜ r ≡ low_word number ⌝ }
+    ensures { result ≡ low_word number }
 {
     (number % 4294967296) as u32
 }
 
 fn high_word(number: u64) -> u32
-    ensures* { λ r. ⌜ r ≡ high_word number ⌝ }
+    ensures { result ≡ high_word number }
 {
     (number / 4294967296) as u32
 }
 
 // The 64 bits of a signed number.
 fn bits_of(number: i64) -> u64
-    ensures* { λ r. ⌜ r ≡ of_z w64 number ⌝ }
+    ensures { result ≡ of_z w64 number }
 {
     if number < 0 {
         let below = (-1 - number) as u64;
@@ -87,7 +88,7 @@ fn bits_of(number: i64) -> u64
 
 // The twelve words of a job record.
 fn words_of(job: area::JobRecord) -> [u32; 12]
-    ensures* { λ r. ⌜ r ≡ words_of job ⌝ }
+    ensures { result ≡ words_of job }
 {
     let mean = bits_of(job.mean);
     [
@@ -108,7 +109,7 @@ fn words_of(job: area::JobRecord) -> [u32; 12]
 
 // The number of an answer.
 fn number_of(answer: calls::Answer) -> u32
-    ensures* { λ r. ⌜ r ≡ number_of (reply_of answer) ⌝ }
+    ensures { result ≡ number_of (reply_of answer) }
 {
     match answer {
         calls::Answer::Refused(number) => number,
@@ -120,7 +121,7 @@ fn number_of(answer: calls::Answer) -> u32
 
 // The outcome of a promotion as a word; another answer leaves the word.
 fn outcome_word(answer: calls::Answer, before: [u32; 1]) -> [u32; 1]
-    ensures* { λ r. ⌜ r ≡ answer_words (reply_of answer) before ⌝ }
+    ensures { result ≡ answer_words (reply_of answer) before }
 {
     match answer {
         calls::Answer::Refused(_) => before,
@@ -132,7 +133,7 @@ fn outcome_word(answer: calls::Answer, before: [u32; 1]) -> [u32; 1]
 
 // Counts as eleven words.
 fn count_words(counts: counting::Counts) -> [u32; 11]
-    ensures* { λ r. ⌜ r ≡ count_words (counts_in counts) ⌝ }
+    ensures { result ≡ count_words (counts_in counts) }
 {
     let mean = bits_of(counts.mean);
     [
@@ -153,7 +154,7 @@ fn count_words(counts: counting::Counts) -> [u32; 11]
 // A report as three doubles, by their bits.
 fn report_bits(found: doubles::Report) -> [u64; 3]
     requires { NoneNan found }
-    ensures* { λ r. ⌜ r ≡ report_bits found ⌝ }
+    ensures { result ≡ report_bits found }
 {
     let mean = f64::to_bits(found.mean);
     let pending = f64::to_bits(found.pending);
@@ -163,23 +164,21 @@ fn report_bits(found: doubles::Report) -> [u64; 3]
 
 // A total as two words.
 fn total_words(total: i64) -> [u32; 2]
-    ensures* { λ r. ⌜ r ≡ total_words total ⌝ }
+    ensures { result ≡ total_words total }
 {
     let bits = bits_of(total);
     [low_word(bits), high_word(bits)]
 }
 
 // Whether the area is sound and lies in storage that is long enough.
-#[unsafe(no_mangle)]
-pub extern "C" fn wihupya_check(job: &[u32; 12], cells: &[u32], store: &[i32]) -> bool
-    ensures* { λ r. ⌜ r ≡ checked (area_of (job_of job.now) cells.now store.now) ⌝ }
+pub fn wihupya_check(job: &[u32; 12], cells: &[u32], store: &[i32]) -> bool
+    ensures { result ≡ checked (area_of (job_of job.now) cells.now store.now) }
 {
     checking::check(job_of(job), cells, store)
 }
 
 // Starts a job.
-#[unsafe(no_mangle)]
-pub extern "C" fn wihupya_start(
+pub fn wihupya_start(
     job: &mut [u32; 12],
     axes: u32,
     threshold: u64,
@@ -187,8 +186,8 @@ pub extern "C" fn wihupya_start(
     cells: &mut [u32],
     store: &[i32],
 ) -> u32
-    ensures* is { λ r. ⌜ record { number = r; job = job.new; run = run_of cells.new; store = store.now } ≡ exported (call_on (area_of (job_of job.old) cells.old store.now) (start (settings_of axes threshold budget))) ⌝ }
-    ensures* refused { λ r. ⌜ ((r ≡ 0 → ⊥) → job.new ≡ job.old) ⌝ }
+    ensures is { record { number = result; job = job.new; run = run_of cells.new; store = store.now } ≡ exported (call_on (area_of (job_of job.old) cells.old store.now) (start (settings_of axes threshold budget))) }
+    ensures refused { (result ≡ 0 → ⊥) → job.new ≡ job.old }
 {
     let settings = area::Settings {
         axes,
@@ -208,22 +207,20 @@ pub extern "C" fn wihupya_start(
 }
 
 // Writes the positions of a point of the first wanted block.
-#[unsafe(no_mangle)]
-pub extern "C" fn wihupya_point(
+pub fn wihupya_point(
     job: &[u32; 12],
     n: usize,
     cells: &[u32],
     store: &[i32],
     buffer: &mut [u8],
 ) -> u32
-    ensures* { λ r. ⌜ (r ≡ number_of (call_on (area_of (job_of job.now) cells.now store.now) (point n buffer.old)).answer.reply) × (buffer.new ≡ (call_on (area_of (job_of job.now) cells.now store.now) (point n buffer.old)).answer.buffer) ⌝ }
+    ensures { (result ≡ number_of (call_on (area_of (job_of job.now) cells.now store.now) (point n buffer.old)).answer.reply) × (buffer.new ≡ (call_on (area_of (job_of job.now) cells.now store.now) (point n buffer.old)).answer.buffer) }
 {
     number_of(calls::point(job_of(job), n, cells, store, buffer))
 }
 
 // Writes points of the first wanted block from the n-th on, and how many they are and how many the block has.
-#[unsafe(no_mangle)]
-pub extern "C" fn wihupya_points(
+pub fn wihupya_points(
     job: &[u32; 12],
     n: usize,
     counts: &mut [u32; 2],
@@ -231,7 +228,7 @@ pub extern "C" fn wihupya_points(
     store: &[i32],
     buffer: &mut [u8],
 ) -> u32
-    ensures* { λ r. ⌜ (r ≡ number_of (call_on (area_of (job_of job.now) cells.now store.now) (points n buffer.old)).answer.reply) × (counts.new ≡ answer_words (call_on (area_of (job_of job.now) cells.now store.now) (points n buffer.old)).answer.reply counts.old) × (buffer.new ≡ (call_on (area_of (job_of job.now) cells.now store.now) (points n buffer.old)).answer.buffer) ⌝ }
+    ensures { (result ≡ number_of (call_on (area_of (job_of job.now) cells.now store.now) (points n buffer.old)).answer.reply) × (counts.new ≡ answer_words (call_on (area_of (job_of job.now) cells.now store.now) (points n buffer.old)).answer.reply counts.old) × (buffer.new ≡ (call_on (area_of (job_of job.now) cells.now store.now) (points n buffer.old)).answer.buffer) }
 {
     let answered = calls::points(job_of(job), n, cells, store, buffer);
     match answered {
@@ -244,16 +241,15 @@ pub extern "C" fn wihupya_points(
 }
 
 // Delivers the first wanted block.
-#[unsafe(no_mangle)]
-pub extern "C" fn wihupya_deliver(
+pub fn wihupya_deliver(
     job: &mut [u32; 12],
     readings: &[i32],
     indicator: u32,
     cells: &mut [u32],
     store: &mut [i32],
 ) -> u32
-    ensures* is { λ r. ⌜ record { number = r; job = job.new; run = run_of cells.new; store = store.new } ≡ exported (call_on (area_of (job_of job.old) cells.old store.old) (deliver readings.now indicator)) ⌝ }
-    ensures* refused { λ r. ⌜ ((r ≡ 0 → ⊥) → job.new ≡ job.old) ⌝ }
+    ensures is { record { number = result; job = job.new; run = run_of cells.new; store = store.new } ≡ exported (call_on (area_of (job_of job.old) cells.old store.old) (deliver readings.now indicator)) }
+    ensures refused { (result ≡ 0 → ⊥) → job.new ≡ job.old }
 {
     let before = *job;
     let answered = calls::deliver(job_in(before), readings, indicator, cells, store);
@@ -268,14 +264,13 @@ pub extern "C" fn wihupya_deliver(
 }
 
 // Chooses, and writes 0 met, 3 capped or 4 chosen, and then the place that the rule selects, else 0.
-#[unsafe(no_mangle)]
-pub extern "C" fn wihupya_choose(
+pub fn wihupya_choose(
     job: &[u32; 12],
     choice: &mut [u32; 2],
     cells: &[u32],
     store: &[i32],
 ) -> u32
-    ensures* { λ r. ⌜ (r ≡ number_of (call_on (area_of (job_of job.now) cells.now store.now) choose).answer.reply) × (choice.new ≡ answer_words (call_on (area_of (job_of job.now) cells.now store.now) choose).answer.reply choice.old) ⌝ }
+    ensures { (result ≡ number_of (call_on (area_of (job_of job.now) cells.now store.now) choose).answer.reply) × (choice.new ≡ answer_words (call_on (area_of (job_of job.now) cells.now store.now) choose).answer.reply choice.old) }
 {
     let answered = calls::choose(job_of(job), cells, store);
     match answered {
@@ -297,17 +292,16 @@ pub extern "C" fn wihupya_choose(
 }
 
 // Promotes the active index at a place, and writes the outcome: 1 spent, 2 promoted.
-#[unsafe(no_mangle)]
-pub extern "C" fn wihupya_promote(
+pub fn wihupya_promote(
     job: &mut [u32; 12],
     place: usize,
     outcome: &mut [u32; 1],
     cells: &mut [u32],
     store: &[i32],
 ) -> u32
-    ensures* is { λ r. ⌜ record { number = r; job = job.new; run = run_of cells.new; store = store.now } ≡ exported (call_on (area_of (job_of job.old) cells.old store.now) (promote place)) ⌝ }
-    ensures* outcome { λ r. ⌜ outcome.new ≡ answer_words (call_on (area_of (job_of job.old) cells.old store.now) (promote place)).answer.reply outcome.old ⌝ }
-    ensures* refused { λ r. ⌜ ((r ≡ 0 → ⊥) → job.new ≡ job.old) ⌝ }
+    ensures is { record { number = result; job = job.new; run = run_of cells.new; store = store.now } ≡ exported (call_on (area_of (job_of job.old) cells.old store.now) (promote place)) }
+    ensures outcome { outcome.new ≡ answer_words (call_on (area_of (job_of job.old) cells.old store.now) (promote place)).answer.reply outcome.old }
+    ensures refused { (result ≡ 0 → ⊥) → job.new ≡ job.old }
 {
     let before = *job;
     let answered = calls::promote(job_in(before), place, cells, store);
@@ -324,14 +318,13 @@ pub extern "C" fn wihupya_promote(
 }
 
 // The counts of the area.
-#[unsafe(no_mangle)]
-pub extern "C" fn wihupya_result(
+pub fn wihupya_result(
     job: &[u32; 12],
     counts: &mut [u32; 11],
     cells: &[u32],
     store: &[i32],
 ) -> u32
-    ensures* { λ r. ⌜ (r ≡ number_of (call_on (area_of (job_of job.now) cells.now store.now) result).answer.reply) × (counts.new ≡ answer_words (call_on (area_of (job_of job.now) cells.now store.now) result).answer.reply counts.old) ⌝ }
+    ensures { (result ≡ number_of (call_on (area_of (job_of job.now) cells.now store.now) result_call).answer.reply) × (counts.new ≡ answer_words (call_on (area_of (job_of job.now) cells.now store.now) result_call).answer.reply counts.old) }
 {
     let resulted = calls::result(job_of(job), cells, store);
     match resulted {
@@ -345,14 +338,13 @@ pub extern "C" fn wihupya_result(
 
 // The mean, the pending error and the largest delivered difference as doubles. The caller lends three doubles; here they are their bits, since
 // a NaN that was lent has bits of its own, which a refusal leaves.
-#[unsafe(no_mangle)]
-pub extern "C" fn wihupya_doubles(
+pub fn wihupya_doubles(
     job: &[u32; 12],
     report: &mut [u64; 3],
     cells: &[u32],
     store: &[i32],
 ) -> u32
-    ensures* { λ r. ⌜ (r ≡ number_of (call_on (area_of (job_of job.now) cells.now store.now) doubles).answer.reply) × (report.new ≡ answer_words (call_on (area_of (job_of job.now) cells.now store.now) doubles).answer.reply report.old) ⌝ }
+    ensures { (result ≡ number_of (call_on (area_of (job_of job.now) cells.now store.now) doubles).answer.reply) × (report.new ≡ answer_words (call_on (area_of (job_of job.now) cells.now store.now) doubles).answer.reply report.old) }
 {
     let doubled = calls::doubles(job_of(job), cells, store);
     match doubled {
@@ -365,14 +357,13 @@ pub extern "C" fn wihupya_doubles(
 }
 
 // The scaled mean worked out from the readings.
-#[unsafe(no_mangle)]
-pub extern "C" fn wihupya_cross_total(
+pub fn wihupya_cross_total(
     job: &[u32; 12],
     total: &mut [u32; 2],
     cells: &[u32],
     store: &[i32],
 ) -> u32
-    ensures* { λ r. ⌜ (r ≡ number_of (call_on (area_of (job_of job.now) cells.now store.now) cross_total).answer.reply) × (total.new ≡ answer_words (call_on (area_of (job_of job.now) cells.now store.now) cross_total).answer.reply total.old) ⌝ }
+    ensures { (result ≡ number_of (call_on (area_of (job_of job.now) cells.now store.now) cross_total).answer.reply) × (total.new ≡ answer_words (call_on (area_of (job_of job.now) cells.now store.now) cross_total).answer.reply total.old) }
 {
     let totalled = calls::cross_total(job_of(job), cells, store);
     match totalled {

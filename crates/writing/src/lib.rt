@@ -1,3 +1,4 @@
+#![tactic(auto)]
 // What each step changes in storage, record by record: one record given another state or link, and an index appended with links
 // set both ways.
 ghost use Rattle.std.specs.Prelude.{◌≡◌, ◌⊎◌, ℕ, ◌+◌, ◌*◌, ◌<◌, ◌≤◌, length, get_or};
