@@ -160,7 +160,7 @@ def taken_from_library(text, own):
 TOKEN = re.compile(r"(--[^\n]*|//[^\n]*)|(\"(?:[^\"\\\n]|\\.)*\")|([^\s(){}.;,@\"«»\[\]\\]+)")
 
 
-def turned(text, new, own, is_proof):
+def turned(text, new, own, is_proof, is_source):
     skip = taken_from_library(text, own)
     away = alias_modules(text, own)
 
@@ -173,6 +173,9 @@ def turned(text, new, own, is_proof):
         if word in skip or word not in new:
             return word
         before = text[: m.start()]
+        # A name that falls together with another is also that of a function or a module of src/, which stays.
+        if plain(word) and (is_source or before.endswith(".") and word not in FIELDS or text[m.end() :].startswith(".")):
+            return word
         if before.endswith("."):
             head = re.search(rf"({W}|\))\.$", before)
             if head and head.group(1) in away | {"tie", "goal"}:
@@ -182,6 +185,10 @@ def turned(text, new, own, is_proof):
         return new[word]
 
     return TOKEN.sub(one, text)
+
+
+def plain(word):
+    return re.fullmatch(r"[a-z0-9_]+", word)
 
 
 def camel(word):
@@ -200,7 +207,7 @@ def main():
     made = 0
     for path in list(files(root, (".antt", ".rt"))):
         text = read(path)
-        out = turned(text, new, own, path.endswith("Proof.antt"))
+        out = turned(text, new, own, path.endswith("Proof.antt"), path.endswith(".rt"))
         if out != text:
             with open(path, "w", encoding="utf-8") as f:
                 f.write(out)

@@ -79,7 +79,7 @@ pub fn at_ceiling(levels: [u32; 8]) -> bool
 }
 
 // How many points the block of an index has.
-pub fn block_size_lem(levels: [u32; 8]) -> usize
+pub fn block_size(levels: [u32; 8]) -> usize
     requires { Within levels }
     ensures { result ≡ block_size levels }
 {
@@ -109,7 +109,7 @@ pub fn point_of(levels: [u32; 8], n: usize) -> [u8; 8]
 {
     let mut point = [0u8; 8];
     let mut left = n;
-    let mut size = block_size_lem(levels);
+    let mut size = block_size(levels);
     let mut rank: usize = 0;
     let mut axis: usize = 0;
     while axis < 8 {
