@@ -1,0 +1,16 @@
+-- `area::level_at` meets its contract: the level stands in its cell, counted from the record's first. Assumes nothing.
+use mathlib.Core.Path.{◌∙◌}
+use Prim.Native.Nat.{◌*◌, ◌-◌}
+use native.Mathlib.Omega.{arith}
+use lib.ListN.{length, drop}
+use lib.Seq.{get_or-take, get_or-drop}
+use Rattle.area.proofs.Records.{level_in}
+use Rattle.area.proofs.level_at.Goals as goal
+
+pub returns : goal.returns
+returns c =
+    let cells = c.args.cells.now in
+    let from = c.args.place * 27 in
+    get_or-take (length cells - from) (drop from cells) c.args.axis 0 (omega arith)
+    ∙ get_or-drop from cells c.args.axis 0
+    ∙ level_in cells c.args.place c.requires.0 c.args.axis c.requires.1

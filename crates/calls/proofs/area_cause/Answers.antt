@@ -1,0 +1,39 @@
+-- `calls::area_cause` meets its contract: the tests in the table's order. Assumes nothing.
+use mathlib.Core.Path.{sym, ◌∙◌}
+use Prim.Native.Nat.{◌-◌}
+use native.Mathlib.Omega.{arith}
+use borrow.Author.Tests.{not-true, not-false}
+use Rattle.area.specs.Encoding.{area_of, machine_of}
+use Rattle.area.proofs.Records.{length-records_of}
+use Rattle.soundness.specs.Clauses.{is_sound}
+use Rattle.calls.specs.Replies.{lengths_of}
+use Rattle.calls.proofs.Tests.{few_records, few_readings_lem, enough}
+use Rattle.calls.proofs.Causes.{common_short, common_unsound, common_none}
+use Rattle.calls.proofs.Validity.{checked_sound}
+use Rattle.calls.proofs.area_cause.Goals as goal
+
+pub returns-then-cells-lt512 : goal.returns-then-cells-lt512
+unfolding machine_of
+returns-then-cells-lt512 c =
+    let a = area_of c.args.job c.args.cells.now c.args.store.now in
+    sym (common_short (lengths_of a) (is_sound a) (machine_of a).log (few_records (lengths_of a) c.args.job.settings (omega (arith, length-records_of c.args.cells.now, c.if-cells-lt512.true))))
+
+pub returns-then-store-least_store : goal.returns-then-store-least_store
+unfolding machine_of
+returns-then-store-least_store c =
+    let a = area_of c.args.job c.args.cells.now c.args.store.now in
+    sym (common_short (lengths_of a) (is_sound a) (machine_of a).log (few_readings_lem (lengths_of a) c.args.job.settings (omega (arith, length-records_of c.args.cells.now, c.if-cells-lt512.false)) (omega (arith, c.least_store.ensures, c.if-store-least_store.true))))
+
+pub returns-then-not-check : goal.returns-then-not-check
+unfolding machine_of
+returns-then-not-check c =
+    let a = area_of c.args.job c.args.cells.now c.args.store.now in
+    let unsound = sym (checked_sound c.args.job c.args.cells.now c.args.store.now c.if-cells-lt512.false (omega (arith, c.least_store.ensures, c.if-store-least_store.false))) ∙ (sym c.check.ensures ∙ not-true c.check.result c.if-not-check.true) in
+    sym (common_unsound (lengths_of a) (is_sound a) (machine_of a).log (enough (lengths_of a) c.args.job.settings (omega (arith, length-records_of c.args.cells.now, c.if-cells-lt512.false)) (omega (arith, c.least_store.ensures, c.if-store-least_store.false))) unsound)
+
+pub returns : goal.returns
+unfolding machine_of
+returns c =
+    let a = area_of c.args.job c.args.cells.now c.args.store.now in
+    let sound = sym (checked_sound c.args.job c.args.cells.now c.args.store.now c.if-cells-lt512.false (omega (arith, c.least_store.ensures, c.if-store-least_store.false))) ∙ (sym c.check.ensures ∙ not-false c.check.result c.if-not-check.false) in
+    sym (common_none (lengths_of a) (is_sound a) (machine_of a).log (enough (lengths_of a) c.args.job.settings (omega (arith, length-records_of c.args.cells.now, c.if-cells-lt512.false)) (omega (arith, c.least_store.ensures, c.if-store-least_store.false))) sound)

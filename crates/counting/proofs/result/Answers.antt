@@ -1,0 +1,38 @@
+-- `counting::result` meets its contract: each count is that of the entries, and the recorded numbers are the area's. Assumes nothing.
+use borrow.Author.Rules.{sfits_of}
+use mathlib.Core.Path.{◌∙◌}
+use Rattle.sums.proofs.Words.{back}
+use Rattle.area.specs.Encoding.{machine_of}
+use Rattle.machine.specs.Counts.{counts_of}
+use Rattle.counting.specs.Answer.{counts_in}
+use Rattle.counting.proofs.Heads.{held_there, held_few, held_within, counted, capped}
+use Rattle.counting.proofs.result.Goals as goal
+
+pub state_count-old-requires : goal.state_count-old-requires
+state_count-old-requires c =  (held_there c.args.job c.args.cells.now c.args.store.now c.requires, held_few c.args.job c.args.cells.now c.args.store.now c.requires)
+
+pub state_count-active-requires : goal.state_count-active-requires
+state_count-active-requires c =  (held_there c.args.job c.args.cells.now c.args.store.now c.requires, held_few c.args.job c.args.cells.now c.args.store.now c.requires)
+
+pub state_count-wanted-requires : goal.state_count-wanted-requires
+state_count-wanted-requires c =  (held_there c.args.job c.args.cells.now c.args.store.now c.requires, held_few c.args.job c.args.cells.now c.args.store.now c.requires)
+
+pub ceiling_count-ceiling-requires : goal.ceiling_count-ceiling-requires
+ceiling_count-ceiling-requires c =
+     (
+      (held_there c.args.job c.args.cells.now c.args.store.now c.requires, held_few c.args.job c.args.cells.now c.args.store.now c.requires, c.requires.sound.settings.axes.1),
+      held_within c.args.job c.args.cells.now c.args.store.now c.requires,
+    )
+
+pub returns : goal.returns
+unfolding counts_in counts_of machine_of
+returns c =
+    let j = c.args.job in
+    let cells = c.args.cells.now in
+    let store = c.args.store.now in
+    let old = c.state_count-old.ensures ∙ counted j cells store c.requires 2 in
+    let active = c.state_count-active.ensures ∙ counted j cells store c.requires 1 in
+    let wanted = c.state_count-wanted.ensures ∙ counted j cells store c.requires 0 in
+    let ceiling = c.ceiling_count-ceiling.ensures ∙ capped j cells store c.requires j.settings.axes in
+    let mean = back j.mean (sfits_of c.struct_told-1.given.1.1.1.1.1.0.1) in
+    λ i. record { old = old i; active = active i; wanted = wanted i; reserved = c.requires.sound.numbers.reserved i; pending = c.requires.sound.numbers.pending i; carried = c.requires.sound.numbers.carried i; mean = mean i; ceiling = ceiling i }

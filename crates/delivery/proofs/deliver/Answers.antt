@@ -1,0 +1,116 @@
+-- `delivery::deliver` meets its contract: the block is stored, the record given its state, and the difference worked from what is then there. Assumes nothing.
+use borrow.Author.Rules.{sfits_of}
+use mathlib.Core.Path.{◌≡◌, refl, sym, ap, ◌∙◌, subst}
+use mathlib.Core.Bool.{true}
+use mathlib.Core.List.{List}
+use Prim.Native.Nat.{ℕ, ◌+◌, ◌*◌, ◌^◌, ◌<◌, ◌≤◌}
+use native.Mathlib.Nat.{le_trans}
+use native.Mathlib.Omega.{arith}
+use lib.IntN.{ℤ, nat_abs, ◌+ℤ◌}
+use lib.ListN.{length}
+use lib.Seq.{sets}
+use mir.Syntax.{w64}
+use mir.Val.{to_z, of_z}
+use Rattle.sums.proofs.Words.{sum_fits, sum_is}
+use Rattle.sums.proofs.Sizes.{abs_add}
+use Rattle.grid.specs.Difference.{scaled_difference}
+use Rattle.area.specs.declared.JobRecord.{JobRecord}
+use Rattle.area.specs.Settings.{reading_count}
+use Rattle.area.specs.Records.{records_of, run_of, stored}
+use Rattle.area.specs.Entry.{reading_in}
+use Rattle.area.specs.Encoding.{area_of, entries_of}
+use Rattle.quadrature.specs.Readings.{record_at, stored_reading}
+use Rattle.quadrature.specs.Ready.{Ready}
+use Rattle.machine.specs.Log.{first_wanted, wanted_index}
+use Rattle.machine.specs.Steps.{deliver_at}
+use Rattle.machine.specs.Areas.{deliver_on}
+use Rattle.machine.specs.Causes.{in_range}
+use Rattle.writing.specs.Changes.{with_state}
+use Rattle.writing.specs.ValidArea.{ValidArea}
+use Rattle.delivery.proofs.Delivering.{held_there, block_there, pending_fits, mean_fits, ready, difference_is, area_is, valid_after}
+use Rattle.delivery.proofs.deliver.Goals as goal
+
+-- the laws at a place that is known to be the first wanted
+module _ (j : JobRecord) (c : List ℕ) (s rs : List ℤ) (i place : ℕ) (valid : ValidArea (area_of j c s)) (is : place ≡ first_wanted (entries_of (area_of j c s))) (wanted : place < j.held)
+    (whole : length rs ≡ reading_count j.settings (wanted_index (entries_of (area_of j c s)))) (range : in_range rs ≡ true) where
+  wanted-first : first_wanted (entries_of (area_of j c s)) < j.held
+  wanted-first = omega (arith, is, wanted)
+
+  room : place * 27 + 27 ≤ length c
+  room = omega (arith, held_there j c s rs i valid wanted-first whole range, wanted)
+
+  block_room : (f : ℕ) → f ≡ (record_at (records_of c) place).first → f + length rs ≤ length s
+  block_room f e = rw (e, is) (block_there j c s rs i valid wanted-first whole range)
+
+  module _ (c₁ : List ℕ) (s₁ : List ℤ) (f : ℕ) (first : f ≡ (record_at (records_of c) place).first)
+      (run : run_of c₁ ≡ stored (run_of c) place (with_state (record_at (records_of c) place) 1 i)) (store : s₁ ≡ sets s f rs) where
+    run_first : run_of c₁ ≡ stored (run_of c) (first_wanted (entries_of (area_of j c s))) (with_state (record_at (records_of c) (first_wanted (entries_of (area_of j c s)))) 1 i)
+    run_first = run ∙ ap (λ p. stored (run_of c) p (with_state (record_at (records_of c) p) 1 i)) is
+
+    store-first : s₁ ≡ sets s (record_at (records_of c) (first_wanted (entries_of (area_of j c s)))).first rs
+    store-first = store ∙ ap (λ x. sets s x rs) (first ∙ ap (λ p. (record_at (records_of c) p).first) is)
+
+    ready_at : (k : List ℕ) → k ≡ (record_at (records_of c₁) place).levels → Ready j.settings.axes (records_of c₁) s₁ k
+    ready_at k e =
+        subst (Ready j.settings.axes (records_of c₁) s₁) (ap (λ p. (record_at (records_of c₁) p).levels) (sym is) ∙ sym e)
+        (ready j c s rs i valid wanted-first whole range c₁ s₁ run_first store-first)
+
+    difference_at_lem : (k : List ℕ) (x : ℤ) → k ≡ (record_at (records_of c₁) place).levels → x ≡ scaled_difference k (stored_reading (records_of c₁) s₁)
+        → x ≡ scaled_difference (wanted_index (entries_of (area_of j c s))) (reading_in (deliver_at (entries_of (area_of j c s)) (first_wanted (entries_of (area_of j c s))) rs i))
+    difference_at_lem k x e d =
+        d ∙ ap (λ l. scaled_difference l (stored_reading (records_of c₁) s₁)) (e ∙ ap (λ p. (record_at (records_of c₁) p).levels) is)
+        ∙ difference_is j c s rs i valid wanted-first whole range c₁ s₁ run_first store-first
+
+    abbrev JobAfter : ℤ → JobRecord
+    JobAfter m = record { settings = j.settings; held = j.held; reserved = j.reserved; pending = j.pending + i; carried = j.carried; mean = m }
+
+    area_and_valid : (m : ℤ) → m ≡ j.mean +ℤ scaled_difference (wanted_index (entries_of (area_of j c s))) (reading_in (deliver_at (entries_of (area_of j c s)) (first_wanted (entries_of (area_of j c s))) rs i))
+        → (area_of (JobAfter m) c₁ s₁ ≡ deliver_on (area_of j c s) rs i) × ValidArea (area_of (JobAfter m) c₁ s₁)
+    area_and_valid m e =
+        let is-area = area_is j c s rs i valid wanted-first whole range c₁ s₁ run_first store-first m e in
+        (is-area, valid_after j c s rs i valid wanted-first whole range c₁ s₁ run_first store-first (JobAfter m) is-area)
+
+    mean_small : (x : ℤ) → nat_abs x ≤ 2 ^ 40 → nat_abs (j.mean +ℤ x) ≤ 2 ^ 62
+    mean_small x h = le_trans (abs_add j.mean x) (omega (arith, h, mean_fits j c s rs i valid wanted-first whole range))
+
+pub first_at-first-requires : goal.first_at-first-requires
+first_at-first-requires c =  room c.args.job c.args.cells.now c.args.store.now c.args.readings.now c.args.indicator c.args.place c.requires.0.0 c.requires.0.1 c.requires.0.2 c.requires.1.0 c.requires.1.1
+
+pub put_readings-requires : goal.put_readings-requires
+put_readings-requires c =
+    block_room c.args.job c.args.cells.now c.args.store.now c.args.readings.now c.args.indicator c.args.place c.requires.0.0 c.requires.0.1 c.requires.0.2 c.requires.1.0 c.requires.1.1
+    c.first_at-first.result c.first_at-first.ensures
+
+pub set_state-requires : goal.set_state-requires
+set_state-requires c =  room c.args.job c.args.cells.now c.args.store.now c.args.readings.now c.args.indicator c.args.place c.requires.0.0 c.requires.0.1 c.requires.0.2 c.requires.1.0 c.requires.1.1
+
+pub levels_at-levels-requires : goal.levels_at-levels-requires
+levels_at-levels-requires c =
+    omega (arith, c.set_state.auto.1.1.1.0, room c.args.job c.args.cells.now c.args.store.now c.args.readings.now c.args.indicator c.args.place c.requires.0.0 c.requires.0.1 c.requires.0.2 c.requires.1.0 c.requires.1.1)
+
+pub scaled_difference-difference-requires : goal.scaled_difference-difference-requires
+scaled_difference-difference-requires c =
+    ready_at c.args.job c.args.cells.now c.args.store.now c.args.readings.now c.args.indicator c.args.place c.requires.0.0 c.requires.0.1 c.requires.0.2 c.requires.1.0 c.requires.1.1
+    c.set_state.new.1.1.1.0 c.put_readings.new.1.1.0 c.first_at-first.result c.first_at-first.ensures c.set_state.ensures c.put_readings.ensures
+    c.levels_at-levels.result c.levels_at-levels.ensures
+
+pub overflow_add-after : goal.overflow_add-after
+overflow_add-after c =
+    omega (arith, pending_fits c.args.job c.args.cells.now c.args.store.now c.args.readings.now c.args.indicator c.requires.0.0 (omega (arith, c.requires.0.1, c.requires.0.2)) c.requires.1.0 c.requires.1.1 (λ n. omega (arith, c.slice_known-1.given n)) (omega (arith, c.ranges.indicator)))
+
+pub overflow_add-after-2 : goal.overflow_add-after-2
+overflow_add-after-2 c =
+    let x = c.scaled_difference-difference.result in
+    let m = c.args.job.mean in
+    sum_fits m x (m +ℤ x) (sfits_of c.struct_told-1.given.1.1.1.1.1.0.1) (sfits_of c.scaled_difference-difference.type-inv) refl
+    (mean_small c.args.job c.args.cells.now c.args.store.now c.args.readings.now c.args.indicator c.args.place c.requires.0.0 c.requires.0.1 c.requires.0.2 c.requires.1.0 c.requires.1.1 c.set_state.new.1.1.1.0 c.put_readings.new.1.1.0 c.first_at-first.result c.first_at-first.ensures c.set_state.ensures c.put_readings.ensures x c.scaled_difference-difference.ensures.1)
+
+pub returns : goal.returns
+returns c =
+    let x = c.scaled_difference-difference.result in
+    let m = c.args.job.mean in
+    let sum =
+    sum_is m x (m +ℤ x) (sfits_of c.struct_told-1.given.1.1.1.1.1.0.1) (sfits_of c.scaled_difference-difference.type-inv) refl
+    (mean_small c.args.job c.args.cells.now c.args.store.now c.args.readings.now c.args.indicator c.args.place c.requires.0.0 c.requires.0.1 c.requires.0.2 c.requires.1.0 c.requires.1.1 c.set_state.new.1.1.1.0 c.put_readings.new.1.1.0 c.first_at-first.result c.first_at-first.ensures c.set_state.ensures c.put_readings.ensures x c.scaled_difference-difference.ensures.1) in
+    let difference = difference_at_lem c.args.job c.args.cells.now c.args.store.now c.args.readings.now c.args.indicator c.args.place c.requires.0.0 c.requires.0.1 c.requires.0.2 c.requires.1.0 c.requires.1.1 c.set_state.new.1.1.1.0 c.put_readings.new.1.1.0 c.first_at-first.result c.first_at-first.ensures c.set_state.ensures c.put_readings.ensures c.levels_at-levels.result x c.levels_at-levels.ensures c.scaled_difference-difference.ensures.0 in
+    area_and_valid c.args.job c.args.cells.now c.args.store.now c.args.readings.now c.args.indicator c.args.place c.requires.0.0 c.requires.0.1 c.requires.0.2 c.requires.1.0 c.requires.1.1 c.set_state.new.1.1.1.0 c.put_readings.new.1.1.0 c.first_at-first.result c.first_at-first.ensures c.set_state.ensures c.put_readings.ensures (to_z w64 (of_z w64 (to_z w64 (of_z w64 m) +ℤ to_z w64 (of_z w64 x)))) (sum ∙ ap (λ d. m +ℤ d) difference)

@@ -1,0 +1,45 @@
+-- `running::promote_chosen` meets its contract: met and capped leave the area, and a place that is chosen is an active one. Assumes nothing.
+use mathlib.Core.Path.{refl, sym, ap, ◌∙◌, subst}
+use native.Mathlib.Omega.{arith}
+use Rattle.area.specs.Encoding.{area_of, machine_of}
+use Rattle.machine.specs.Steps.{promote_step}
+use Rattle.promotion.specs.Outcomes.{choice_of}
+use Rattle.reporting.specs.Code.{ending_in}
+use Rattle.running.specs.Execution.{by_choice, execution}
+use Rattle.running.specs.Code.{after_step, StepPostcondition}
+use Rattle.running.proofs.Stepping.{chosen_place_lem, way_place, promoted_step, promoted_left}
+use Rattle.running.proofs.promote_chosen.Goals as goal
+
+pub refine-promotion-requires : goal.refine-promotion-requires
+refine-promotion-requires c =
+    let given = c.choice-1.given in
+    let a = chosen_place_lem c.args.job c.args.cells.now c.args.store.now c.requires.0.0 c.args.choice given.0.0 given.1 c.requires.1 in
+    (c.requires.0, (a.0, a.1, omega arith))
+
+pub returns-in-Met : goal.returns-in-Met
+unfolding choice_of by_choice after_step ending_in
+returns-in-Met c =
+    let m = machine_of (area_of c.args.job c.args.cells.now c.args.store.now) in
+    (λ bytes n used. ap (λ x. by_choice (choice_of x) m used (λ p. execution bytes n (promote_step m p) used)) c.enum_told-1.given.1, λ n used. refl)
+
+pub returns-in-Capped : goal.returns-in-Capped
+unfolding choice_of by_choice after_step ending_in
+returns-in-Capped c =
+    let m = machine_of (area_of c.args.job c.args.cells.now c.args.store.now) in
+    (λ bytes n used. ap (λ x. by_choice (choice_of x) m used (λ p. execution bytes n (promote_step m p) used)) c.enum_told-in-Capped-1.given.1, λ n used. refl)
+
+pub returns-in-Place : goal.returns-in-Place
+returns-in-Place c =
+    let job = c.args.job in
+    let cells = c.args.cells.now in
+    let store = c.args.store.now in
+    let given = c.choice-1.given in
+    let refined = c.refine-promotion in
+    let after = refined.new.1.1.1.0 in
+    let a = chosen_place_lem job cells store c.requires.0.0 c.args.choice given.0.0 given.1 c.requires.1 in (
+      λ bytes n used. way_place job cells store c.requires.0.0 c.args.choice given.0.0 given.1 bytes n used
+          ∙ promoted_step job cells store c.requires.0.0 given.0.0 a refined.result.job after refined.result.outcome refined.ensures.0 bytes n used
+          ∙ ap (λ x. after_step bytes n used (machine_of (area_of job cells store)) x after store) (sym c.step_of_promotion.ensures),
+      λ n used. subst (λ x. StepPostcondition n used job cells store x after store) (sym c.step_of_promotion.ensures)
+          (promoted_left job cells store c.requires.0.0 given.0.0 a refined.result.job after refined.result.outcome refined.ensures.0 n used refined.ensures.1),
+    )

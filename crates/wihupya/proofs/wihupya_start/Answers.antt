@@ -1,0 +1,33 @@
+-- `wihupya::wihupya_start` meets its contract: the call on the words' job record, written as words again; a refusal writes none. Assumes nothing.
+use mathlib.Core.Path.{refl, ap, ◌∙◌}
+use Prim.Native.Nat.{◌-◌}
+use Rattle.wihupya.specs.Exports.{exported}
+use Rattle.area.specs.declared.JobRecord.{JobRecord}
+use Rattle.area.specs.Records.{run_of}
+use Rattle.area.specs.Encoding.{area_of}
+use Rattle.calls.specs.Table as table
+use Rattle.calls.specs.Calls.{call_on}
+use Rattle.wihupya.proofs.Refusals.{refused_words}
+use Rattle.wihupya.proofs.wihupya_start.Goals as goal
+
+pub returns-then-number-ne0 : goal.returns-then-number-ne0
+unfolding exported
+returns-then-number-ne0 c =
+    let cells = c.args.cells.now in
+    let store = c.args.store.now in
+    let r = c.start-answered.result in
+    let is = c.start-answered.ensures ∙ ap (λ (j : JobRecord). call_on (area_of j cells store) (table.start (record { axes = c.args.axes; threshold = c.args.threshold; budget = c.args.budget }))) c.job_in.ensures.0 in (
+      (λ i. record { number = c.number_of-number.ensures i; job = (refused_words c.args.job.now cells store (table.start (record { axes = c.args.axes; threshold = c.args.threshold; budget = c.args.budget })) r c.start-answered.new.1.1.0 (store) c.number_of-number.result is c.number_of-number.ensures c.if-number-ne0.true c.job_in.ensures.1) i; run = run_of c.start-answered.new.1.1.0; store = store }) ∙ ap exported is,
+      λ n. refl,
+    )
+
+pub returns : goal.returns
+unfolding exported
+returns c =
+    let cells = c.args.cells.now in
+    let store = c.args.store.now in
+    let r = c.start-answered.result in
+    let is = c.start-answered.ensures ∙ ap (λ (j : JobRecord). call_on (area_of j cells store) (table.start (record { axes = c.args.axes; threshold = c.args.threshold; budget = c.args.budget }))) c.job_in.ensures.0 in (
+      (λ i. record { number = c.number_of-number.ensures i; job = c.words_of.ensures i; run = run_of c.start-answered.new.1.1.0; store = store }) ∙ ap exported is,
+      λ n. absurd (n c.if-number-ne0.false),
+    )

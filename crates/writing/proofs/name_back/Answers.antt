@@ -1,0 +1,83 @@
+-- `writing::name_back` meets its contract: the axes left name back what all of them would. Assumes nothing.
+use mathlib.Core.Path.{◌≡◌, refl, sym, ap, ◌∙◌}
+use mathlib.Core.Logic.{◌⊎◌, ⊎_elim}
+use mathlib.Core.List.{List}
+use Prim.Native.Nat.{ℕ, ◌+◌, ◌-◌}
+use native.Mathlib.Omega.{arith}
+use lib.ListN.{length, get_or, set}
+use Rattle.area.specs.declared.IndexRecord.{IndexRecord}
+use Rattle.area.specs.Records.{Run, records_of, run_of, stored}
+use Rattle.area.specs.Encoding.{none}
+use Rattle.area.proofs.Records.{length-records_of}
+use Rattle.quadrature.specs.Readings.{record_at}
+use Rattle.writing.specs.Changes.{with_forward_link, named_from}
+use Rattle.writing.proofs.Linking.{named_none, named-one, named_end}
+use Rattle.writing.proofs.name_back.Goals as goal
+
+-- a record written leaves the rest
+records_are : (before after : List ℕ) (place : ℕ) (r : IndexRecord) → run_of after ≡ stored (run_of before) place r → records_of after ≡ set (records_of before) place r
+records_are before after place r e = ap (λ (u : Run). u.records) e
+
+rest_is : (before after : List ℕ) (place : ℕ) (r : IndexRecord) → run_of after ≡ stored (run_of before) place r → (run_of after).rest ≡ (run_of before).rest
+rest_is before after place r e = ap (λ (u : Run). u.rest) e
+
+pub loop-axis-init : goal.loop-axis-init
+loop-axis-init c = (omega arith, refl, refl, refl)
+
+pub overflow_add-behind : goal.overflow_add-behind
+overflow_add-behind c = omega arith
+
+pub offset_bounds-links-axis : goal.offset_bounds-links-axis
+offset_bounds-links-axis c = omega arith
+
+pub bounds-links-axis : goal.bounds-links-axis
+bounds-links-axis c = omega arith
+
+pub overflow_cast-held : goal.overflow_cast-held
+overflow_cast-held c = omega (arith, c.requires.0)
+
+pub link_forward-requires : goal.link_forward-requires
+unfolding none
+link_forward-requires c =
+    let l = c.loop-axis in
+    let here = ⊎_elim (λ e. absurd (c.if-behind.true e)) (λ h. h) (c.requires.1 l.axis (omega arith)) in
+    (omega (arith, here, length-records_of c.args.cells.now, l.invariant.1), omega arith)
+
+pub overflow_add-axis : goal.overflow_add-axis
+overflow_add-axis c = omega arith
+
+pub loop-axis-smaller : goal.loop-axis-smaller
+loop-axis-smaller c = omega arith
+
+pub loop-axis-preserved : goal.loop-axis-preserved
+unfolding none
+loop-axis-preserved c =
+    let l = c.loop-axis in
+    let links = c.args.links in
+    let behind = get_or links (8 + l.axis) 0 in
+    let r = with_forward_link (record_at (records_of l.cells) behind) l.axis c.args.held in
+    ⊎_elim
+    (λ w. (
+      omega arith,
+      ap length w.5 ∙ w.2.kept.1.1.1.0 ∙ l.invariant.1,
+      ap (λ x. (run_of x).rest) w.5 ∙ rest_is l.cells w.2.last.1.1.1.0 behind r w.2.ensures ∙ l.invariant.2,
+      l.invariant.3 ∙ named-one l.axis links c.args.held (records_of l.cells) (omega arith) w.0.taken
+          ∙ ap (named_from (8 - (l.axis + 1)) (l.axis + 1) links c.args.held) (sym (ap records_of w.5 ∙ records_are l.cells w.2.last.1.1.1.0 behind r w.2.ensures)),
+    ))
+    (λ w. (
+      omega arith,
+      ap length w.1 ∙ l.invariant.1,
+      ap (λ x. (run_of x).rest) w.1 ∙ l.invariant.2,
+      l.invariant.3 ∙ named_none l.axis links c.args.held (records_of l.cells) (omega arith) w.0.left
+          ∙ ap (λ x. named_from (8 - (l.axis + 1)) (l.axis + 1) links c.args.held (records_of x)) (sym w.1),
+    ))
+    c.if-behind.branch
+
+pub shape_of-cells : goal.shape_of-cells
+shape_of-cells c = c.loop-axis.invariant.1
+
+pub returns : goal.returns
+returns c =
+    let l = c.loop-axis in
+    let e = l.invariant.3 ∙ named_end l.axis c.args.links c.args.held (records_of l.cells) c.loop-axis-test.false in
+    λ i. record { records = sym e i; rest = l.invariant.2 i }
