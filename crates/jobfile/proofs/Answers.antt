@@ -1,17 +1,14 @@
 -- The code's answers, read as the form of the part that they answer for and of what comes next.
 -- Assumes nothing.
-use mathlib.Core.Path.{◌≡◌, sym, ap, ◌∙◌}
-use mathlib.Core.List.{List, [], ◌∷◌}
+use mathlib.Core.Path.{◌≡◌, refl, sym, ap, ◌∙◌}
+use mathlib.Core.List.{List}
 use Prim.Native.Nat.{ℕ}
-use denote.Enum.Declared.{tag_of}
-use types.Run.{OneOf, miss}
 use lib.ListN.{length}
 use Rattle.jobfile.specs.declared.Form as code
 use Rattle.jobfile.specs.declared.Form.TheVariants as forms
 use Rattle.jobfile.specs.declared.Table as code-table
 use Rattle.jobfile.specs.declared.Table.TheVariants as tables
 use Rattle.jobfile.specs.Form.{Form, entry, formed, broken, header_form, entry_count, readings_byte, table_form, readings_form, form_of, form_in, table_in}
-use Rattle.jobfile.specs.contracts.Form.{the_type}
 use Rattle.jobfile.proofs.HeaderForm.{header_passes, header_stops}
 
 -- ---- the table's answer
@@ -36,9 +33,9 @@ module _ (c : List ℕ) where
   after_header e = header_passes c (table_form c (entry_count c) 0 0 then_readings) e
 
   -- one of the variants that name a byte
-  pub at_header : (r : code.Form) → OneOf (1 ∷ 2 ∷ 3 ∷ []) (tag_of the_type r) → form_in r ≡ header_form c formed → form_in r ≡ form_of c
+  pub at_header : (r : code.Form) → (r ≡ forms.Formed → ⊥) → form_in r ≡ header_form c formed → form_in r ≡ form_of c
   unfolding form_in form_of
-  at_header forms.Formed k e = absurd (miss (1 ∷ 2 ∷ 3 ∷ []) 0 tt k)
+  at_header forms.Formed k e = absurd (k refl)
   at_header (forms.Header b) k e = sym (header_stops c _ (sym e))
   at_header (forms.Entry b) k e = sym (header_stops c _ (sym e))
   at_header (forms.Readings b) k e = sym (header_stops c _ (sym e))

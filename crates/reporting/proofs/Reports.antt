@@ -41,9 +41,6 @@ module _ (n b : ℕ) {b₀ b₁ b₂ : List ℕ} {p₁ p₂ : ℕ} (room : 512 �
       pub end_small : p₄ ≤ 60
       end_small = omega (arith, refused.place, number.place, at.place, byte.place, most n, most b)
 
-      pub refusal_kept : length (set b₄ p₄ 10) ≡ length b₀
-      refusal_kept = kept (then_byte (then (then (then refused number) at) byte) 10)
-
       pub refusal_written : (set b₄ p₄ 10 ≡ refusal_text n b ++ drop (length (refusal_text n b)) b₀) × (p₄ + 1 ≡ length (refusal_text n b))
       refusal_written =
           from_start (omega (arith, refusal_room n b)) (rw (refusal_parts n b) at (then_byte (then (then (then refused number) at) byte) 10))

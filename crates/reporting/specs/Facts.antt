@@ -1,5 +1,5 @@
 -- What holds of decimal numbers and of the texts.
-use Rattle.std.specs.Prelude.{◌≡◌, List, ℕ, ◌^◌, ◌<◌, ◌≤◌, ℤ, pos, nat_abs, length, get_or}
+use Rattle.std.specs.Prelude.{◌≡◌, ℕ, ◌^◌, ◌<◌, ◌≤◌, ℤ, pos, nat_abs, length, get_or}
 use Rattle.reporting.specs.Decimal.{decimal, signed_decimal, value_from, signed_value}
 use Rattle.reporting.specs.Text.{ReportValues, report_text, refusal_text}
 

@@ -9,6 +9,7 @@ use Rattle.area.proofs.Records.{level_in, eight_levels}
 use Rattle.area.proofs.Lookups.{still_same, now_other, flag_end}
 use Rattle.area.proofs.levels_match.Invariants.{held}
 use Rattle.area.proofs.levels_match.Goals as goal
+use Rattle.area.proofs.levels_match.Goals.{then-cells-at, else-cells-at}
 
 pub overflow_mul-at : goal.overflow_mul-at
 overflow_mul-at c = omega arith
@@ -45,18 +46,18 @@ loop-i-preserved c =
     let levels = c.args.levels in
     let room : l.i < length (held cells place) = rw (eight_levels cells place c.requires) (omega arith) in
     let read = level_in cells place c.requires l.i (omega arith) in
-    ⊎_elim
-    (λ w. (
+    elim c.if-cells-at.branch [
+      then-cells-at w ↦ (
       omega arith,
       l.invariant.1,
-      now_other (held cells place) levels l.i _ l.same c.if-cells-at.same room (omega arith) (λ e. w.0.taken (read ∙ e)) w.1 l.invariant.2,
-    ))
-    (λ w. (
+      now_other (held cells place) levels l.i _ l.same c.if-cells-at.same room (omega arith) (λ e. w.if-cells-at.true (read ∙ e)) w.same-is l.invariant.2,
+    )
+    | else-cells-at w ↦ (
       omega arith,
       l.invariant.1,
-      still_same (held cells place) levels l.i _ l.same c.if-cells-at.same room (omega arith) (sym read ∙ w.0.left) w.1 l.invariant.2,
-    ))
-    c.if-cells-at.branch
+      still_same (held cells place) levels l.i _ l.same c.if-cells-at.same room (omega arith) (sym read ∙ w.if-cells-at.false) w.same-is l.invariant.2,
+    )
+    ]
 
 pub returns : goal.returns
 returns c =

@@ -11,12 +11,12 @@ use Rattle.area.proofs.lookup_packed.Goals as goal
 
 pub lookup_word-requires : goal.lookup_word-requires
 lookup_word-requires c =
-    let u = c.requires.1 (not-false c.args.packed c.if-not-packed.false) in
-    (omega (arith, u.few, held_count c.args.cells.now c.args.held c.requires.0), u.room)
+    let u = c.requires.packed_if c.if-not-packed.false in
+    (omega (arith, u.few, held_count c.args.cells.now c.args.held c.requires.held_in_bounds), u.room)
 
 pub returns-in-Word : goal.returns-in-Word
 returns-in-Word c =
-    let u = c.requires.1 (not-false c.args.packed c.if-not-packed.false) in
-    let t = told_word c.args.levels c.word-1.given.0.0 (sym c.pack.ensures ∙ c.word-1.given.1) in
+    let u = c.requires.packed_if c.if-not-packed.false in
+    let t = told_word c.args.levels c.in-Word.word (sym c.in-Word.ensures) in
     c.lookup_word.ensures ∙ ap (word_from 0 (take c.args.held c.args.words.now)) (sym t.1)
-    ∙ sym (found_packed c.args.cells.now c.args.held c.requires.0 c.args.words.now c.args.levels (search rules) u ((pack_facts.tested c.args.levels).0 t.0))
+    ∙ sym (found_packed c.args.cells.now c.args.held c.requires.held_in_bounds c.args.words.now c.args.levels (search rules) u ((pack_facts.tested c.args.levels).0 t.0))

@@ -26,10 +26,10 @@ returns-then-not-put_word c =
     let k = c.levels_at in
     let answer = c.put_word in
     let no : fits_byte (get_or (records_of c.args.cells.now) l.place blank).levels ≡ false =
-    ap fits_byte (sym k.ensures) ∙ sym answer.ensures.0 ∙ not-true answer.result c.if-not-put_word.true in (
-      sym (l.invariant.1 ∙ fit_head c.args.cells.now c.args.held l.place c.requires.0 (omega arith) ∙ ap (λ t. t && all_fit_byte (drop (l.place + 1) (held_in c.args.cells.now c.args.held))) no),
-      λ e. absurd (let z : ◌≡◌ {A = ℕ} 0 1 = cc in omega arith),
-    )
+    ap fits_byte (sym k.ensures) ∙ sym answer.ensures.answer ∙ c.if-not-put_word.true in record {
+      answer = sym (l.invariant.1 ∙ fit_head c.args.cells.now c.args.held l.place c.requires.0 (omega arith) ∙ ap (λ t. t && all_fit_byte (drop (l.place + 1) (held_in c.args.cells.now c.args.held))) no);
+      words = λ e. absurd (let z : ◌≡◌ {A = ℕ} 0 1 = cc in omega arith);
+    }
 
 pub overflow_add-place : goal.overflow_add-place
 overflow_add-place c = omega arith
@@ -44,8 +44,8 @@ loop-place-preserved c =
     let k = c.levels_at in
     let answer = c.put_word in
     let levels = (get_or (records_of cells) l.place blank).levels in
-    let yes : fits_byte levels ≡ true = ap fits_byte (sym k.ensures) ∙ sym answer.ensures.0 ∙ not-false answer.result c.if-not-put_word.false in
-    let put : answer.new.1.1.0 ≡ words_with l.words l.place levels = answer.ensures.1 ∙ ap (words_with l.words l.place) k.ensures in (
+    let yes : fits_byte levels ≡ true = ap fits_byte (sym k.ensures) ∙ sym answer.ensures.answer ∙ c.if-not-put_word.false in
+    let put : answer.new.words ≡ words_with l.words l.place levels = answer.ensures.words ∙ ap (words_with l.words l.place) k.ensures in (
       omega arith,
       l.invariant.1 ∙ fit_head cells c.args.held l.place c.requires.0 (omega arith) ∙ ap (λ t. t && all_fit_byte (drop (l.place + 1) (held_in cells c.args.held))) yes,
       subst (λ ws. PackedRun ws (held_in cells (l.place + 1))) (sym put)
@@ -56,4 +56,4 @@ pub returns : goal.returns
 returns c =
     let l = c.loop-place in
     let done : l.place ≡ c.args.held = omega arith in
-    (sym (l.invariant.1 ∙ fit_end c.args.cells.now c.args.held l.place c.requires.0 (omega arith)), λ e. subst (λ n. PackedRun l.words (held_in c.args.cells.now n)) done l.invariant.2)
+    record { answer = sym (l.invariant.1 ∙ fit_end c.args.cells.now c.args.held l.place c.requires.0 (omega arith)); words = λ e. subst (λ n. PackedRun l.words (held_in c.args.cells.now n)) done l.invariant.2 }

@@ -11,11 +11,11 @@ offset_bounds-words-place c = omega arith
 pub returns-in-Word : goal.returns-in-Word
 unfolding words_with
 returns-in-Word c =
-    let t = told_word c.args.levels c.word-1.given.0.0 (sym c.pack.ensures ∙ c.word-1.given.1) in
-    (sym t.0, rw (t.0, t.1))
+    let t = told_word c.args.levels c.in-Word.word (sym c.in-Word.ensures) in
+    record { answer = sym t.0; words = rw (t.0, t.1) }
 
 pub returns-in-Larger : goal.returns-in-Larger
 unfolding words_with
 returns-in-Larger c =
-    let t = told_larger c.args.levels (sym c.pack.ensures ∙ c.enum_told-1.given.1) in
-    (sym t, rw t)
+    let t = told_larger c.args.levels (sym c.in-Larger.ensures) in
+    record { answer = sym t; words = rw t }

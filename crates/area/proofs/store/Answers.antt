@@ -16,9 +16,6 @@ bounds-cells-at-3 c = simp length-set (omega arith)
 pub put_sixteen-requires : goal.put_sixteen-requires
 put_sixteen-requires c = simp length-set (omega arith)
 
-pub shape_of-cells : goal.shape_of-cells
-shape_of-cells c = simp length-set at c.put_sixteen.auto.0 ∙ c.put_eight.auto.0
-
 pub returns : goal.returns
 returns c =
     let hl : length c.args.index.levels ≡ 8 = search rules in

@@ -23,4 +23,4 @@ pub returns : goal.returns
 unfolding reply_of_total
 returns c =
     let a = area_of c.args.job c.args.cells.now c.args.store.now in
-    ap (λ (z : ℤ). answer (total z)) (back c.cross_total.result (sfits_of c.cross_total.type-inv) ∙ c.cross_total.ensures) ∙ cross_accepts a c.area_cause-cause.result c.area_cause-cause.ensures c.if-cause-ne0.false
+    ap (λ (z : ℤ). answer (total z)) (back c.cross_total.result (sfits_of c.cross_total.type_inv) ∙ c.cross_total.ensures) ∙ cross_accepts a c.area_cause-cause.result c.area_cause-cause.ensures c.if-cause-ne0.false

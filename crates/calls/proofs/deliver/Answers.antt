@@ -52,11 +52,14 @@ first_wanted-place-requires c =  held_there c.args.job c.args.cells.now c.args.s
 pub deliver-after-requires : goal.deliver-after-requires
 deliver-after-requires c =
     let at = at_first c.args.job c.args.cells.now c.args.store.now c.args.readings.now c.deliver_cause-cause.result c.deliver_cause-cause.ensures c.if-cause-ne0.false c.first_wanted-place.result c.first_wanted-place.ensures in
-    ((st c.args.job c.args.cells.now c.args.store.now c.args.readings.now c.deliver_cause-cause.result c.deliver_cause-cause.ensures c.if-cause-ne0.false, at.0, at.1), readings_fit c.args.job c.args.cells.now c.args.store.now c.args.readings.now c.deliver_cause-cause.result c.deliver_cause-cause.ensures c.if-cause-ne0.false)
+    record {
+      valid_area = (st c.args.job c.args.cells.now c.args.store.now c.args.readings.now c.deliver_cause-cause.result c.deliver_cause-cause.ensures c.if-cause-ne0.false, at.0, at.1);
+      readings_len = readings_fit c.args.job c.args.cells.now c.args.store.now c.args.readings.now c.deliver_cause-cause.result c.deliver_cause-cause.ensures c.if-cause-ne0.false;
+    }
 
 pub returns : goal.returns
 unfolding reply_of
 returns c =
     let a = area_of c.args.job c.args.cells.now c.args.store.now in
-    ap (λ (x : Area). record { answer = answer accepted; area = x }) c.deliver-after.ensures.0
+    ap (λ (x : Area). record { answer = answer accepted; area = x }) c.deliver-after.ensures.is
     ∙ deliver_accepts a c.args.readings.now c.args.indicator c.deliver_cause-cause.result c.deliver_cause-cause.ensures c.if-cause-ne0.false

@@ -25,7 +25,10 @@ point-requires c =
     let q = c.point_cause-cause in
     let p = c.first_wanted-place in
     let x = pointing c.args.job c.args.cells.now c.args.store.now c.args.n (length c.args.buffer.now) q.result q.ensures c.if-cause-ne0.false p.result p.ensures in
-    ((x.there, x.axes_few, x.room), (x.ceilings, x.in_block))
+    record {
+      place_in_bounds = (x.there, x.axes_few, x.room);
+      within = (x.ceilings, x.in_block);
+    }
 
 pub returns : goal.returns
 unfolding reply_of

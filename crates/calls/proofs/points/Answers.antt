@@ -27,7 +27,10 @@ points-requires c =
     let q = c.point_cause-cause in
     let p = c.first_wanted-place in
     let x = pointing c.args.job c.args.cells.now c.args.store.now c.args.n (length c.args.buffer.now) q.result q.ensures c.if-cause-ne0.false p.result p.ensures in
-    ((x.there, x.axes_some, x.axes_few), (x.ceilings, x.in_block))
+    record {
+      place_in_bounds = (x.there, x.axes_some, x.axes_few);
+      within = (x.ceilings, x.in_block);
+    }
 
 pub returns : goal.returns
 unfolding reply_of_points
@@ -42,8 +45,8 @@ returns c =
     let buffer = c.args.buffer.now in
     let all = points_fitting d (record_at (records_of c.args.cells.now) p.result).levels c.args.n (length buffer) in
     let left = g.new.1.1.1.1.0 in
-    ap (λ n. record { reply = wrote n g.result.size; buffer = left }) g.ensures.0.0
-    ∙ ap (λ n. record { reply = wrote (length all) n; buffer = left }) g.ensures.0.1
-    ∙ ap (λ x. record { reply = wrote (length all) (block_size (record_at (records_of c.args.cells.now) p.result).levels); buffer = x }) g.ensures.1
+    ap (λ n. record { reply = wrote n g.result.size; buffer = left }) g.ensures.counts.0
+    ∙ ap (λ n. record { reply = wrote (length all) n; buffer = left }) g.ensures.counts.1
+    ∙ ap (λ x. record { reply = wrote (length all) (block_size (record_at (records_of c.args.cells.now) p.result).levels); buffer = x }) g.ensures.bytes
     ∙ ap (λ k. record { reply = wrote (length (points_fitting d k c.args.n (length buffer))) (block_size k); buffer = written_over (positions_of d (points_fitting d k c.args.n (length buffer))) buffer }) levels
     ∙ points_accepts a c.args.n buffer q.result q.ensures none

@@ -24,7 +24,7 @@ pub returns : goal.returns
 returns c =
     let a = area_of c.args.job c.args.cells.now c.args.store.now in
     let n = c.promote_cause-cause in
-    let is = c.refine-promotion.ensures.0 in
+    let is = c.refine-promotion.ensures.is in
     let after = c.refine-promotion.new.1.1.1.0 in
     let reply = c.as_answer.ensures.0 ∙ ap (λ (x : AreaPromotion). promotion x.outcome) is in
     let area = ap (λ (k : JobRecord). area_of k after c.args.store.now) c.as_answer.ensures.1 ∙ ap (λ (x : AreaPromotion). x.area) is in

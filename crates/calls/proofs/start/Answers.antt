@@ -53,5 +53,5 @@ returns c =
     let a = area_of c.args.job c.args.cells.now c.args.store.now in
     ap (λ (x : Area). record { answer = answer accepted; area = x })
     (area_is c.args.job c.start-started.result c.args.cells.now c.start-started.new.1.0 c.args.store.now c.args.settings
-    (room c.args.job c.args.cells.now c.args.store.now c.args.settings c.start_cause-cause.result c.start_cause-cause.ensures c.if-cause-ne0.false) c.start-started.ensures.0 c.start-started.ensures.1)
+    (room c.args.job c.args.cells.now c.args.store.now c.args.settings c.start_cause-cause.result c.start_cause-cause.ensures c.if-cause-ne0.false) c.start-started.ensures.job c.start-started.ensures.run)
     ∙ start_accepts a c.args.settings c.start_cause-cause.result (cause_is c.args.job c.args.cells.now c.args.store.now c.args.settings c.start_cause-cause.result c.start_cause-cause.ensures) c.if-cause-ne0.false

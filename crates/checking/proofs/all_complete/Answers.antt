@@ -13,7 +13,10 @@ unfolding all_complete_test
 loop-place-init c = (omega arith, ap (λ n. all_from n 0 (place_complete_test c.args.axes (records_of c.args.cells.now))) (omega arith))
 
 pub place_complete-requires : goal.place_complete-requires
-place_complete-requires c = (c.requires.0, omega (arith, c.requires.1))
+place_complete-requires c = record {
+      axes_bound = c.requires.axes_bound;
+      place_in_bounds = omega (arith, c.requires.cells_len);
+    }
 
 pub returns-then-not-place_complete : goal.returns-then-not-place_complete
 returns-then-not-place_complete c =

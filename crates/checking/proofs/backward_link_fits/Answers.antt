@@ -16,7 +16,10 @@ pub link_at-requires : goal.link_at-requires
 link_at-requires c = (in_cells_lem c.args.cells.now c.args.place (omega arith), omega arith)
 
 pub backward_neighbour_fits-requires : goal.backward_neighbour_fits-requires
-backward_neighbour_fits-requires c = ((omega arith, omega arith, omega arith), omega (arith, c.level_at.ensures, c.if-level_at-le1.false))
+backward_neighbour_fits-requires c = record {
+      cells_len = (omega arith, omega arith, omega arith);
+      bound = omega (arith, c.level_at.ensures, c.if-level_at-le1.false);
+    }
 
 pub returns-then-level_at-le1 : goal.returns-then-level_at-le1
 unfolding none

@@ -48,7 +48,7 @@ levels_at-levels-requires c = in_cells_lem c.args.cells.now c.args.place (omega 
 
 pub backward_neighbour-requires : goal.backward_neighbour-requires
 backward_neighbour-requires c =
-    (c.requires.0.2, subst (λ k. 1 < level k c.args.axis) (sym c.levels_at-levels.ensures) c.requires.1)
+    (c.requires.cells_len.2, subst (λ k. 1 < level k c.args.axis) (sym c.levels_at-levels.ensures) c.requires.bound)
 
 pub levels_are-requires : goal.levels_are-requires
 levels_are-requires c = in_cells_lem c.args.cells.now c.link_at-behind.result (omega arith)

@@ -11,7 +11,10 @@ pub loop-other-init : goal.loop-other-init
 loop-other-init c = (omega arith, ap (λ n. any_from n 0 (bars_test (records_of c.args.cells.now) c.args.place c.args.axis)) (omega arith))
 
 pub bars-requires : goal.bars-requires
-bars-requires c = (c.requires.0, (c.requires.1.0, c.requires.1.1, omega arith))
+bars-requires c = record {
+      axes_bound = c.requires.axes_bound;
+      place_in_bounds = (c.requires.place_in_bounds.0, c.requires.place_in_bounds.1, omega arith);
+    }
 
 pub returns-then-bars : goal.returns-then-bars
 returns-then-bars c =

@@ -38,7 +38,7 @@ link_at-behind-requires c = (in_cells_lem c.args.cells.now c.args.place (omega a
 pub link_at-beside-requires : goal.link_at-beside-requires
 link_at-beside-requires c =
     let held =
-    behind-place c.args.axes c.args.cells.now c.requires.0.0 c.requires.0.1 c.args.place c.args.other c.requires.1.0 c.requires.1.2
+    behind-place c.args.axes c.args.cells.now c.requires.axes_bound.0 c.requires.axes_bound.1 c.args.place c.args.other c.requires.place_in_bounds.0 c.requires.place_in_bounds.2
     (omega (arith, c.level_at.ensures, c.if-level_at-le1.false)) in
     (in_cells_lem c.args.cells.now c.link_at-behind.result (omega (arith, c.link_at-behind.ensures, held)), omega arith)
 
@@ -53,9 +53,9 @@ pub state_at-requires : goal.state_at-requires
 unfolding none
 state_at-requires c =
     let rs = records_of c.args.cells.now in
-    let behind = behind-place c.args.axes c.args.cells.now c.requires.0.0 c.requires.0.1 c.args.place c.args.other c.requires.1.0 c.requires.1.2 (above c) in
+    let behind = behind-place c.args.axes c.args.cells.now c.requires.axes_bound.0 c.requires.axes_bound.1 c.args.place c.args.other c.requires.place_in_bounds.0 c.requires.place_in_bounds.2 (above c) in
     let held =
-    ahead_place c.args.axes c.args.cells.now c.requires.0.0 c.requires.0.1 (backward_link rs c.args.place c.args.other) c.args.axis behind c.requires.1.1
+    ahead_place c.args.axes c.args.cells.now c.requires.axes_bound.0 c.requires.axes_bound.1 (backward_link rs c.args.place c.args.other) c.args.axis behind c.requires.place_in_bounds.1
     (λ e. c.if-beside.false (beside c ∙ e)) in
     in_cells_lem c.args.cells.now c.link_at-beside.result (omega (arith, beside c, held))
 

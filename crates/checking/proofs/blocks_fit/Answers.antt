@@ -86,7 +86,7 @@ loop-place-preserved c =
     let good = sym c.block_fits.ensures ∙ not-false c.block_fits.result c.if-not-block_fits.false in
     let ends = ends_within rs l.place c.args.settings store good in
     let count = count_is c in
-    let most = reading_facts.most c.args.settings c.requires.0.0 in (
+    let most = reading_facts.most c.args.settings c.requires.settings_fit.0 in (
       omega arith,
       omega arith,
       omega (arith, sum_next l.place (count_at c.args.settings rs)),

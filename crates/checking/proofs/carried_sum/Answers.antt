@@ -40,7 +40,7 @@ levels_at-requires c = omega (arith, length-records_of c.args.cells.now)
 
 pub at_ceiling-requires : goal.at_ceiling-requires
 at_ceiling-requires c =
-    subst Within (sym c.levels_at.ensures) (c.requires.1 c.loop-place.place (omega arith))
+    subst Within (sym c.levels_at.ensures) (c.requires.by_index c.loop-place.place (omega arith))
 
 pub indicator_at-requires : goal.indicator_at-requires
 indicator_at-requires c = omega (arith, length-records_of c.args.cells.now)

@@ -25,7 +25,10 @@ held_fit-requires c =
     let f = job_facts c.args.job cells c.args.store.now fits in
     let first = take (c.args.job.held * 27) cells in
     let cut = length-take-le (c.args.job.held * 27) cells (cells_there c.args.job cells c.args.store.now fits) in
-    ((f.settings, f.held.1), (omega (arith, length-records_of first, cut), f.room))
+    record {
+      settings_fit = (f.settings, f.held.1);
+      cells_len = (omega (arith, length-records_of first, cut), f.room);
+    }
 
 pub returns : goal.returns
 returns c =

@@ -14,7 +14,10 @@ returns-then-not-places_fit c =
     sym (held_no_place j rs store (sym c.places_fit.ensures ∙ not-true c.places_fit.result c.if-not-places_fit.true))
 
 pub all_complete-requires : goal.all_complete-requires
-all_complete-requires c = ((c.requires.0.0.axes.1, sym c.places_fit.ensures ∙ not-false c.places_fit.result c.if-not-places_fit.false), c.requires.1.0)
+all_complete-requires c = record {
+      axes_bound = (c.requires.settings_fit.0.axes.1, sym c.places_fit.ensures ∙ not-false c.places_fit.result c.if-not-places_fit.false);
+      cells_len = c.requires.cells_len.0;
+    }
 
 pub returns-then-not-all_complete : goal.returns-then-not-all_complete
 returns-then-not-all_complete c =
@@ -32,7 +35,10 @@ returns-then-not-all_wanted_fit c =
 
 pub blocks_fit-requires : goal.blocks_fit-requires
 blocks_fit-requires c =
-    ((c.requires.0.0, sym c.places_fit.ensures ∙ not-false c.places_fit.result c.if-not-places_fit.false), c.requires.1)
+    record {
+      settings_fit = (c.requires.settings_fit.0, sym c.places_fit.ensures ∙ not-false c.places_fit.result c.if-not-places_fit.false);
+      cells_len = c.requires.cells_len;
+    }
 
 pub returns-then-not-blocks_fit : goal.returns-then-not-blocks_fit
 returns-then-not-blocks_fit c =
@@ -44,7 +50,10 @@ returns-then-not-blocks_fit c =
 pub numbers_fit-requires : goal.numbers_fit-requires
 numbers_fit-requires c =
     let places = c.places_fit in
-    ((c.requires.0.0, c.requires.0.1, c.requires.1.0), sym places.ensures ∙ not-false places.result c.if-not-places_fit.false)
+    record {
+      settings_fit = (c.requires.settings_fit.0, c.requires.settings_fit.1, c.requires.cells_len.0);
+      cells_value = sym places.ensures ∙ not-false places.result c.if-not-places_fit.false;
+    }
 
 pub returns : goal.returns
 returns c =

@@ -20,25 +20,28 @@ returns-then-pending_sum-job c =
 pub carried_sum-requires : goal.carried_sum-requires
 carried_sum-requires c =
     let j = c.args.job in
-    ((c.requires.0.2, c.requires.0.1), λ p h. (place_index j.settings.axes c.args.cells.now c.requires.0.0.axes.1 c.requires.1 p (omega (arith, h, c.requires.0.2))).ceilings)
+    record {
+      cells_len = (c.requires.settings_fit.2, c.requires.settings_fit.1);
+      by_index = λ p h. (place_index j.settings.axes c.args.cells.now c.requires.settings_fit.0.axes.1 c.requires.cells_value p (omega (arith, h, c.requires.settings_fit.2))).ceilings;
+    }
 
 pub returns-then-carried_sum-job : goal.returns-then-carried_sum-job
 returns-then-carried_sum-job c =
     let j = c.args.job in
     let rs = records_of c.args.cells.now in
-    let eight = carried_eight j.settings.axes rs c.requires.0.0.axes.0 c.requires.0.0.axes.1 (place_index j.settings.axes c.args.cells.now c.requires.0.0.axes.1 c.requires.1) in
+    let eight = carried_eight j.settings.axes rs c.requires.settings_fit.0.axes.0 c.requires.settings_fit.0.axes.1 (place_index j.settings.axes c.args.cells.now c.requires.settings_fit.0.axes.1 c.requires.cells_value) in
     sym (no_carried j rs (sym c.pending_sum.ensures ∙ c.if-pending_sum-job.false) (λ e. c.if-carried_sum-job.true (c.carried_sum.ensures ∙ eight ∙ e)))
 
 pub mean_fits-requires : goal.mean_fits-requires
 mean_fits-requires c =
-    omega (arith, c.delivered_count.ensures, count_small (records_of c.args.cells.now), c.requires.0.2, c.requires.0.1)
+    omega (arith, c.delivered_count.ensures, count_small (records_of c.args.cells.now), c.requires.settings_fit.2, c.requires.settings_fit.1)
 
 pub returns : goal.returns
 returns c =
     let j = c.args.job in
     let rs = records_of c.args.cells.now in
     let mean : to_z w64 (of_z w64 j.mean) ≡ j.mean = back j.mean (sfits_of c.struct_told-1.given.1.1.1.1.1.0.1) in
-    let eight = carried_eight j.settings.axes rs c.requires.0.0.axes.0 c.requires.0.0.axes.1 (place_index j.settings.axes c.args.cells.now c.requires.0.0.axes.1 c.requires.1) in
+    let eight = carried_eight j.settings.axes rs c.requires.settings_fit.0.axes.0 c.requires.settings_fit.0.axes.1 (place_index j.settings.axes c.args.cells.now c.requires.settings_fit.0.axes.1 c.requires.cells_value) in
     c.mean_fits.ensures ∙ ap (λ x. leb (nat_abs x) (c.delivered_count.result * 2 ^ 40)) mean
     ∙ ap (λ n. leb (nat_abs j.mean) (n * 2 ^ 40)) c.delivered_count.ensures
     ∙ sym (then_mean j rs (sym c.pending_sum.ensures ∙ c.if-pending_sum-job.false) (sym eight ∙ sym c.carried_sum.ensures ∙ c.if-carried_sum-job.false))

@@ -13,18 +13,18 @@ use Rattle.checking.proofs.Passes.{place_index, complete_not_old, complete_full,
 use Rattle.checking.proofs.place_complete.Goals as goal
 
 pub state_at-requires : goal.state_at-requires
-state_at-requires c = in_cells_lem c.args.cells.now c.args.place c.requires.1
+state_at-requires c = in_cells_lem c.args.cells.now c.args.place c.requires.place_in_bounds
 
 pub returns-then-state_at-ne-OLD : goal.returns-then-state_at-ne-OLD
 returns-then-state_at-ne-OLD c =
     sym (complete_not_old c.args.axes (records_of c.args.cells.now) c.args.place (λ e. c.if-state_at-ne-OLD.true (c.state_at.ensures ∙ e)))
 
 pub levels_at-requires : goal.levels_at-requires
-levels_at-requires c = in_cells_lem c.args.cells.now c.args.place c.requires.1
+levels_at-requires c = in_cells_lem c.args.cells.now c.args.place c.requires.place_in_bounds
 
 pub excess_of-requires : goal.excess_of-requires
 excess_of-requires c =
-    subst Within (sym c.levels_at.ensures) (place_index c.args.axes c.args.cells.now c.requires.0.0 c.requires.0.1 c.args.place c.requires.1).ceilings
+    subst Within (sym c.levels_at.ensures) (place_index c.args.axes c.args.cells.now c.requires.axes_bound.0 c.requires.axes_bound.1 c.args.place c.requires.place_in_bounds).ceilings
 
 pub returns-then-excess_of-ge12 : goal.returns-then-excess_of-ge12
 returns-then-excess_of-ge12 c =
@@ -42,7 +42,10 @@ loop-axis-init c =
     )
 
 pub axis_complete-requires : goal.axis_complete-requires
-axis_complete-requires c = (c.requires.0, (c.requires.1, omega arith))
+axis_complete-requires c = record {
+      axes_bound = c.requires.axes_bound;
+      place_in_bounds = (c.requires.place_in_bounds, omega arith);
+    }
 
 pub returns-then-not-axis_complete : goal.returns-then-not-axis_complete
 returns-then-not-axis_complete c =

@@ -21,7 +21,7 @@ pub capped_axes-count-requires : goal.capped_axes-count-requires
 capped_axes-count-requires c =
     let p = c.loop-place.place in
     let e = ap (λ r. r.levels) (held_record c.args.cells.now c.args.held (omega arith) p (omega arith)) in
-    (omega arith, rw (c.levels_at.ensures, ← e) (c.requires.1 p (omega arith)))
+    (omega arith, rw (c.levels_at.ensures, ← e) (c.requires.by_index p (omega arith)))
 
 pub overflow_add-count : goal.overflow_add-count
 overflow_add-count c = omega arith

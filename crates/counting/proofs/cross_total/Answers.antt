@@ -10,6 +10,6 @@ combination_sum-requires c =  summable c.args.job c.args.cells.now c.args.store.
 
 pub returns : goal.returns
 returns c =
-    back c.combination_sum.result (sfits_of c.combination_sum.type-inv)
-    ∙ c.combination_sum.ensures.0
+    back c.combination_sum.result (sfits_of c.combination_sum.type_inv)
+    ∙ c.combination_sum.ensures.is
     ∙ summed c.args.job c.args.cells.now c.args.store.now c.requires

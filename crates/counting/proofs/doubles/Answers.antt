@@ -22,7 +22,7 @@ report_of-requires c =
     let largest = c.largest_difference-largest in (
       omega (arith, ap nat_abs (back_small j.mean (omega (arith, mean))), mean),
       pending_small j c.args.cells.now c.args.store.now c.requires (λ n. omega (arith, c.shared_slice_known-1.given n)),
-      omega (arith, ap nat_abs (back largest.result (sfits_of largest.type-inv)), largest.ensures.1),
+      omega (arith, ap nat_abs (back largest.result (sfits_of largest.type_inv)), largest.ensures.small),
     )
 
 pub returns : goal.returns
@@ -31,5 +31,5 @@ returns c =
     let j = c.args.job in
     let mean = back_small j.mean (omega (arith, mean_small j c.args.cells.now c.args.store.now c.requires)) in
     let found = c.largest_difference-largest in
-    let largest = back found.result (sfits_of found.type-inv) ∙ found.ensures.0 ∙ largest_is j c.args.cells.now c.args.store.now c.requires in
+    let largest = back found.result (sfits_of found.type_inv) ∙ found.ensures.is ∙ largest_is j c.args.cells.now c.args.store.now c.requires in
     c.report_of.ensures ∙ (λ i. report_of (mean i) (c.requires.sound.numbers.pending i) (largest i))

@@ -19,10 +19,10 @@ state_count-wanted-requires c =  (held_there c.args.job c.args.cells.now c.args.
 
 pub ceiling_count-ceiling-requires : goal.ceiling_count-ceiling-requires
 ceiling_count-ceiling-requires c =
-     (
-      (held_there c.args.job c.args.cells.now c.args.store.now c.requires, held_few c.args.job c.args.cells.now c.args.store.now c.requires, c.requires.sound.settings.axes.1),
-      held_within c.args.job c.args.cells.now c.args.store.now c.requires,
-    )
+     record {
+      held_in_bounds = (held_there c.args.job c.args.cells.now c.args.store.now c.requires, held_few c.args.job c.args.cells.now c.args.store.now c.requires, c.requires.sound.settings.axes.1);
+      by_index = held_within c.args.job c.args.cells.now c.args.store.now c.requires;
+    }
 
 pub returns : goal.returns
 unfolding counts_in counts_of machine_of

@@ -74,43 +74,43 @@ module _ (j : JobRecord) (c : List ℕ) (s rs : List ℤ) (i place : ℕ) (valid
     mean_small x h = le_trans (abs_add j.mean x) (omega (arith, h, mean_fits j c s rs i valid wanted-first whole range))
 
 pub first_at-first-requires : goal.first_at-first-requires
-first_at-first-requires c =  room c.args.job c.args.cells.now c.args.store.now c.args.readings.now c.args.indicator c.args.place c.requires.0.0 c.requires.0.1 c.requires.0.2 c.requires.1.0 c.requires.1.1
+first_at-first-requires c =  room c.args.job c.args.cells.now c.args.store.now c.args.readings.now c.args.indicator c.args.place c.requires.valid_area.0 c.requires.valid_area.1 c.requires.valid_area.2 c.requires.readings_len.0 c.requires.readings_len.1
 
 pub put_readings-requires : goal.put_readings-requires
 put_readings-requires c =
-    block_room c.args.job c.args.cells.now c.args.store.now c.args.readings.now c.args.indicator c.args.place c.requires.0.0 c.requires.0.1 c.requires.0.2 c.requires.1.0 c.requires.1.1
+    block_room c.args.job c.args.cells.now c.args.store.now c.args.readings.now c.args.indicator c.args.place c.requires.valid_area.0 c.requires.valid_area.1 c.requires.valid_area.2 c.requires.readings_len.0 c.requires.readings_len.1
     c.first_at-first.result c.first_at-first.ensures
 
 pub set_state-requires : goal.set_state-requires
-set_state-requires c =  room c.args.job c.args.cells.now c.args.store.now c.args.readings.now c.args.indicator c.args.place c.requires.0.0 c.requires.0.1 c.requires.0.2 c.requires.1.0 c.requires.1.1
+set_state-requires c =  room c.args.job c.args.cells.now c.args.store.now c.args.readings.now c.args.indicator c.args.place c.requires.valid_area.0 c.requires.valid_area.1 c.requires.valid_area.2 c.requires.readings_len.0 c.requires.readings_len.1
 
 pub levels_at-levels-requires : goal.levels_at-levels-requires
 levels_at-levels-requires c =
-    omega (arith, c.set_state.auto.1.1.1.0, room c.args.job c.args.cells.now c.args.store.now c.args.readings.now c.args.indicator c.args.place c.requires.0.0 c.requires.0.1 c.requires.0.2 c.requires.1.0 c.requires.1.1)
+    omega (arith, c.set_state.auto.1.1.1.0, room c.args.job c.args.cells.now c.args.store.now c.args.readings.now c.args.indicator c.args.place c.requires.valid_area.0 c.requires.valid_area.1 c.requires.valid_area.2 c.requires.readings_len.0 c.requires.readings_len.1)
 
 pub scaled_difference-difference-requires : goal.scaled_difference-difference-requires
 scaled_difference-difference-requires c =
-    ready_at c.args.job c.args.cells.now c.args.store.now c.args.readings.now c.args.indicator c.args.place c.requires.0.0 c.requires.0.1 c.requires.0.2 c.requires.1.0 c.requires.1.1
+    ready_at c.args.job c.args.cells.now c.args.store.now c.args.readings.now c.args.indicator c.args.place c.requires.valid_area.0 c.requires.valid_area.1 c.requires.valid_area.2 c.requires.readings_len.0 c.requires.readings_len.1
     c.set_state.new.1.1.1.0 c.put_readings.new.1.1.0 c.first_at-first.result c.first_at-first.ensures c.set_state.ensures c.put_readings.ensures
     c.levels_at-levels.result c.levels_at-levels.ensures
 
 pub overflow_add-after : goal.overflow_add-after
 overflow_add-after c =
-    omega (arith, pending_fits c.args.job c.args.cells.now c.args.store.now c.args.readings.now c.args.indicator c.requires.0.0 (omega (arith, c.requires.0.1, c.requires.0.2)) c.requires.1.0 c.requires.1.1 (λ n. omega (arith, c.slice_known-1.given n)) (omega (arith, c.ranges.indicator)))
+    omega (arith, pending_fits c.args.job c.args.cells.now c.args.store.now c.args.readings.now c.args.indicator c.requires.valid_area.0 (omega (arith, c.requires.valid_area.1, c.requires.valid_area.2)) c.requires.readings_len.0 c.requires.readings_len.1 (λ n. omega (arith, c.slice_known-1.given n)) (omega (arith, c.ranges.indicator)))
 
 pub overflow_add-after-2 : goal.overflow_add-after-2
 overflow_add-after-2 c =
     let x = c.scaled_difference-difference.result in
     let m = c.args.job.mean in
-    sum_fits m x (m +ℤ x) (sfits_of c.struct_told-1.given.1.1.1.1.1.0.1) (sfits_of c.scaled_difference-difference.type-inv) refl
-    (mean_small c.args.job c.args.cells.now c.args.store.now c.args.readings.now c.args.indicator c.args.place c.requires.0.0 c.requires.0.1 c.requires.0.2 c.requires.1.0 c.requires.1.1 c.set_state.new.1.1.1.0 c.put_readings.new.1.1.0 c.first_at-first.result c.first_at-first.ensures c.set_state.ensures c.put_readings.ensures x c.scaled_difference-difference.ensures.1)
+    sum_fits m x (m +ℤ x) (sfits_of c.struct_told-1.given.1.1.1.1.1.0.1) (sfits_of c.scaled_difference-difference.type_inv) refl
+    (mean_small c.args.job c.args.cells.now c.args.store.now c.args.readings.now c.args.indicator c.args.place c.requires.valid_area.0 c.requires.valid_area.1 c.requires.valid_area.2 c.requires.readings_len.0 c.requires.readings_len.1 c.set_state.new.1.1.1.0 c.put_readings.new.1.1.0 c.first_at-first.result c.first_at-first.ensures c.set_state.ensures c.put_readings.ensures x c.scaled_difference-difference.ensures.small)
 
 pub returns : goal.returns
 returns c =
     let x = c.scaled_difference-difference.result in
     let m = c.args.job.mean in
     let sum =
-    sum_is m x (m +ℤ x) (sfits_of c.struct_told-1.given.1.1.1.1.1.0.1) (sfits_of c.scaled_difference-difference.type-inv) refl
-    (mean_small c.args.job c.args.cells.now c.args.store.now c.args.readings.now c.args.indicator c.args.place c.requires.0.0 c.requires.0.1 c.requires.0.2 c.requires.1.0 c.requires.1.1 c.set_state.new.1.1.1.0 c.put_readings.new.1.1.0 c.first_at-first.result c.first_at-first.ensures c.set_state.ensures c.put_readings.ensures x c.scaled_difference-difference.ensures.1) in
-    let difference = difference_at_lem c.args.job c.args.cells.now c.args.store.now c.args.readings.now c.args.indicator c.args.place c.requires.0.0 c.requires.0.1 c.requires.0.2 c.requires.1.0 c.requires.1.1 c.set_state.new.1.1.1.0 c.put_readings.new.1.1.0 c.first_at-first.result c.first_at-first.ensures c.set_state.ensures c.put_readings.ensures c.levels_at-levels.result x c.levels_at-levels.ensures c.scaled_difference-difference.ensures.0 in
-    area_and_valid c.args.job c.args.cells.now c.args.store.now c.args.readings.now c.args.indicator c.args.place c.requires.0.0 c.requires.0.1 c.requires.0.2 c.requires.1.0 c.requires.1.1 c.set_state.new.1.1.1.0 c.put_readings.new.1.1.0 c.first_at-first.result c.first_at-first.ensures c.set_state.ensures c.put_readings.ensures (to_z w64 (of_z w64 (to_z w64 (of_z w64 m) +ℤ to_z w64 (of_z w64 x)))) (sum ∙ ap (λ d. m +ℤ d) difference)
+    sum_is m x (m +ℤ x) (sfits_of c.struct_told-1.given.1.1.1.1.1.0.1) (sfits_of c.scaled_difference-difference.type_inv) refl
+    (mean_small c.args.job c.args.cells.now c.args.store.now c.args.readings.now c.args.indicator c.args.place c.requires.valid_area.0 c.requires.valid_area.1 c.requires.valid_area.2 c.requires.readings_len.0 c.requires.readings_len.1 c.set_state.new.1.1.1.0 c.put_readings.new.1.1.0 c.first_at-first.result c.first_at-first.ensures c.set_state.ensures c.put_readings.ensures x c.scaled_difference-difference.ensures.small) in
+    let difference = difference_at_lem c.args.job c.args.cells.now c.args.store.now c.args.readings.now c.args.indicator c.args.place c.requires.valid_area.0 c.requires.valid_area.1 c.requires.valid_area.2 c.requires.readings_len.0 c.requires.readings_len.1 c.set_state.new.1.1.1.0 c.put_readings.new.1.1.0 c.first_at-first.result c.first_at-first.ensures c.set_state.ensures c.put_readings.ensures c.levels_at-levels.result x c.levels_at-levels.ensures c.scaled_difference-difference.ensures.is in
+    area_and_valid c.args.job c.args.cells.now c.args.store.now c.args.readings.now c.args.indicator c.args.place c.requires.valid_area.0 c.requires.valid_area.1 c.requires.valid_area.2 c.requires.readings_len.0 c.requires.readings_len.1 c.set_state.new.1.1.1.0 c.put_readings.new.1.1.0 c.first_at-first.result c.first_at-first.ensures c.set_state.ensures c.put_readings.ensures (to_z w64 (of_z w64 (to_z w64 (of_z w64 m) +ℤ to_z w64 (of_z w64 x)))) (sum ∙ ap (λ d. m +ℤ d) difference)

@@ -9,7 +9,7 @@ use Rattle.delivery.proofs.Fronts.{front}
 use Rattle.delivery.proofs.point.Goals as goal
 
 pub point_of-requires : goal.point_of-requires
-point_of-requires c = rw c.levels_at.ensures c.requires.1
+point_of-requires c = rw c.levels_at.ensures c.requires.within
 
 pub returns : goal.returns
 returns c =
@@ -17,5 +17,5 @@ returns c =
     let point = c.point_of.result in
     let hl : length point ≡ 8 = search rules in
     c.put_point.ensures
-    ∙ front c.args.buffer.now point c.args.axes (omega (arith, hl, c.requires.0)) c.requires.0.2
+    ∙ front c.args.buffer.now point c.args.axes (omega (arith, hl, c.requires.place_in_bounds)) c.requires.place_in_bounds.2
     ∙ ap (λ p. take c.args.axes p ++ drop c.args.axes c.args.buffer.now) (c.point_of.ensures ∙ ap (λ k. point_of k c.args.n) levels)

@@ -41,29 +41,29 @@ module _ (d : ℕ) (k : List ℕ) (n size count : ℕ) (buffer : List ℕ) (few 
       ∙ ap (λ ps. written_over (positions_of d ps) buffer) (sym fits)
 
 pub block_size-size-requires : goal.block_size-size-requires
-block_size-size-requires c = rw c.levels_at-index.ensures c.requires.1.0
+block_size-size-requires c = rw c.levels_at-index.ensures c.requires.within.0
 
 pub overflow_sub-size : goal.overflow_sub-size
-overflow_sub-size c =  omega (arith, c.requires.1.1, ap block_size c.levels_at-index.ensures, c.block_size-size.ensures)
+overflow_sub-size c =  omega (arith, c.requires.within.1, ap block_size c.levels_at-index.ensures, c.block_size-size.ensures)
 
 pub put_points-requires : goal.put_points-requires
 put_points-requires c =
     let e = c.levels_at-index.ensures in
     let k = c.levels_at-index.result in
     let l = c.lesser-count in
-    let inside : c.args.n < block_size k = rw e c.requires.1.1 in
+    let inside : c.args.n < block_size k = rw e c.requires.within.1 in
     let few : length k ≡ 8 = search rules in (
-      c.requires.0.2,
-      room c.args.axes k c.args.n c.block_size-size.result l.result c.args.buffer.now (omega (arith, few, c.requires.0.2)) c.block_size-size.ensures l.ensures.0 l.ensures.1 l.ensures.2 inside,
-      rw e c.requires.1.0,
-      there c.args.axes k c.args.n c.block_size-size.result l.result c.args.buffer.now (omega (arith, few, c.requires.0.2)) c.block_size-size.ensures l.ensures.0 l.ensures.1 l.ensures.2 inside,
+      c.requires.place_in_bounds.2,
+      room c.args.axes k c.args.n c.block_size-size.result l.result c.args.buffer.now (omega (arith, few, c.requires.place_in_bounds.2)) c.block_size-size.ensures l.ensures.0 l.ensures.1 l.ensures.2 inside,
+      rw e c.requires.within.0,
+      there c.args.axes k c.args.n c.block_size-size.result l.result c.args.buffer.now (omega (arith, few, c.requires.place_in_bounds.2)) c.block_size-size.ensures l.ensures.0 l.ensures.1 l.ensures.2 inside,
     )
 
 pub overflow_cast-result : goal.overflow_cast-result
 overflow_cast-result c =
     let e = c.levels_at-index.ensures in
     let k = c.levels_at-index.result in
-    let small = size_small k (rw e c.requires.1.0) in
+    let small = size_small k (rw e c.requires.within.0) in
     let is = c.block_size-size.ensures in
     let left = c.lesser-count.ensures.1 in
     Fits-under w32 _ 4097 (omega (arith, small, is, left)) tt
@@ -72,7 +72,7 @@ pub overflow_cast-result-2 : goal.overflow_cast-result-2
 overflow_cast-result-2 c =
     let e = c.levels_at-index.ensures in
     let k = c.levels_at-index.result in
-    let small = size_small k (rw e c.requires.1.0) in
+    let small = size_small k (rw e c.requires.within.0) in
     let is = c.block_size-size.ensures in
     let left = c.lesser-count.ensures.1 in
     Fits-under w32 _ 4097 (omega (arith, small, is, left)) tt
@@ -84,10 +84,10 @@ returns c =
     let z = c.block_size-size in
     let l = c.lesser-count in
     let b = c.args.buffer.now in
-    let inside : c.args.n < block_size k = rw e c.requires.1.1 in
+    let inside : c.args.n < block_size k = rw e c.requires.within.1 in
     let few : length k ≡ 8 = search rules in
-    let one = counted c.args.axes k c.args.n z.result l.result b (omega (arith, few, c.requires.0.2)) z.ensures l.ensures.0 l.ensures.1 l.ensures.2 inside in
-    let all = laid c.args.axes k c.args.n z.result l.result b (omega (arith, few, c.requires.0.2)) z.ensures l.ensures.0 l.ensures.1 l.ensures.2 inside in (
-      (one ∙ ap (λ x. length (points_fitting c.args.axes x c.args.n (length b))) e, z.ensures ∙ ap block_size e),
-      c.put_points.ensures ∙ all ∙ ap (λ x. written_over (positions_of c.args.axes (points_fitting c.args.axes x c.args.n (length b))) b) e,
-    )
+    let one = counted c.args.axes k c.args.n z.result l.result b (omega (arith, few, c.requires.place_in_bounds.2)) z.ensures l.ensures.0 l.ensures.1 l.ensures.2 inside in
+    let all = laid c.args.axes k c.args.n z.result l.result b (omega (arith, few, c.requires.place_in_bounds.2)) z.ensures l.ensures.0 l.ensures.1 l.ensures.2 inside in record {
+      counts = (one ∙ ap (λ x. length (points_fitting c.args.axes x c.args.n (length b))) e, z.ensures ∙ ap block_size e);
+      bytes = c.put_points.ensures ∙ all ∙ ap (λ x. written_over (positions_of c.args.axes (points_fitting c.args.axes x c.args.n (length b))) b) e;
+    }

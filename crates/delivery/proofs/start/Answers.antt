@@ -7,4 +7,7 @@ use Rattle.delivery.proofs.start.Goals as goal
 
 pub returns : goal.returns
 unfolding none root root_record admitted_record
-returns c = (refl, c.store.ensures)
+returns c = record {
+      job = refl;
+      run = c.store.ensures;
+    }

@@ -14,5 +14,5 @@ scaled_difference-requires c =
 
 pub returns : goal.returns
 returns c =
-    back c.scaled_difference.result (sfits_of c.scaled_difference.type-inv) ∙ c.scaled_difference.ensures.0
+    back c.scaled_difference.result (sfits_of c.scaled_difference.type_inv) ∙ c.scaled_difference.ensures.is
     ∙ ap (λ k. scaled_difference k (stored_reading (records_of c.args.cells.now) c.args.store.now)) c.levels_at.ensures

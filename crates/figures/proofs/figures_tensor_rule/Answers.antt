@@ -14,5 +14,5 @@ tensor_rule-requires c =
 
 pub returns : goal.returns
 returns c =
-    back c.tensor_rule.result (sfits_of c.tensor_rule.type-inv) ∙ c.tensor_rule.ensures.0
+    back c.tensor_rule.result (sfits_of c.tensor_rule.type_inv) ∙ c.tensor_rule.ensures.is
     ∙ ap (λ k. tensor_rule k (stored_reading (records_of c.args.cells.now) c.args.store.now)) c.levels_at.ensures

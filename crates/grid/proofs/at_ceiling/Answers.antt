@@ -9,6 +9,7 @@ use lib.ListN.{length}
 use Rattle.grid.specs.Index.{at_ceiling}
 use Rattle.grid.proofs.Ceilings.{full_excess, full_level, not_full, ceiling_more, ceiling_kept, ceiling_back}
 use Rattle.grid.proofs.at_ceiling.Goals as goal
+use Rattle.grid.proofs.at_ceiling.Goals.{then-levels-axis-ge8, else-levels-axis-ge8}
 
 pub excess_of-requires : goal.excess_of-requires
 excess_of-requires c = c.requires
@@ -38,9 +39,10 @@ pub loop-axis-preserved : goal.loop-axis-preserved
 loop-axis-preserved c =
     let k = c.args.levels in
     let l = c.loop-axis in
-    ⊎_elim (λ w. (omega arith, l.invariant.1, l.invariant.2, w.1 ∙ sym (ceiling_more k l.axis (full_level k l.invariant.1 c.requires l.axis (omega arith) w.0.taken))))
-    (λ w. (omega arith, l.invariant.1, l.invariant.2, w.1 ∙ l.invariant.3 ∙ sym (ceiling_kept k l.axis (not_full k l.invariant.1 c.requires l.axis (omega arith) l.invariant.2 w.0.left))))
-    c.if-levels-axis-ge8.branch
+    elim c.if-levels-axis-ge8.branch [
+      then-levels-axis-ge8 w ↦ (omega arith, l.invariant.1, l.invariant.2, w.highest-is ∙ sym (ceiling_more k l.axis (full_level k l.invariant.1 c.requires l.axis (omega arith) w.if-levels-axis-ge8.true)))
+    | else-levels-axis-ge8 w ↦ (omega arith, l.invariant.1, l.invariant.2, w.highest-is ∙ l.invariant.3 ∙ sym (ceiling_kept k l.axis (not_full k l.invariant.1 c.requires l.axis (omega arith) l.invariant.2 w.if-levels-axis-ge8.false)))
+    ]
 
 pub returns : goal.returns
 returns c =

@@ -9,6 +9,7 @@ use lib.ListN.{length}
 use Rattle.grid.specs.Index.{capped_axes}
 use Rattle.grid.proofs.Ceilings.{capped_more, capped_same, full_level, not_full, capped_all}
 use Rattle.grid.proofs.capped_axes.Goals as goal
+use Rattle.grid.proofs.capped_axes.Goals.{then-levels-axis-ge8, else-levels-axis-ge8}
 
 pub excess_of-requires : goal.excess_of-requires
 excess_of-requires c = c.requires.1
@@ -43,10 +44,10 @@ pub loop-axis-preserved : goal.loop-axis-preserved
 loop-axis-preserved c =
     let k = c.args.levels in
     let l = c.loop-axis in
-    ⊎_elim
-    (λ w. (omega arith, omega (arith, w.1), l.invariant.2, l.invariant.3, omega (arith, w.1, l.invariant.4, capped_more k l.axis (full_level k l.invariant.2 c.requires.1 l.axis (omega (arith, c.requires.0)) w.0.taken))))
-    (λ w. (omega arith, omega (arith, w.1), l.invariant.2, l.invariant.3, omega (arith, w.1, l.invariant.4, capped_same k l.axis (not_full k l.invariant.2 c.requires.1 l.axis (omega (arith, c.requires.0)) l.invariant.3 w.0.left))))
-    c.if-levels-axis-ge8.branch
+    elim c.if-levels-axis-ge8.branch [
+      then-levels-axis-ge8 w ↦ (omega arith, omega (arith, w.count-is), l.invariant.2, l.invariant.3, omega (arith, w.count-is, l.invariant.4, capped_more k l.axis (full_level k l.invariant.2 c.requires.1 l.axis (omega (arith, c.requires.0)) w.if-levels-axis-ge8.true)))
+    | else-levels-axis-ge8 w ↦ (omega arith, omega (arith, w.count-is), l.invariant.2, l.invariant.3, omega (arith, w.count-is, l.invariant.4, capped_same k l.axis (not_full k l.invariant.2 c.requires.1 l.axis (omega (arith, c.requires.0)) l.invariant.3 w.if-levels-axis-ge8.false)))
+    ]
 
 pub returns : goal.returns
 returns c =

@@ -9,6 +9,7 @@ use lib.IntN.{pos}
 use Rattle.grid.specs.Coefficient.{sign, marks}
 use Rattle.grid.proofs.LoopSteps.{turned, sign_start, sign_in, sign_out, sign-done}
 use Rattle.grid.proofs.subset_sign.Goals as goal
+use Rattle.grid.proofs.subset_sign.Goals.{then-mask-axis-eq1, else-mask-axis-eq1}
 
 pub loop-axis-init : goal.loop-axis-init
 loop-axis-init c = (omega arith, sign_start c.args.mask)
@@ -28,8 +29,10 @@ loop-axis-preserved c =
     let l = c.loop-axis in
     let rest = sign (marks (8 - (l.axis + 1)) (m / 2 ^ (l.axis + 1))) in (
       omega arith,
-      ⊎_elim (λ w. l.invariant.1 ∙ sign_in m l.axis l.odd (omega arith) w.0.taken ∙ ap (λ t. turned t rest) (sym w.1))
-          (λ w. l.invariant.1 ∙ sign_out m l.axis l.odd (omega arith) w.0.left ∙ ap (λ t. turned t rest) (sym w.1)) c.if-mask-axis-eq1.branch,
+      elim c.if-mask-axis-eq1.branch [
+        then-mask-axis-eq1 w ↦ l.invariant.1 ∙ sign_in m l.axis l.odd (omega arith) w.if-mask-axis-eq1.true ∙ ap (λ t. turned t rest) (sym w.odd-is)
+        | else-mask-axis-eq1 w ↦ l.invariant.1 ∙ sign_out m l.axis l.odd (omega arith) w.if-mask-axis-eq1.false ∙ ap (λ t. turned t rest) (sym w.odd-is)
+      ],
     )
 
 -- the whole sign, once every axis is passed

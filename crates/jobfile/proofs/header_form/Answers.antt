@@ -7,15 +7,15 @@ use Rattle.jobfile.proofs.header_form.Goals as goal
 
 pub returns-then-size-lt20 : goal.returns-then-size-lt20
 unfolding form_in
-returns-then-size-lt20 c =  sym (header_cut c.args.bytes.now formed c.if-size-lt20.true)
+returns-then-size-lt20 c = sym (header_cut c.args.bytes.now formed c.if-size-lt20.true)
 
 pub returns-then-four_at-gt512 : goal.returns-then-four_at-gt512
 unfolding form_in
-returns-then-four_at-gt512 c =  sym (header_many c.args.bytes.now formed (omega arith) (omega arith))
+returns-then-four_at-gt512 c = sym (header_many c.args.bytes.now formed (omega arith) (omega arith))
 
 pub returns-then-size-lt24 : goal.returns-then-size-lt24
 unfolding form_in
-returns-then-size-lt24 c =  sym (header-short c.args.bytes.now formed (omega arith) (omega arith) c.if-size-lt24.true)
+returns-then-size-lt24 c = sym (header-short c.args.bytes.now formed (omega arith) (omega arith) c.if-size-lt24.true)
 
 pub returns-then-four_at-ne24 : goal.returns-then-four_at-ne24
 unfolding form_in

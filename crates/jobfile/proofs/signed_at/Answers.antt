@@ -14,13 +14,13 @@ unfolding signed_four
 as_signed c i e = ap (to_z w32) e
 
 pub overflow_sub-result : goal.overflow_sub-result
-overflow_sub-result c = negative_fits c.four_at-bits.result c.if-bits-lt2147483648.false (record { fits = c.four_at-bits.type-inv })
+overflow_sub-result c = negative_fits c.four_at-bits.result c.if-bits-lt2147483648.false (record { fits = c.four_at-bits.type_inv })
 
 pub returns-then-bits-lt2147483648 : goal.returns-then-bits-lt2147483648
-returns-then-bits-lt2147483648 c =  as_signed c.args.bytes.now c.args.from c.four_at-bits.ensures
+returns-then-bits-lt2147483648 c = as_signed c.args.bytes.now c.args.from c.four_at-bits.ensures
 
 pub returns-else-bits-lt2147483648 : goal.returns-else-bits-lt2147483648
 returns-else-bits-lt2147483648 c =
     let r = c.four_at-bits in
-    let f : Fits w32 r.result = record { fits = r.type-inv } in
+    let f : Fits w32 r.result = record { fits = r.type_inv } in
     to_z-of_z (negative_fits r.result c.if-bits-lt2147483648.false f) ∙ negative r.result c.if-bits-lt2147483648.false f ∙ as_signed c.args.bytes.now c.args.from r.ensures

@@ -16,29 +16,23 @@ entry_form-answer-requires c = (c.requires.0, omega arith, omega arith, omega ar
 
 pub returns-in_default : goal.returns-in_default
 unfolding table_in
-returns-in_default c =
+returns-in_default c next =
     let l = c.loop-i in
     let bytes = c.args.bytes.now in
     let n = c.args.entries in
-    let e = c.enum_told-1.given.1 in
+    let e = c.in_default.is in
     ap (λ r. table_in r next) e
     ∙ with_byte (table_form bytes 1 l.i l.before) c.entry_form-answer.ensures e (λ total. table_form bytes (n - (l.i + 1)) (l.i + 1) total next)
     ∙ sym (one_more bytes n l.i l.before next (omega arith))
     ∙ sym (l.invariant.3 next)
-
-pub overflow_add-i : goal.overflow_add-i
-overflow_add-i c = omega arith
-
-pub loop-i-smaller : goal.loop-i-smaller
-loop-i-smaller c = omega arith
 
 pub loop-i-preserved : goal.loop-i-preserved
 loop-i-preserved c =
     let l = c.loop-i in
     let bytes = c.args.bytes.now in
     let n = c.args.entries in
-    let goes = with_total (table_form bytes 1 l.i l.before) c.entry_form-answer.ensures c.answer-1.given.1 in
-    let a = answered bytes 1 l.i (l.i + 1) l.before c.answer-1.given.0.0 refl l.invariant.2 l.invariant.1 goes in (
+    let goes = with_total (table_form bytes 1 l.i l.before) c.entry_form-answer.ensures c.in-Formed.is in
+    let a = answered bytes 1 l.i (l.i + 1) l.before c.in-Formed.total refl l.invariant.2 l.invariant.1 goes in (
       omega arith,
       a.small,
       a.is,
@@ -50,6 +44,6 @@ loop-i-preserved c =
 
 pub returns : goal.returns
 unfolding table_in
-returns c =
+returns c next =
     let l = c.loop-i in
     sym (l.invariant.3 next ∙ none_left c.args.bytes.now c.args.entries l.i l.before next (omega arith))

@@ -34,17 +34,17 @@ raisable cells held refined levels room h e s a l =
     subst (λ k. level k a ≤ 8) (sym (held_levels cells held refined levels room h e)) (s.low refined a (omega (arith, held_length cells held room)) l)
 
 pub levels_at-levels-requires : goal.levels_at-levels-requires
-levels_at-levels-requires c = omega (arith, c.requires.0.1, c.requires.0.2)
+levels_at-levels-requires c = omega (arith, c.requires.axes_bound.1, c.requires.axes_bound.2)
 
 pub axes-init : goal.axes-init
 axes-init c = (omega arith, so_far_start (admits c.args.axes (refined_entries c.args.cells.now c.args.held c.args.refined) c.levels_at-levels.result))
 
 pub forward_neighbour-neighbour-requires : goal.forward_neighbour-neighbour-requires
 forward_neighbour-neighbour-requires c =
-    (omega (arith, c.requires.0.0), raisable c.args.cells.now c.args.held c.args.refined c.levels_at-levels.result c.requires.0.1 c.requires.0.2 c.levels_at-levels.ensures c.requires.0.3 c.axes.axis (omega (arith, c.requires.0.0)))
+    (omega (arith, c.requires.axes_bound.0), raisable c.args.cells.now c.args.held c.args.refined c.levels_at-levels.result c.requires.axes_bound.1 c.requires.axes_bound.2 c.levels_at-levels.ensures c.requires.axes_bound.3 c.axes.axis (omega (arith, c.requires.axes_bound.0)))
 
 pub overflow_step-axis : goal.overflow_step-axis
-overflow_step-axis c = omega (arith, c.requires.0.0)
+overflow_step-axis c = omega (arith, c.requires.axes_bound.0)
 
 pub axes-smaller-then-not-within_ceilings : goal.axes-smaller-then-not-within_ceilings
 axes-smaller-then-not-within_ceilings c = omega arith
@@ -55,7 +55,7 @@ axes-preserved-then-not-within_ceilings c =
     let es = refined_entries c.args.cells.now c.args.held c.args.refined in
     let k = c.levels_at-levels.result in
     let past = ap within (sym c.forward_neighbour-neighbour.ensures) ∙ (sym c.within_ceilings.ensures ∙ not-true c.within_ceilings.result c.if-not-within_ceilings.true) in
-    (omega arith, so_far_skip (admits c.args.axes es k) l.axis l.marks (omega (arith, c.requires.0.0)) l.invariant.1 (past_ceiling c.args.axes es k l.axis past))
+    (omega arith, so_far_skip (admits c.args.axes es k) l.axis l.marks (omega (arith, c.requires.axes_bound.0)) l.invariant.1 (past_ceiling c.args.axes es k l.axis past))
 
 pub loop-other-init : goal.loop-other-init
 loop-other-init c =
@@ -63,19 +63,22 @@ loop-other-init c =
     (omega arith, refl, search rules, ap (λ n. all_from n 0 (backward_old es c.forward_neighbour-neighbour.result)) (omega arith))
 
 pub offset_bounds-neighbour-other : goal.offset_bounds-neighbour-other
-offset_bounds-neighbour-other c = omega (arith, c.requires.0.0)
+offset_bounds-neighbour-other c = omega (arith, c.requires.axes_bound.0)
 
 pub bounds-neighbour-other : goal.bounds-neighbour-other
-bounds-neighbour-other c = omega (arith, c.requires.0.0)
+bounds-neighbour-other c = omega (arith, c.requires.axes_bound.0)
 
 pub backward_neighbour-requires : goal.backward_neighbour-requires
-backward_neighbour-requires c = (omega (arith, c.requires.0.0), c.if-neighbour-other-gt1.true)
+backward_neighbour-requires c = (omega (arith, c.requires.axes_bound.0), c.if-neighbour-other-gt1.true)
 
 pub is_old-requires : goal.is_old-requires
-is_old-requires c =  ((c.requires.0.1, c.requires.0.2, c.requires.0.3), c.requires.1)
+is_old-requires c =  record {
+      held_in_bounds = (c.requires.axes_bound.1, c.requires.axes_bound.2, c.requires.axes_bound.3);
+      packed_if = c.requires.packed_if;
+    }
 
 pub overflow_step-axis-then-not-is_old : goal.overflow_step-axis-then-not-is_old
-overflow_step-axis-then-not-is_old c = omega (arith, c.loop-other.invariant.1, c.requires.0.0)
+overflow_step-axis-then-not-is_old c = omega (arith, c.loop-other.invariant.1, c.requires.axes_bound.0)
 
 pub axes-smaller-then-not-is_old : goal.axes-smaller-then-not-is_old
 axes-smaller-then-not-is_old c = omega (arith, c.loop-other.invariant.1)
@@ -94,10 +97,10 @@ axes-preserved-then-not-is_old c =
     ∙ not-true c.is_old.result c.if-not-is_old.true in
     let all = i.invariant.3 ∙ all_stop (backward_old es neighbour) c.args.axes i.other (omega arith) one in
     let no = by_neighbours c.args.axes es k l.axis inside ∙ ap (λ x. all_from c.args.axes 0 (backward_old es x)) (sym c.forward_neighbour-neighbour.ensures) ∙ all in
-    (omega (arith, i.invariant.1), subst (λ n. SoFar f (n + 1) l.marks) (sym i.invariant.1) (so_far_skip f l.axis l.marks (omega (arith, c.requires.0.0)) l.invariant.1 no))
+    (omega (arith, i.invariant.1), subst (λ n. SoFar f (n + 1) l.marks) (sym i.invariant.1) (so_far_skip f l.axis l.marks (omega (arith, c.requires.axes_bound.0)) l.invariant.1 no))
 
 pub overflow_step-other : goal.overflow_step-other
-overflow_step-other c = omega (arith, c.requires.0.0)
+overflow_step-other c = omega (arith, c.requires.axes_bound.0)
 
 pub loop-other-smaller : goal.loop-other-smaller
 loop-other-smaller c = omega arith
@@ -125,13 +128,13 @@ loop-other-preserved c =
     c.if-neighbour-other-gt1.branch
 
 pub offset_bounds-marks-axis : goal.offset_bounds-marks-axis
-offset_bounds-marks-axis c = omega (arith, c.loop-other.invariant.1, c.requires.0.0)
+offset_bounds-marks-axis c = omega (arith, c.loop-other.invariant.1, c.requires.axes_bound.0)
 
 pub bounds-marks-axis : goal.bounds-marks-axis
-bounds-marks-axis c = omega (arith, c.loop-other.invariant.1, c.requires.0.0)
+bounds-marks-axis c = omega (arith, c.loop-other.invariant.1, c.requires.axes_bound.0)
 
 pub overflow_step-axis-in-axes : goal.overflow_step-axis-in-axes
-overflow_step-axis-in-axes c = omega (arith, c.loop-other.invariant.1, c.requires.0.0)
+overflow_step-axis-in-axes c = omega (arith, c.loop-other.invariant.1, c.requires.axes_bound.0)
 
 pub axes-smaller : goal.axes-smaller
 axes-smaller c = omega (arith, c.loop-other.invariant.1)
@@ -147,7 +150,7 @@ axes-preserved c =
     let inside = ap within (sym c.forward_neighbour-neighbour.ensures) ∙ (sym c.within_ceilings.ensures ∙ not-false c.within_ceilings.result c.if-not-within_ceilings.false) in
     let all = i.invariant.3 ∙ all_end (backward_old es neighbour) c.args.axes i.other (omega arith) in
     let yes = by_neighbours c.args.axes es k l.axis inside ∙ ap (λ x. all_from c.args.axes 0 (backward_old es x)) (sym c.forward_neighbour-neighbour.ensures) ∙ all in
-    (omega (arith, i.invariant.1), subst (λ n. SoFar f (n + 1) (set l.marks n 1)) (sym i.invariant.1) (so_far_put f l.axis l.marks (omega (arith, c.requires.0.0)) l.invariant.1 yes))
+    (omega (arith, i.invariant.1), subst (λ n. SoFar f (n + 1) (set l.marks n 1)) (sym i.invariant.1) (so_far_put f l.axis l.marks (omega (arith, c.requires.axes_bound.0)) l.invariant.1 yes))
 
 pub returns : goal.returns
 returns c =
@@ -155,5 +158,5 @@ returns c =
     let es = refined_entries c.args.cells.now c.args.held c.args.refined in
     let k = c.levels_at-levels.result in
     let done : l.axis ≡ c.args.axes = omega arith in
-    so_far_end (admits c.args.axes es k) c.args.axes l.marks c.requires.0.0 (subst (λ n. SoFar (admits c.args.axes es k) n l.marks) done l.invariant.1)
-    ∙ ap (λ x. marks_of c.args.axes (admits c.args.axes es x)) (held_levels c.args.cells.now c.args.held c.args.refined k c.requires.0.1 c.requires.0.2 c.levels_at-levels.ensures)
+    so_far_end (admits c.args.axes es k) c.args.axes l.marks c.requires.axes_bound.0 (subst (λ n. SoFar (admits c.args.axes es k) n l.marks) done l.invariant.1)
+    ∙ ap (λ x. marks_of c.args.axes (admits c.args.axes es x)) (held_levels c.args.cells.now c.args.held c.args.refined k c.requires.axes_bound.1 c.requires.axes_bound.2 c.levels_at-levels.ensures)

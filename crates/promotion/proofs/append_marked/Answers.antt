@@ -54,7 +54,7 @@ loop-axis-init c =
       omega (arith, ap (readings_along c.args.settings c.args.levels) e),
       refl,
       ap (appended_all c.args.settings (records_of c.args.cells.now) c.args.held c.args.first c.args.levels) (sym e),
-      c.requires.1.1,
+      c.requires.marks_in_bounds.1,
     )
 
 pub offset_bounds-marks-axis : goal.offset_bounds-marks-axis
@@ -64,19 +64,22 @@ pub bounds-marks-axis : goal.bounds-marks-axis
 bounds-marks-axis c = omega arith
 
 pub forward_neighbour-neighbour-requires : goal.forward_neighbour-neighbour-requires
-forward_neighbour-neighbour-requires c = (omega arith, c.requires.0.2 c.loop-axis.axis (omega arith))
+forward_neighbour-neighbour-requires c = (omega arith, c.requires.axes_bound.2 c.loop-axis.axis (omega arith))
 
 pub reading_count-readings-requires : goal.reading_count-readings-requires
-reading_count-readings-requires c = subst Within (sym c.forward_neighbour-neighbour.ensures) (c.requires.0.1 c.loop-axis.axis (omega arith) c.if-marks-axis-eq1.true)
+reading_count-readings-requires c = subst Within (sym c.forward_neighbour-neighbour.ensures) (c.requires.axes_bound.1 c.loop-axis.axis (omega arith) c.if-marks-axis-eq1.true)
 
 pub append-requires : goal.append-requires
 append-requires c =
     let l = c.loop-axis in
     let e = passing_on c.args.levels c.args.axes l.axis (omega arith) c.if-marks-axis-eq1.true in
-    ((omega (arith, l.invariant.2, l.invariant.3, ap length e, c.requires.1.0.0), omega (arith, l.invariant.3, ap length e, c.requires.1.0.1), omega (arith, l.invariant.4, c.requires.1.0.2)), l.invariant.7)
+    record {
+      held_in_bounds = (omega (arith, l.invariant.2, l.invariant.3, ap length e, c.requires.marks_in_bounds.0.0), omega (arith, l.invariant.3, ap length e, c.requires.marks_in_bounds.0.1), omega (arith, l.invariant.4, c.requires.marks_in_bounds.0.2));
+      packed_if = l.invariant.7;
+    }
 
 pub overflow_add-count : goal.overflow_add-count
-overflow_add-count c = omega (arith, c.loop-axis.invariant.3, c.requires.1.0.1)
+overflow_add-count c = omega (arith, c.loop-axis.invariant.3, c.requires.marks_in_bounds.0.1)
 
 pub overflow_add-next : goal.overflow_add-next
 overflow_add-next c =
@@ -85,7 +88,7 @@ overflow_add-next c =
     let e = passing_on c.args.levels c.args.axes l.axis (omega arith) c.if-marks-axis-eq1.true in
     let left = passing (c.args.axes - (l.axis + 1)) (l.axis + 1) (marked c.args.levels) in
     let readings = c.reading_count-readings.ensures ∙ ap (reading_count c.args.settings) c.forward_neighbour-neighbour.ensures in
-    omega (arith, l.invariant.4, c.requires.1.0.2, ap (readings_along c.args.settings k) e ∙ on c.args.settings k l.axis left, readings)
+    omega (arith, l.invariant.4, c.requires.marks_in_bounds.0.2, ap (readings_along c.args.settings k) e ∙ on c.args.settings k l.axis left, readings)
 
 pub overflow_add-axis : goal.overflow_add-axis
 overflow_add-axis c = omega arith
@@ -115,7 +118,7 @@ loop-axis-preserved c =
           ∙ ap (λ x. appended_all c.args.settings x c.if-marks-axis-eq1.count c.if-marks-axis-eq1.next k left) (ap (λ (u : Run). u.records) run)
           ∙ ap (λ n. appended_all c.args.settings (appended (records_of l.cells) l.count l.next (forward k l.axis)) n c.if-marks-axis-eq1.next k left) w.10
           ∙ ap (λ f. appended_all c.args.settings (appended (records_of l.cells) l.count l.next (forward k l.axis)) (l.count + 1) f k left) (w.11 ∙ ap (λ x. l.next + x) size)),
-      λ t. moved w.9 w.8 w.10 (w.5.ensures.1 (within-fits (subst Within (sym w.1.ensures) (c.requires.0.1 l.axis (omega arith) w.0.taken))) t),
+      λ t. moved w.9 w.8 w.10 (w.5.ensures.1 (within-fits (subst Within (sym w.1.ensures) (c.requires.axes_bound.1 l.axis (omega arith) w.0.taken))) t),
     ))
     (λ w.
     let e = passing_off c.args.levels c.args.axes l.axis (omega arith) w.0.left in (
@@ -143,4 +146,7 @@ returns c =
     let e = passing_end c.args.levels c.args.axes l.axis (omega arith) in
     let all : l.count ≡ c.args.held + length (marked_axes c.args.axes c.args.levels) = omega (arith, l.invariant.3, ap length e) in
     let done = l.invariant.6 ∙ ap (appended_all c.args.settings (records_of l.cells) l.count l.next c.args.levels) e ∙ all_off c.args.settings (records_of l.cells) l.count l.next c.args.levels in
-    ((λ i. record { records = sym done i; rest = l.invariant.5 i }), λ t. moved refl refl (sym all) (l.invariant.7 t))
+    record {
+      cells_after = (λ i. record { records = sym done i; rest = l.invariant.5 i });
+      words = λ t. moved refl refl (sym all) (l.invariant.7 t);
+    }

@@ -8,17 +8,17 @@ use Rattle.promotion.proofs.is_old.Goals as goal
 
 pub state_at-requires : goal.state_at-requires
 state_at-requires c =
-    omega (arith, place_held c.args.cells.now c.args.held c.args.refined c.args.levels c.requires.0.0 c.requires.0.1 c.requires.0.2 c.place-1.given.0.0 (sym c.lookup_packed.ensures ∙ c.place-1.given.1), c.requires.0.0)
+    omega (arith, place_held c.args.cells.now c.args.held c.args.refined c.args.levels c.requires.held_in_bounds.0 c.requires.held_in_bounds.1 c.requires.held_in_bounds.2 c.place-1.given.0.0 (sym c.lookup_packed.ensures ∙ c.place-1.given.1), c.requires.held_in_bounds.0)
 
 pub returns-then-place-refined : goal.returns-then-place-refined
 returns-then-place-refined c =
-    refined_old c.args.cells.now c.args.held c.args.refined c.args.levels c.requires.0.0 c.requires.0.1 c.requires.0.2 c.place-1.given.0.0 (sym c.lookup_packed.ensures ∙ c.place-1.given.1) c.if-place-refined.true
+    refined_old c.args.cells.now c.args.held c.args.refined c.args.levels c.requires.held_in_bounds.0 c.requires.held_in_bounds.1 c.requires.held_in_bounds.2 c.place-1.given.0.0 (sym c.lookup_packed.ensures ∙ c.place-1.given.1) c.if-place-refined.true
 
 pub returns-else-place-refined : goal.returns-else-place-refined
 returns-else-place-refined c =
     ap (λ x. eqb x 2) c.state_at.ensures
-    ∙ other_old c.args.cells.now c.args.held c.args.refined c.args.levels c.requires.0.0 c.requires.0.1 c.requires.0.2 c.place-1.given.0.0 (sym c.lookup_packed.ensures ∙ c.place-1.given.1) c.if-place-refined.false
+    ∙ other_old c.args.cells.now c.args.held c.args.refined c.args.levels c.requires.held_in_bounds.0 c.requires.held_in_bounds.1 c.requires.held_in_bounds.2 c.place-1.given.0.0 (sym c.lookup_packed.ensures ∙ c.place-1.given.1) c.if-place-refined.false
 
 pub returns-in-NotFound : goal.returns-in-NotFound
 returns-in-NotFound c =
-    not_old c.args.cells.now c.args.held c.args.refined c.args.levels c.requires.0.0 c.requires.0.1 c.requires.0.2 (sym c.lookup_packed.ensures ∙ c.enum_told-1.given.1)
+    not_old c.args.cells.now c.args.held c.args.refined c.args.levels c.requires.held_in_bounds.0 c.requires.held_in_bounds.1 c.requires.held_in_bounds.2 (sym c.lookup_packed.ensures ∙ c.enum_told-1.given.1)

@@ -37,8 +37,8 @@ pub overflow_add-sum : goal.overflow_add-sum
 overflow_add-sum c =
     let l = c.loop-mask in
     let rs = held_in c.args.cells.now c.args.held in
-    running_fits 1 (term c.args.cells.now c.args.held c.args.place) l.mask (to_z w64 l.sum) c.subset_term-sum.result
-    (omega (arith, l.invariant.0, all c.args.axes c.requires.0.axes)) l.invariant.2 l.invariant.3 (term_size rs (record_at rs c.args.place).levels l.mask) (sfits_of c.subset_term-sum.type-inv) c.subset_term-sum.ensures
+    running_fits 1 (term c.args.cells.now c.args.held c.args.place) l.mask (to_z w64 l.sum-bits) c.subset_term-sum.result
+    (omega (arith, l.invariant.0, all c.args.axes c.requires.0.axes)) l.invariant.2 l.invariant.3 (term_size rs (record_at rs c.args.place).levels l.mask) (sfits_of c.subset_term-sum.type_inv) c.subset_term-sum.ensures
 
 pub overflow_add-mask : goal.overflow_add-mask
 overflow_add-mask c = omega (arith, c.loop-mask.invariant.1, all c.args.axes c.requires.0.axes)
@@ -55,8 +55,8 @@ loop-mask-preserved c =
     let unit = term_size rs (record_at rs c.args.place).levels l.mask in (
       l.invariant.0,
       omega (arith, l.invariant.0),
-      running_size 1 f l.mask (to_z w64 l.sum) c.subset_term-sum.result few l.invariant.2 l.invariant.3 unit (sfits_of c.subset_term-sum.type-inv) c.subset_term-sum.ensures,
-      running_is 1 f l.mask (to_z w64 l.sum) c.subset_term-sum.result few l.invariant.2 l.invariant.3 unit (sfits_of c.subset_term-sum.type-inv) c.subset_term-sum.ensures,
+      running_size 1 f l.mask (to_z w64 l.sum-bits) c.subset_term-sum.result few l.invariant.2 l.invariant.3 unit (sfits_of c.subset_term-sum.type_inv) c.subset_term-sum.ensures,
+      running_is 1 f l.mask (to_z w64 l.sum-bits) c.subset_term-sum.result few l.invariant.2 l.invariant.3 unit (sfits_of c.subset_term-sum.type_inv) c.subset_term-sum.ensures,
     )
 
 pub returns : goal.returns
@@ -64,7 +64,7 @@ returns c =
     let l = c.loop-mask in
     let cells = c.args.cells.now in
     let inside : c.args.place < length (held_in cells c.args.held) = omega (arith, held_length cells c.args.held c.requires.1) in
-    let done : l.mask ≡ 2 ^ c.args.axes = omega (arith, l.invariant.0) in (
-      l.invariant.3 ∙ ap (λ n. sum_to n (term cells c.args.held c.args.place)) done ∙ sym (coefficient_masks c.requires.0 c.args.place inside),
-      omega (arith, l.invariant.2, all c.args.axes c.requires.0.axes),
-    )
+    let done : l.mask ≡ 2 ^ c.args.axes = omega (arith, l.invariant.0) in record {
+      is = l.invariant.3 ∙ ap (λ n. sum_to n (term cells c.args.held c.args.place)) done ∙ sym (coefficient_masks c.requires.0 c.args.place inside);
+      small = omega (arith, l.invariant.2, all c.args.axes c.requires.0.axes);
+    }

@@ -17,7 +17,7 @@ term cells held place = subset_term (held_in cells held) (record_at (held_in cel
 
 abbrev pub invariant-loop-mask : goal.invariant-loop-mask
 invariant-loop-mask l =
-    (l.subsets ≡ 2 ^ l.axes) × (l.mask ≤ 2 ^ l.axes) × (nat_abs (to_z w64 l.sum) ≤ l.mask * 1) × (to_z w64 l.sum ≡ sum_to l.mask (term l.cells l.held l.place))
+    (l.subsets ≡ 2 ^ l.axes) × (l.mask ≤ 2 ^ l.axes) × (nat_abs (l.sum) ≤ l.mask * 1) × (l.sum ≡ sum_to l.mask (term l.cells l.held l.place))
 
 abbrev pub decreases-loop-mask : goal.decreases-loop-mask
 decreases-loop-mask l = 2 ^ l.axes - l.mask

@@ -22,17 +22,16 @@ loop-place-init c = (omega arith, omega arith, unfold sum_to in refl)
 
 pub combined_rule-total-requires : goal.combined_rule-total-requires
 combined_rule-total-requires c =
-    ((c.requires.1, omega (arith, c.requires.0.room, length-records_of c.args.cells.now), omega arith), c.requires.0.ready c.loop-place.place (omega arith))
-
-term_small : (c : tie.After-combined-rule invariant-loop decreases-loop)
-    → nat_abs (term c.before.before.before.before.args.cells.now c.before.before.before.before.args.held c.before.before.before.before.args.store.now c.before.before.loop.place) ≤ 2 ^ 48
-term_small c = omega (arith, ap nat_abs c.combined-rule.ensures.0, c.combined-rule.ensures.1)
+    record {
+      linked = (c.requires.1, omega (arith, c.requires.0.room, length-records_of c.args.cells.now), omega arith);
+      ready = c.requires.0.ready c.loop-place.place (omega arith);
+    }
 
 pub overflow_add-total : goal.overflow_add-total
 overflow_add-total c =
     let l = c.loop-place in
-    running_fits (2 ^ 48) (term c.args.cells.now c.args.held c.args.store.now) l.place (to_z w64 l.total) c.combined_rule-total.result
-    (omega (arith, c.requires.0.few)) l.invariant.1 l.invariant.2 (term_small c) (sfits_of c.combined_rule-total.type-inv) c.combined_rule-total.ensures.0
+    running_fits (2 ^ 48) (term c.args.cells.now c.args.held c.args.store.now) l.place (to_z w64 l.total-bits) c.combined_rule-total.result
+    (omega (arith, c.requires.0.few)) l.invariant.1 l.invariant.2 (omega (arith, ap nat_abs c.combined_rule-total.ensures.is, c.combined_rule-total.ensures.small)) (sfits_of c.combined_rule-total.type_inv) c.combined_rule-total.ensures.is
 
 pub overflow_add-place : goal.overflow_add-place
 overflow_add-place c = omega (arith, c.requires.0.few)
@@ -46,8 +45,8 @@ loop-place-preserved c =
     let f = term c.args.cells.now c.args.held c.args.store.now in
     let few : (l.place + 1) * 2 ^ 48 ≤ 2 ^ 62 = omega (arith, c.requires.0.few) in (
       omega arith,
-      running_size (2 ^ 48) f l.place (to_z w64 l.total) c.combined_rule-total.result few l.invariant.1 l.invariant.2 (term_small c) (sfits_of c.combined_rule-total.type-inv) c.combined_rule-total.ensures.0,
-      running_is (2 ^ 48) f l.place (to_z w64 l.total) c.combined_rule-total.result few l.invariant.1 l.invariant.2 (term_small c) (sfits_of c.combined_rule-total.type-inv) c.combined_rule-total.ensures.0,
+      running_size (2 ^ 48) f l.place (to_z w64 l.total-bits) c.combined_rule-total.result few l.invariant.1 l.invariant.2 (omega (arith, ap nat_abs c.combined_rule-total.ensures.is, c.combined_rule-total.ensures.small)) (sfits_of c.combined_rule-total.type_inv) c.combined_rule-total.ensures.is,
+      running_is (2 ^ 48) f l.place (to_z w64 l.total-bits) c.combined_rule-total.result few l.invariant.1 l.invariant.2 (omega (arith, ap nat_abs c.combined_rule-total.ensures.is, c.combined_rule-total.ensures.small)) (sfits_of c.combined_rule-total.type_inv) c.combined_rule-total.ensures.is,
     )
 
 pub returns : goal.returns
@@ -58,4 +57,7 @@ returns c =
     let rs = records_of cells in
     let done : l.place ≡ c.args.held = omega arith in
     let e = l.invariant.2 ∙ ap (λ n. sum_to n (term cells c.args.held c.args.store.now)) done ∙ sym (cross_places c.args.held rs c.args.store.now c.requires.0.room) in
-    (e, subst (λ x. nat_abs x ≤ length (delivered_in (take c.args.held rs)) * 2 ^ 48) (sym e) (cross_size c.args.axes c.args.held rs c.args.store.now c.requires.0))
+    record {
+      is = e;
+      small = subst (λ x. nat_abs x ≤ length (delivered_in (take c.args.held rs)) * 2 ^ 48) (sym e) (cross_size c.args.axes c.args.held rs c.args.store.now c.requires.0);
+    }

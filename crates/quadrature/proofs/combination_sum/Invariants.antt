@@ -17,7 +17,7 @@ term cells held store = combined_rule (held_in cells held) (records_of cells) st
 
 abbrev pub invariant-loop-place : goal.invariant-loop-place
 invariant-loop-place l =
-    (l.place ≤ l.held) × (nat_abs (to_z w64 l.total) ≤ l.place * 2 ^ 48) × (to_z w64 l.total ≡ sum_to l.place (term l.cells l.held l.store))
+    (l.place ≤ l.held) × (nat_abs (l.total) ≤ l.place * 2 ^ 48) × (l.total ≡ sum_to l.place (term l.cells l.held l.store))
 
 abbrev pub decreases-loop-place : goal.decreases-loop-place
 decreases-loop-place l = l.held - l.place

@@ -1,4 +1,4 @@
--- `quadrature::combined_rule` meets its contract: by the state that was read, and the product of a small coefficient and a rule fits.
+-- `quadrature::combined_rule` meets its contract: by the state that was read, and the product of a product_size c.coefficient.result c.tensor_rule-full.result c.coefficient.ensures.small c.tensor_rule-full.ensures.smalloefficient and a rule fits.
 -- Assumes nothing.
 use borrow.Author.Rules.{sfits_of}
 use borrow.Author.Tests.{le-leb, lt-leb}
@@ -31,31 +31,31 @@ module _ (hs rs : List IndexRecord) (store : List ℤ) (p : ℕ) where
   delivered_is h = rw (le-leb 1 (record_at rs p).state h)
 
 pub state_at-state-requires : goal.state_at-state-requires
-state_at-state-requires c = omega (arith, c.requires.0.1, c.requires.0.2)
+state_at-state-requires c = omega (arith, c.requires.linked.1, c.requires.linked.2)
 
 pub levels_at-requires : goal.levels_at-requires
-levels_at-requires c = omega (arith, c.requires.0.1, c.requires.0.2)
+levels_at-requires c = omega (arith, c.requires.linked.1, c.requires.linked.2)
 
 pub tensor_rule-full-requires : goal.tensor_rule-full-requires
 tensor_rule-full-requires c =
     subst (λ k. Ready c.args.axes (records_of c.args.cells.now) c.args.store.now k) (sym c.levels_at.ensures)
-    (c.requires.1 (omega (arith, c.state_at-state.ensures, c.if-state-eq-WANTED.false)))
+    (c.requires.ready (omega (arith, c.state_at-state.ensures, c.if-state-eq-WANTED.false)))
 
 pub coefficient-requires : goal.coefficient-requires
 coefficient-requires c =
-    (c.requires.0.0, c.requires.0.1, omega (arith, c.requires.0.2))
-
-small : (c : tie.After-coefficient) → nat_abs (c.coefficient.result *ℤ c.before.tensor-rule.result) ≤ 2 ^ 48
-small c = product_size c.coefficient.result c.before.tensor-rule.result c.coefficient.ensures.1 c.before.tensor-rule.ensures.1
+    (c.requires.linked.0, c.requires.linked.1, omega (arith, c.requires.linked.2))
 
 pub overflow_mul-result : goal.overflow_mul-result
 overflow_mul-result c =
-    product_fits c.coefficient.result c.tensor_rule-full.result c.tensor_rule-full.result (sfits_of c.coefficient.type-inv) (sfits_of c.tensor_rule-full.type-inv) refl
-    (omega (arith, small c))
+    product_fits c.coefficient.result c.tensor_rule-full.result c.tensor_rule-full.result (sfits_of c.coefficient.type_inv) (sfits_of c.tensor_rule-full.type_inv) refl
+    (omega (arith, product_size c.coefficient.result c.tensor_rule-full.result c.coefficient.ensures.small c.tensor_rule-full.ensures.small))
 
 pub returns-then-state-eq-WANTED : goal.returns-then-state-eq-WANTED
 returns-then-state-eq-WANTED c =
-    (sym (wanted-zero (held_in c.args.cells.now c.args.held) (records_of c.args.cells.now) c.args.store.now c.args.place (sym c.state_at-state.ensures ∙ c.if-state-eq-WANTED.true)), omega arith)
+    record {
+      is = sym (wanted-zero (held_in c.args.cells.now c.args.held) (records_of c.args.cells.now) c.args.store.now c.args.place (sym c.state_at-state.ensures ∙ c.if-state-eq-WANTED.true));
+      small = omega arith;
+    }
 
 pub returns-else-state-eq-WANTED : goal.returns-else-state-eq-WANTED
 returns-else-state-eq-WANTED c =
@@ -63,12 +63,12 @@ returns-else-state-eq-WANTED c =
     let hs = held_in cells c.args.held in
     let rs = records_of cells in
     let is =
-    product_is c.coefficient.result c.tensor_rule-full.result c.tensor_rule-full.result (sfits_of c.coefficient.type-inv) (sfits_of c.tensor_rule-full.type-inv) refl
-    (omega (arith, small c)) in
-    let own = held_record cells c.args.held c.requires.0.1 c.args.place c.requires.0.2 in (
-      is
-          ∙ ap₂ ◌*ℤ◌ (c.coefficient.ensures.0 ∙ ap (λ (r : IndexRecord). coefficient (delivered_in hs) r.levels) own)
-          (c.tensor_rule-full.ensures.0 ∙ ap (λ k. tensor_rule k (stored_reading rs c.args.store.now)) c.levels_at.ensures)
-          ∙ sym (delivered_is hs rs c.args.store.now c.args.place (omega (arith, c.state_at-state.ensures, c.if-state-eq-WANTED.false))),
-      omega (arith, ap nat_abs is, small c),
-    )
+    product_is c.coefficient.result c.tensor_rule-full.result c.tensor_rule-full.result (sfits_of c.coefficient.type_inv) (sfits_of c.tensor_rule-full.type_inv) refl
+    (omega (arith, product_size c.coefficient.result c.tensor_rule-full.result c.coefficient.ensures.small c.tensor_rule-full.ensures.small)) in
+    let own = held_record cells c.args.held c.requires.linked.1 c.args.place c.requires.linked.2 in record {
+      is = is
+          ∙ ap₂ ◌*ℤ◌ (c.coefficient.ensures.is ∙ ap (λ (r : IndexRecord). coefficient (delivered_in hs) r.levels) own)
+          (c.tensor_rule-full.ensures.is ∙ ap (λ k. tensor_rule k (stored_reading rs c.args.store.now)) c.levels_at.ensures)
+          ∙ sym (delivered_is hs rs c.args.store.now c.args.place (omega (arith, c.state_at-state.ensures, c.if-state-eq-WANTED.false)));
+      small = omega (arith, ap nat_abs is, product_size c.coefficient.result c.tensor_rule-full.result c.coefficient.ensures.small c.tensor_rule-full.ensures.small);
+    }

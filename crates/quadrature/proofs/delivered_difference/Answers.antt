@@ -38,13 +38,16 @@ scaled_difference-requires c =
 
 pub returns-then-state_at-eq-WANTED : goal.returns-then-state_at-eq-WANTED
 returns-then-state_at-eq-WANTED c =
-    (sym (wanted-zero (records_of c.args.cells.now) c.args.store.now c.args.place (sym c.state_at.ensures ∙ c.if-state_at-eq-WANTED.true)), omega arith)
+    record {
+      is = sym (wanted-zero (records_of c.args.cells.now) c.args.store.now c.args.place (sym c.state_at.ensures ∙ c.if-state_at-eq-WANTED.true));
+      small = omega arith;
+    }
 
 pub returns-else-state_at-eq-WANTED : goal.returns-else-state_at-eq-WANTED
 returns-else-state_at-eq-WANTED c =
     let rs = records_of c.args.cells.now in
-    let is = back c.scaled_difference.result (sfits_of c.scaled_difference.type-inv) in (
-      is ∙ c.scaled_difference.ensures.0 ∙ ap (λ k. scaled_difference k (stored_reading rs c.args.store.now)) c.levels_at.ensures
-          ∙ sym (delivered_is rs c.args.store.now c.args.place (omega (arith, c.state_at.ensures, c.if-state_at-eq-WANTED.false))),
-      omega (arith, ap nat_abs is, c.scaled_difference.ensures.1),
-    )
+    let is = back c.scaled_difference.result (sfits_of c.scaled_difference.type_inv) in record {
+      is = is ∙ c.scaled_difference.ensures.is ∙ ap (λ k. scaled_difference k (stored_reading rs c.args.store.now)) c.levels_at.ensures
+          ∙ sym (delivered_is rs c.args.store.now c.args.place (omega (arith, c.state_at.ensures, c.if-state_at-eq-WANTED.false)));
+      small = omega (arith, ap nat_abs is, c.scaled_difference.ensures.small);
+    }

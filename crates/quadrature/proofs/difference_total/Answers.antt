@@ -22,15 +22,11 @@ pub delivered_difference-total-requires : goal.delivered_difference-total-requir
 delivered_difference-total-requires c =
     (omega (arith, c.requires.room), c.requires.ready c.loop-place.place (omega arith))
 
-term_small : (c : tie.After-delivered-difference invariant-loop decreases-loop)
-    → nat_abs (delivered_difference (records_of c.before.before.before.before.args.cells.now) c.before.before.before.before.args.store.now c.before.before.loop.place) ≤ 2 ^ 40
-term_small c = omega (arith, ap nat_abs c.delivered-difference.ensures.0, c.delivered-difference.ensures.1)
-
 pub overflow_add-total : goal.overflow_add-total
 overflow_add-total c =
     let l = c.loop-place in
-    running_fits (2 ^ 40) (delivered_difference (records_of c.args.cells.now) c.args.store.now) l.place (to_z w64 l.total) c.delivered_difference-total.result
-    (omega (arith, c.requires.few)) l.invariant.1 l.invariant.2 (term_small c) (sfits_of c.delivered_difference-total.type-inv) c.delivered_difference-total.ensures.0
+    running_fits (2 ^ 40) (delivered_difference (records_of c.args.cells.now) c.args.store.now) l.place (to_z w64 l.total-bits) c.delivered_difference-total.result
+    (omega (arith, c.requires.few)) l.invariant.1 l.invariant.2 (omega (arith, ap nat_abs c.delivered_difference-total.ensures.is, c.delivered_difference-total.ensures.small)) (sfits_of c.delivered_difference-total.type_inv) c.delivered_difference-total.ensures.is
 
 pub overflow_add-place : goal.overflow_add-place
 overflow_add-place c = omega (arith, c.requires.few)
@@ -44,8 +40,8 @@ loop-place-preserved c =
     let f = delivered_difference (records_of c.args.cells.now) c.args.store.now in
     let few : (l.place + 1) * 2 ^ 40 ≤ 2 ^ 62 = omega (arith, c.requires.few) in (
       omega arith,
-      running_size (2 ^ 40) f l.place (to_z w64 l.total) c.delivered_difference-total.result few l.invariant.1 l.invariant.2 (term_small c) (sfits_of c.delivered_difference-total.type-inv) c.delivered_difference-total.ensures.0,
-      running_is (2 ^ 40) f l.place (to_z w64 l.total) c.delivered_difference-total.result few l.invariant.1 l.invariant.2 (term_small c) (sfits_of c.delivered_difference-total.type-inv) c.delivered_difference-total.ensures.0,
+      running_size (2 ^ 40) f l.place (to_z w64 l.total-bits) c.delivered_difference-total.result few l.invariant.1 l.invariant.2 (omega (arith, ap nat_abs c.delivered_difference-total.ensures.is, c.delivered_difference-total.ensures.small)) (sfits_of c.delivered_difference-total.type_inv) c.delivered_difference-total.ensures.is,
+      running_is (2 ^ 40) f l.place (to_z w64 l.total-bits) c.delivered_difference-total.result few l.invariant.1 l.invariant.2 (omega (arith, ap nat_abs c.delivered_difference-total.ensures.is, c.delivered_difference-total.ensures.small)) (sfits_of c.delivered_difference-total.type_inv) c.delivered_difference-total.ensures.is,
     )
 
 pub returns : goal.returns
@@ -55,4 +51,7 @@ returns c =
     let rs = records_of c.args.cells.now in
     let done : l.place ≡ c.args.held = omega arith in
     let e = l.invariant.2 ∙ ap (λ n. sum_to n (delivered_difference rs c.args.store.now)) done ∙ sym (mean_places c.args.held rs c.args.store.now c.requires.room) in
-    (e, subst (λ x. nat_abs x ≤ length (delivered_in (take c.args.held rs)) * 2 ^ 40) (sym e) (mean_size c.args.axes c.args.held rs c.args.store.now c.requires))
+    record {
+      is = e;
+      small = subst (λ x. nat_abs x ≤ length (delivered_in (take c.args.held rs)) * 2 ^ 40) (sym e) (mean_size c.args.axes c.args.held rs c.args.store.now c.requires);
+    }

@@ -11,7 +11,7 @@ use Rattle.quadrature.proofs.difference_total.Given as goal
 
 abbrev pub invariant-loop-place : goal.invariant-loop-place
 invariant-loop-place l =
-    (l.place ≤ l.held) × (nat_abs (to_z w64 l.total) ≤ l.place * 2 ^ 40) × (to_z w64 l.total ≡ sum_to l.place (delivered_difference (records_of l.cells) l.store))
+    (l.place ≤ l.held) × (nat_abs (l.total) ≤ l.place * 2 ^ 40) × (l.total ≡ sum_to l.place (delivered_difference (records_of l.cells) l.store))
 
 abbrev pub decreases-loop-place : goal.decreases-loop-place
 decreases-loop-place l = l.held - l.place

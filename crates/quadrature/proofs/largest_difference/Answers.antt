@@ -36,12 +36,12 @@ pub loop-place-preserved-then-so_far-here : goal.loop-place-preserved-then-so_fa
 loop-place-preserved-then-so_far-here c =
     let l = c.loop-place in
     let d = c.delivered_difference-difference in
-    let e = back d.result (sfits_of d.type-inv) in (
+    let e = back d.result (sfits_of d.type_inv) in (
       omega arith,
-      omega (arith, ap nat_abs e, d.ensures.1),
+      omega (arith, ap nat_abs e, d.ensures.small),
       largest_new c.args.held (records_of c.args.cells.now) c.args.store.now c.requires.room l.place l.invariant.0 (omega arith)
-          (to_z w64 l.largest) (to_z w64 (of_z w64 d.result)) c.type_size.result c.size_of-here.result l.invariant.2 (e ∙ d.ensures.0)
-          c.type_size.ensures c.size_of-here.ensures (omega arith),
+          (to_z w64 l.largest-bits) (to_z w64 (of_z w64 d.result)) c.size_of-so_far.result c.size_of-here.result l.invariant.2 (e ∙ d.ensures.is)
+          c.size_of-so_far.ensures c.size_of-here.ensures (omega arith),
     )
 
 pub loop-place-smaller : goal.loop-place-smaller
@@ -51,12 +51,12 @@ pub loop-place-preserved : goal.loop-place-preserved
 loop-place-preserved c =
     let l = c.loop-place in
     let d = c.delivered_difference-difference in
-    let e = back d.result (sfits_of d.type-inv) in (
+    let e = back d.result (sfits_of d.type_inv) in (
       omega arith,
       l.invariant.1,
       largest_kept c.args.held (records_of c.args.cells.now) c.args.store.now c.requires.room l.place l.invariant.0 (omega arith)
-          (to_z w64 l.largest) (to_z w64 (of_z w64 d.result)) c.type_size.result c.size_of-here.result l.invariant.2 (e ∙ d.ensures.0)
-          c.type_size.ensures c.size_of-here.ensures (omega arith),
+          (to_z w64 l.largest-bits) (to_z w64 (of_z w64 d.result)) c.size_of-so_far.result c.size_of-here.result l.invariant.2 (e ∙ d.ensures.is)
+          c.size_of-so_far.ensures c.size_of-here.ensures (omega arith),
     )
 
 pub returns : goal.returns
@@ -65,4 +65,7 @@ returns c =
     let s = c.args in
     let l = c.loop-place in
     let done : l.place ≡ 0 = omega arith in
-    (l.invariant.2 ∙ ap (largest_from s.held (records_of s.cells.now) s.store.now) done, l.invariant.1)
+    record {
+      is = l.invariant.2 ∙ ap (largest_from s.held (records_of s.cells.now) s.store.now) done;
+      small = l.invariant.1;
+    }

@@ -10,7 +10,7 @@ use Rattle.quadrature.proofs.largest_difference.Given as goal
 
 abbrev pub invariant-loop-place : goal.invariant-loop-place
 invariant-loop-place l =
-    (l.place ≤ l.held) × (nat_abs (to_z w64 l.largest) ≤ 2 ^ 40) × (to_z w64 l.largest ≡ largest_from l.held (records_of l.cells) l.store l.place)
+    (l.place ≤ l.held) × (nat_abs (l.largest) ≤ 2 ^ 40) × (l.largest ≡ largest_from l.held (records_of l.cells) l.store l.place)
 
 abbrev pub decreases-loop-place : goal.decreases-loop-place
 decreases-loop-place l = l.place

@@ -17,6 +17,7 @@ use Rattle.quadrature.proofs.Raised.{step_held, step_none, raising_end, found_pl
 use Rattle.quadrature.proofs.Held.{held_length, held_record}
 use Rattle.quadrature.proofs.raised_place.Invariants.{levels}
 use Rattle.quadrature.proofs.raised_place.Goals as goal
+use Rattle.quadrature.proofs.raised_place.Goals.{then-mask-axis-eq1+else-held-next, else-mask-axis-eq1}
 
 -- the link that was read is that of the held record
 link_held : (cells : List ℕ) (held at axis q : ℕ) → held * 27 ≤ length cells → at < held → q ≡ get_or (record_at (records_of cells) at).links axis none → get_or (record_at (held_in cells held) at).links axis none ≡ q
@@ -56,21 +57,21 @@ loop-axis-preserved c =
     let cells = c.args.cells.now in
     let rs = held_in cells c.args.held in
     let n = held_length cells c.args.held c.requires.1 in
-    ⊎_elim
-    (λ w.
-    let q = w.1.result in
-    let e : get_or (record_at rs l.at).links l.axis none ≡ q = link_held cells c.args.held l.at l.axis q c.requires.1 l.invariant.1 w.1.ensures in
-    rw w.3 (
+    elim c.if-mask-axis-eq1.branch [
+      then-mask-axis-eq1+else-held-next w ↦
+    let q = w.link_at-next.result in
+    let e : get_or (record_at rs l.at).links l.axis none ≡ q = link_held cells c.args.held l.at l.axis q c.requires.1 l.invariant.1 w.link_at-next.ensures in
+    rw w.at-is (
       omega arith,
-      w.2.left,
-      l.invariant.2 ∙ step_held c.requires.0 l.at (omega arith) c.args.mask l.axis (omega (arith, c.requires.0.axes)) w.0.taken q e (omega (arith, w.2.left)),
-    ))
-    (λ w. rw w.1 (
+      w.if-held-next.false,
+      l.invariant.2 ∙ step_held c.requires.0 l.at (omega arith) c.args.mask l.axis (omega (arith, c.requires.0.axes)) w.if-mask-axis-eq1.true q e (omega (arith, w.if-held-next.false)),
+    )
+    | else-mask-axis-eq1 w ↦ rw w.at-is (
       omega arith,
       l.invariant.1,
-      l.invariant.2 ∙ raising_out (record_at rs l.at).levels c.args.mask l.axis (omega (arith, c.requires.0.axes)) (c.requires.0.eight l.at (omega arith)) w.0.left,
-    ))
-    c.if-mask-axis-eq1.branch
+      l.invariant.2 ∙ raising_out (record_at rs l.at).levels c.args.mask l.axis (omega (arith, c.requires.0.axes)) (c.requires.0.eight l.at (omega arith)) w.if-mask-axis-eq1.false,
+    )
+    ]
 
 pub returns : goal.returns
 returns c =

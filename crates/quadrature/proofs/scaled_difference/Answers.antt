@@ -43,15 +43,22 @@ module _ {d : ℕ} {rs : List IndexRecord} {s : List ℤ} {k : List ℕ} (ready 
 pub level_walk-sum-requires : goal.level_walk-sum-requires
 level_walk-sum-requires c =
     let ready = c.requires in
-    ((ready, invariant_start ready), ((omega arith, λ h. sym (first-level ready)), room_start ready))
+    record {
+      ready = (ready, invariant_start ready);
+      axis_le_axes = (omega arith, λ h. sym (first-level ready));
+      target_bound = room_start ready;
+    }
 
 pub scaled-requires : goal.scaled-requires
 scaled-requires c =
     let ready = c.requires in
-    (ready.ceilings, units_in ready, subst (λ x. nat_abs x ≤ 2 ^ 40) (sym (walk_is ready _ (back c.level_walk-sum.result (sfits_of c.level_walk-sum.type-inv) ∙ c.level_walk-sum.ensures))) (small ready))
+    (ready.ceilings, units_in ready, subst (λ x. nat_abs x ≤ 2 ^ 40) (sym (walk_is ready _ (back c.level_walk-sum.result (sfits_of c.level_walk-sum.type_inv) ∙ c.level_walk-sum.ensures))) (small ready))
 
 pub returns : goal.returns
 returns c =
     let ready = c.requires in
-    let e = back c.scaled.result (sfits_of c.scaled.type-inv) ∙ c.scaled.ensures ∙ walk_is ready _ (back c.level_walk-sum.result (sfits_of c.level_walk-sum.type-inv) ∙ c.level_walk-sum.ensures) in
-    (e, subst (λ x. nat_abs x ≤ 2 ^ 40) (sym e) (small ready))
+    let e = back c.scaled.result (sfits_of c.scaled.type_inv) ∙ c.scaled.ensures ∙ walk_is ready _ (back c.level_walk-sum.result (sfits_of c.level_walk-sum.type_inv) ∙ c.level_walk-sum.ensures) in
+    record {
+      is = e;
+      small = subst (λ x. nat_abs x ≤ 2 ^ 40) (sym e) (small ready);
+    }

@@ -56,26 +56,26 @@ pub state_at-requires : goal.state_at-requires
 state_at-requires c =
     omega (
       arith,
-      at_held c.args.axes c.args.cells.now c.args.held c.args.place c.args.mask c.requires.0 c.requires.1 c.at-1.given.0.0
-          (sym c.raised_place.ensures ∙ c.at-1.given.1),
+      at_held c.args.axes c.args.cells.now c.args.held c.args.place c.args.mask c.requires.0 c.requires.1 c.in-At.at
+          (sym c.in-At.ensures),
     )
 
 pub returns-then-state_at-eq-WANTED : goal.returns-then-state_at-eq-WANTED
 returns-then-state_at-eq-WANTED c =
-    let q = c.at-1.given.0.0 in
+    let q = c.in-At.at in
     sym (wanted_term c.args.axes c.args.cells.now c.args.held c.args.place c.args.mask c.requires.0 c.requires.1 q
-    (sym c.raised_place.ensures ∙ c.at-1.given.1)
+    (sym c.in-At.ensures)
     (sym c.state_at.ensures ∙ c.if-state_at-eq-WANTED.true))
 
 pub returns-else-state_at-eq-WANTED : goal.returns-else-state_at-eq-WANTED
 returns-else-state_at-eq-WANTED c =
-    let q = c.at-1.given.0.0 in
-    back c.subset_sign.result (sfits_of c.subset_sign.type-inv) ∙ c.subset_sign.ensures
+    let q = c.in-At.at in
+    back c.subset_sign.result (sfits_of c.subset_sign.type_inv) ∙ c.subset_sign.ensures
     ∙ sym (delivered_term c.args.axes c.args.cells.now c.args.held c.args.place c.args.mask c.requires.0 c.requires.1 q
-    (sym c.raised_place.ensures ∙ c.at-1.given.1)
+    (sym c.in-At.ensures)
     (omega (arith, c.state_at.ensures, c.if-state_at-eq-WANTED.false)))
 
 pub returns-in-NotFound : goal.returns-in-NotFound
 returns-in-NotFound c =
     sym (absent_term c.args.axes c.args.cells.now c.args.held c.args.place c.args.mask c.requires.0 c.requires.1
-    (sym c.raised_place.ensures ∙ c.enum_told-1.given.1))
+    (sym c.in-NotFound.ensures))

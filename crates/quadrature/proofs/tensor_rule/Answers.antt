@@ -35,15 +35,21 @@ module _ {d : ℕ} {rs : List IndexRecord} {s : List ℤ} {k : List ℕ} (ready 
 pub tensor_sum-sum-requires : goal.tensor_sum-sum-requires
 tensor_sum-sum-requires c =
     let ready = c.requires in
-    ((ready, invariant_start ready), (omega arith, λ h. first-level ready))
+    record {
+      ready = (ready, invariant_start ready);
+      axis_le_axes = (omega arith, λ h. first-level ready);
+    }
 
 pub scaled-requires : goal.scaled-requires
 scaled-requires c =
     let ready = c.requires in
-    (ready.ceilings, units_in ready, subst (λ x. nat_abs x ≤ 2 ^ 40) (sym (rule_is ready _ (back c.tensor_sum-sum.result (sfits_of c.tensor_sum-sum.type-inv) ∙ c.tensor_sum-sum.ensures))) (small ready))
+    (ready.ceilings, units_in ready, subst (λ x. nat_abs x ≤ 2 ^ 40) (sym (rule_is ready _ (back c.tensor_sum-sum.result (sfits_of c.tensor_sum-sum.type_inv) ∙ c.tensor_sum-sum.ensures))) (small ready))
 
 pub returns : goal.returns
 returns c =
     let ready = c.requires in
-    let e = back c.scaled.result (sfits_of c.scaled.type-inv) ∙ c.scaled.ensures ∙ rule_is ready _ (back c.tensor_sum-sum.result (sfits_of c.tensor_sum-sum.type-inv) ∙ c.tensor_sum-sum.ensures) in
-    (e, subst (λ x. nat_abs x ≤ 2 ^ 40) (sym e) (small ready))
+    let e = back c.scaled.result (sfits_of c.scaled.type_inv) ∙ c.scaled.ensures ∙ rule_is ready _ (back c.tensor_sum-sum.result (sfits_of c.tensor_sum-sum.type_inv) ∙ c.tensor_sum-sum.ensures) in
+    record {
+      is = e;
+      small = subst (λ x. nat_abs x ≤ 2 ^ 40) (sym e) (small ready);
+    }

@@ -11,6 +11,7 @@ use Rattle.grid.specs.Index.{level}
 use Rattle.grid.specs.Difference.{units}
 use Rattle.grid.proofs.LoopSteps.{axis_left, none_left}
 use Rattle.quadrature.proofs.unit_sum.Goals as goal
+use Rattle.quadrature.proofs.unit_sum.Goals.{then-level-gt1, else-level-gt1}
 
 step : (k : List ℕ) (a : ℕ) → a < length k → units (drop a k) ≡ unit (level k a) + units (drop (a + 1) k)
 unfolding units
@@ -57,8 +58,10 @@ loop-axis-preserved c =
     let x = level k l.axis in
     let high : x ≤ 8 = c.requires.high l.axis (omega arith) in
     let e = step k l.axis (omega arith) in
-    ⊎_elim (λ w. (omega arith, l.invariant.1, omega (arith, w.1), omega (arith, w.1, above x w.0.taken)))
-    (λ w. (omega arith, l.invariant.1, omega (arith, w.1), omega (arith, w.1, at_one x w.0.left))) c.if-level-gt1.branch
+    elim c.if-level-gt1.branch [
+      then-level-gt1 w ↦ (omega arith, l.invariant.1, omega (arith, w.units-is), omega (arith, w.units-is, above x w.if-level-gt1.true))
+    | else-level-gt1 w ↦ (omega arith, l.invariant.1, omega (arith, w.units-is), omega (arith, w.units-is, at_one x w.if-level-gt1.false))
+    ]
 
 pub returns : goal.returns
 returns c =

@@ -1,8 +1,9 @@
 -- `quadrature::weighted_reading` meets its contract: a reading of size at most 2^20 times such a weight fits. Assumes nothing.
 use mathlib.Core.Path.{◌≡◌, sym, ap, ◌∙◌, subst}
-use Prim.Native.Nat.{◌+◌, ◌*◌, ◌^◌, ◌≤◌, ◌<◌}
+use Prim.Native.Nat.{ℕ, ◌+◌, ◌*◌, ◌^◌, ◌≤◌, ◌<◌}
 use native.Mathlib.Nat.{le_trans, le_of_eq, mul-le-mul}
 use native.Mathlib.Omega.{arith}
+use mathlib.Core.List.{List}
 use lib.IntN.{ℤ, pos, nat_abs, ◌*ℤ◌}
 use lib.ListN.{length, get_or}
 use mir.Syntax.{w32, w64}
@@ -24,26 +25,27 @@ factors : (w x : ℤ) → SFits w64 w → nat_abs x ≤ 2 ^ 20 → to_z w64 (of_
 factors w x f h = rw (to_z-of_z (reading_fits x h), back w f, back_small x (omega arith))
 
 pub first_at-requires : goal.first_at-requires
-first_at-requires c = omega (arith, length-records_of c.args.cells.now, c.requires.0.0)
+first_at-requires c = omega (arith, length-records_of c.args.cells.now, c.requires.place_in_bounds.0)
 
 pub bounds-store-at : goal.bounds-store-at
 bounds-store-at c =
-    subst (λ f. f + c.args.rank < length c.args.store.now) (sym c.first_at.ensures) c.requires.0.1
+    subst (λ f. f + c.args.rank < length c.args.store.now) (sym c.first_at.ensures) c.requires.place_in_bounds.1
 
 -- the reading that is read is in range
-in_range_lem : (c : tie.After-result) → nat_abs (get_or c.before.before.before.args.store.now (c.before.first-at.result + c.before.before.before.args.rank) (pos 0)) ≤ 2 ^ 20
-in_range_lem c =
-    subst (λ f. nat_abs (get_or c.before.before.before.args.store.now (f + c.before.before.before.args.rank) (pos 0)) ≤ 2 ^ 20)
-    (sym c.before.first-at.ensures) c.before.before.before.requires.1.1
+in_range_lem : (s : List ℤ) (first at r : ℕ) → at ≡ first → nat_abs (get_or s (first + r) (pos 0)) ≤ 2 ^ 20 → nat_abs (get_or s (at + r) (pos 0)) ≤ 2 ^ 20
+in_range_lem s first at r e h = subst (λ f. nat_abs (get_or s (f + r) (pos 0)) ≤ 2 ^ 20) (sym e) h
 
 pub overflow_cast-result : goal.overflow_cast-result
-overflow_cast-result c = cast_ok (get_or c.args.store.now (c.first_at.result + c.args.rank) (pos 0)) (in_range_lem c)
+overflow_cast-result c =
+    cast_ok (get_or c.args.store.now (c.first_at.result + c.args.rank) (pos 0))
+    (in_range_lem c.args.store.now _ c.first_at.result c.args.rank c.first_at.ensures c.requires.weight_bound.1)
 
 pub overflow_mul-result : goal.overflow_mul-result
 overflow_mul-result c =
     let w = c.args.weight in
     let x = get_or c.args.store.now (c.first_at.result + c.args.rank) (pos 0) in
-    rw (factors w x c.ranges.weight (in_range_lem c)) (small_fits (w *ℤ x) (small w x c.requires.1.0 (in_range_lem c)))
+    let low : nat_abs x ≤ 2 ^ 20 = in_range_lem c.args.store.now _ c.first_at.result c.args.rank c.first_at.ensures c.requires.weight_bound.1 in
+    rw (factors w x c.ranges.weight low) (small_fits (w *ℤ x) (small w x c.requires.weight_bound.0 low))
 
 pub returns : goal.returns
 returns c =
@@ -51,5 +53,6 @@ returns c =
     let s = c.args.store.now in
     let r = c.args.rank in
     let x = get_or s (c.first_at.result + r) (pos 0) in
-    rw (factors w x c.ranges.weight (in_range_lem c)) (back_small (w *ℤ x) (small w x c.requires.1.0 (in_range_lem c)))
+    let low : nat_abs x ≤ 2 ^ 20 = in_range_lem s _ c.first_at.result r c.first_at.ensures c.requires.weight_bound.1 in
+    rw (factors w x c.ranges.weight low) (back_small (w *ℤ x) (small w x c.requires.weight_bound.0 low))
     ∙ ap (λ f. w *ℤ get_or s (f + r) (pos 0)) c.first_at.ensures

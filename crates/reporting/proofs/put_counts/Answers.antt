@@ -6,18 +6,15 @@ use Rattle.reporting.proofs.put_counts.Goals as goal
 
 pub put_line-wanted-requires : goal.put_line-wanted-requires
 put_line-wanted-requires c =
-    let w = then (then c.put_line-axes.ensures.0 c.put_line-old.ensures.0) c.put_line-active.ensures.0 in
-    (omega arith, omega (arith, kept w, c.put_line-axes.ensures.1, c.put_line-old.ensures.1, c.put_line-active.ensures.1, c.requires))
+    let w = then (then c.put_line-axes.ensures.is c.put_line-old.ensures.is) c.put_line-active.ensures.is in
+    (omega arith, omega (arith, kept w, c.put_line-axes.ensures.near, c.put_line-old.ensures.near, c.put_line-active.ensures.near, c.requires))
 
 pub put_line-requires : goal.put_line-requires
 put_line-requires c =
-    let w = then (then (then c.put_line-axes.ensures.0 c.put_line-old.ensures.0) c.put_line-active.ensures.0) c.put_line-wanted.ensures.0 in
-    (omega arith, omega (arith, kept w, c.put_line-axes.ensures.1, c.put_line-old.ensures.1, c.put_line-active.ensures.1, c.put_line-wanted.ensures.1, c.requires))
+    let w = then (then (then c.put_line-axes.ensures.is c.put_line-old.ensures.is) c.put_line-active.ensures.is) c.put_line-wanted.ensures.is in
+    (omega arith, omega (arith, kept w, c.put_line-axes.ensures.near, c.put_line-old.ensures.near, c.put_line-active.ensures.near, c.put_line-wanted.ensures.near, c.requires))
 
 pub returns : goal.returns
 unfolding count_lines report_values_in
 returns c =
-    (then (then (then (then c.put_line-axes.ensures.0 c.put_line-old.ensures.0) c.put_line-active.ensures.0) c.put_line-wanted.ensures.0) c.put_line.ensures.0, omega (arith, c.put_line-axes.ensures.1, c.put_line-old.ensures.1, c.put_line-active.ensures.1, c.put_line-wanted.ensures.1, c.put_line.ensures.1))
-
-pub shape_of-buffer : goal.shape_of-buffer
-shape_of-buffer c = kept (returns c).0
+    record { is = then (then (then (then c.put_line-axes.ensures.is c.put_line-old.ensures.is) c.put_line-active.ensures.is) c.put_line-wanted.ensures.is) c.put_line.ensures.is; near = omega (arith, c.put_line-axes.ensures.near, c.put_line-old.ensures.near, c.put_line-active.ensures.near, c.put_line-wanted.ensures.near, c.put_line.ensures.near) }

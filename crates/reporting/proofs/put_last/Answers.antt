@@ -24,6 +24,3 @@ returns c =
     let w = c.put_word-space.ensures in
     let v = c.put_word-end.ensures in
     line-written w v
-
-pub shape_of-buffer : goal.shape_of-buffer
-shape_of-buffer c = kept (returns c)

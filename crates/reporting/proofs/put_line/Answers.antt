@@ -24,7 +24,4 @@ pub returns : goal.returns
 returns c =
     let w = c.put_word-space.ensures in
     let v = c.put_number-end.ensures in
-    (line-written w v, omega (arith, line_end w v, most c.args.n))
-
-pub shape_of-buffer : goal.shape_of-buffer
-shape_of-buffer c = kept (returns c).0
+    record { is = line-written w v; near = omega (arith, line_end w v, most c.args.n) }

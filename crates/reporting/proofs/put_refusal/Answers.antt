@@ -1,6 +1,6 @@
 -- `reporting::put_refusal` meets its contract: its parts, one after the other. Assumes nothing.
 use native.Mathlib.Omega.{arith}
-use Rattle.reporting.proofs.Reports.{at_room, byte_room, feed_room, end_small, refusal_kept, refusal_written}
+use Rattle.reporting.proofs.Reports.{at_room, byte_room, feed_room, end_small, refusal_written}
 use Rattle.reporting.proofs.put_refusal.Goals as goal
 
 pub put_word-at-requires : goal.put_word-at-requires
@@ -19,10 +19,7 @@ pub overflow_add-result : goal.overflow_add-result
 overflow_add-result c =
     omega (arith, end_small c.args.number c.args.byte c.requires c.put_word-refused.ensures c.put_number-named.ensures c.put_word-at.ensures c.put_number-end.ensures)
 
-pub shape_of-buffer : goal.shape_of-buffer
-shape_of-buffer c =
-    refusal_kept c.args.number c.args.byte c.requires c.put_word-refused.ensures c.put_number-named.ensures c.put_word-at.ensures c.put_number-end.ensures
-
 pub returns : goal.returns
 returns c =
-    refusal_written c.args.number c.args.byte c.requires c.put_word-refused.ensures c.put_number-named.ensures c.put_word-at.ensures c.put_number-end.ensures
+    let w = refusal_written c.args.number c.args.byte c.requires c.put_word-refused.ensures c.put_number-named.ensures c.put_word-at.ensures c.put_number-end.ensures in
+    record { bytes = w.0; count = w.1 }

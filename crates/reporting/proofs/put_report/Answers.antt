@@ -5,4 +5,5 @@ use Rattle.reporting.proofs.put_report.Goals as goal
 
 pub returns : goal.returns
 returns c =
-    report_written (report_values_in c.args.values) c.requires c.put_counts-at.ensures.0 c.put_sums.ensures
+    let w = report_written (report_values_in c.args.values) c.requires c.put_counts-at.ensures.is c.put_sums.ensures in
+    record { bytes = w.0; count = w.1 }

@@ -2,7 +2,6 @@
 -- Assumes nothing.
 use native.Mathlib.Omega.{arith}
 use lib.ListN.{length-set}
-use Rattle.reporting.proofs.Writing.{kept}
 use Rattle.reporting.proofs.Signs.{read_below, read_above, below_written, above_written}
 use Rattle.reporting.proofs.put_signed.Goals as goal
 
@@ -21,9 +20,6 @@ put_number-requires c = simp length-set (omega arith)
 pub returns-then-z-lt0 : goal.returns-then-z-lt0
 returns-then-z-lt0 c =
     below_written c.args.z c.ranges.z c.if-z-lt0.true c.put_number.ensures
-
-pub shape_of-buffer-then-z-lt0 : goal.shape_of-buffer-then-z-lt0
-shape_of-buffer-then-z-lt0 c = kept (returns c)
 
 pub overflow_cast-z : goal.overflow_cast-z
 overflow_cast-z c = (read_above c.args.z c.ranges.z c.if-z-lt0.false).natural

@@ -29,7 +29,4 @@ returns c =
     let w = c.put_word-space.ensures in
     let v =
     read-says c.args.z c.ranges.z signed_decimal c.put_signed-end.ensures in
-    (line-written w v, omega (arith, line_end w v, most_signed c.args.z))
-
-pub shape_of-buffer : goal.shape_of-buffer
-shape_of-buffer c = kept (returns c).0
+    record { is = line-written w v; near = omega (arith, line_end w v, most_signed c.args.z) }

@@ -13,20 +13,29 @@ use Rattle.running.proofs.promote_chosen.Goals as goal
 pub refine-promotion-requires : goal.refine-promotion-requires
 refine-promotion-requires c =
     let given = c.choice-1.given in
-    let a = chosen_place_lem c.args.job c.args.cells.now c.args.store.now c.requires.0.0 c.args.choice given.0.0 given.1 c.requires.1 in
-    (c.requires.0, (a.0, a.1, omega arith))
+    let a = chosen_place_lem c.args.job c.args.cells.now c.args.store.now c.requires.valid_area.0 c.args.choice given.0.0 given.1 c.requires.choice_value in
+    record {
+      valid_area = c.requires.valid_area;
+      place_lt_held = (a.0, a.1, omega arith);
+    }
 
 pub returns-in-Met : goal.returns-in-Met
 unfolding choice_of by_choice after_step ending_in
 returns-in-Met c =
     let m = machine_of (area_of c.args.job c.args.cells.now c.args.store.now) in
-    (λ bytes n used. ap (λ x. by_choice (choice_of x) m used (λ p. execution bytes n (promote_step m p) used)) c.enum_told-1.given.1, λ n used. refl)
+    record {
+      is = λ bytes n used. ap (λ x. by_choice (choice_of x) m used (λ p. execution bytes n (promote_step m p) used)) c.enum_told-1.given.1;
+      left = λ n used. refl;
+    }
 
 pub returns-in-Capped : goal.returns-in-Capped
 unfolding choice_of by_choice after_step ending_in
 returns-in-Capped c =
     let m = machine_of (area_of c.args.job c.args.cells.now c.args.store.now) in
-    (λ bytes n used. ap (λ x. by_choice (choice_of x) m used (λ p. execution bytes n (promote_step m p) used)) c.enum_told-in-Capped-1.given.1, λ n used. refl)
+    record {
+      is = λ bytes n used. ap (λ x. by_choice (choice_of x) m used (λ p. execution bytes n (promote_step m p) used)) c.enum_told-in-Capped-1.given.1;
+      left = λ n used. refl;
+    }
 
 pub returns-in-Place : goal.returns-in-Place
 returns-in-Place c =
@@ -36,10 +45,10 @@ returns-in-Place c =
     let given = c.choice-1.given in
     let refined = c.refine-promotion in
     let after = refined.new.1.1.1.0 in
-    let a = chosen_place_lem job cells store c.requires.0.0 c.args.choice given.0.0 given.1 c.requires.1 in (
-      λ bytes n used. way_place job cells store c.requires.0.0 c.args.choice given.0.0 given.1 bytes n used
-          ∙ promoted_step job cells store c.requires.0.0 given.0.0 a refined.result.job after refined.result.outcome refined.ensures.0 bytes n used
-          ∙ ap (λ x. after_step bytes n used (machine_of (area_of job cells store)) x after store) (sym c.step_of_promotion.ensures),
-      λ n used. subst (λ x. StepPostcondition n used job cells store x after store) (sym c.step_of_promotion.ensures)
-          (promoted_left job cells store c.requires.0.0 given.0.0 a refined.result.job after refined.result.outcome refined.ensures.0 n used refined.ensures.1),
-    )
+    let a = chosen_place_lem job cells store c.requires.valid_area.0 c.args.choice given.0.0 given.1 c.requires.choice_value in record {
+      is = λ bytes n used. way_place job cells store c.requires.valid_area.0 c.args.choice given.0.0 given.1 bytes n used
+          ∙ promoted_step job cells store c.requires.valid_area.0 given.0.0 a refined.result.job after refined.result.outcome refined.ensures.is bytes n used
+          ∙ ap (λ x. after_step bytes n used (machine_of (area_of job cells store)) x after store) (sym c.step_of_promotion.ensures);
+      left = λ n used. subst (λ x. StepPostcondition n used job cells store x after store) (sym c.step_of_promotion.ensures)
+          (promoted_left job cells store c.requires.valid_area.0 given.0.0 a refined.result.job after refined.result.outcome refined.ensures.is n used refined.ensures.valid);
+    }

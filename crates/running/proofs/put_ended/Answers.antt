@@ -13,4 +13,4 @@ unfolding machine_of
 returns c =
     subst (λ f. Printed (report_text f) c.args.report.now c.put_report.new.1.0 c.put_report.result)
     (report_values_are (machine_of (area_of c.args.job c.args.cells.now c.args.store.now)) c.args.ending c.args.unused c.result-counts.result _ (back c.result-counts.result.mean (sfits_of c.struct_told-1.given.1.1.1.1.1.1.0.1)) c.result-counts.ensures)
-    (record { bytes = c.put_report.ensures.0; count = c.put_report.ensures.1 })
+    (record { bytes = c.put_report.ensures.bytes; count = c.put_report.ensures.count })

@@ -41,7 +41,7 @@ pub loop-n-preserved : goal.loop-n-preserved
 loop-n-preserved c =
     let a = c.args in
     let l = c.loop-n in
-    let v : to_z w32 (of_z w32 c.signed_at.result) ≡ signed_four a.bytes.now (a.from + 4 * l.n) = to_z-of_z {w = w32} {z = c.signed_at.result} (sfits_of c.signed_at.type-inv) ∙ c.signed_at.ensures in (
+    let v : to_z w32 (of_z w32 c.signed_at.result) ≡ signed_four a.bytes.now (a.from + 4 * l.n) = to_z-of_z {w = w32} {z = c.signed_at.result} (sfits_of c.signed_at.type_inv) ∙ c.signed_at.ensures in (
       omega arith,
       length-set l.block l.n (to_z w32 (of_z w32 c.signed_at.result)) ∙ l.invariant.1,
       ap₂ (λ b x. set b l.n x) l.invariant.2 v ∙ block_next a.bytes.now a.from l.n a.block.now (omega arith),

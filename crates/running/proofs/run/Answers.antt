@@ -19,18 +19,18 @@ unfolding form_in
 returns-in-Header c =
     printed c.args.bytes.now c.args.report.now _ _ c.if-report-lt512.false
     (form_refused c.args.bytes.now 0 c.args.report.now _ _ (header _) (sym c.parse-form.ensures ∙ ap form_in c.form-1.given.1)
-    (record { bytes = c.put_refusal.ensures.0; count = c.put_refusal.ensures.1 }))
+    (record { bytes = c.put_refusal.ensures.bytes; count = c.put_refusal.ensures.count }))
 
 pub returns-in-Entry : goal.returns-in-Entry
 unfolding form_in
 returns-in-Entry c =
     printed c.args.bytes.now c.args.report.now _ _ c.if-report-lt512.false
     (form_refused c.args.bytes.now 0 c.args.report.now _ _ (entry _) (sym c.parse-form.ensures ∙ ap form_in c.form-in-Entry-1.given.1)
-    (record { bytes = c.put_refusal-in-Entry.ensures.0; count = c.put_refusal-in-Entry.ensures.1 }))
+    (record { bytes = c.put_refusal-in-Entry.ensures.bytes; count = c.put_refusal-in-Entry.ensures.count }))
 
 pub returns-in-Readings : goal.returns-in-Readings
 unfolding form_in
 returns-in-Readings c =
     printed c.args.bytes.now c.args.report.now _ _ c.if-report-lt512.false
     (form_refused c.args.bytes.now 0 c.args.report.now _ _ (readings _) (sym c.parse-form.ensures ∙ ap form_in c.form-in-Readings-1.given.1)
-    (record { bytes = c.put_refusal-in-Readings.ensures.0; count = c.put_refusal-in-Readings.ensures.1 }))
+    (record { bytes = c.put_refusal-in-Readings.ensures.bytes; count = c.put_refusal-in-Readings.ensures.count }))

@@ -17,12 +17,12 @@ pub returns-then-cause-eq1 : goal.returns-then-cause-eq1
 unfolding start_byte
 returns-then-cause-eq1 c =
     start_refused c.args.bytes.now 0 c.args.report.now _ _ c.requires.0 1 0 (sym c.if-cause-eq1.true ∙ (c.start_cause-cause.ensures ∙ ap (λ g. first_cause (start_causes own_lengths g)) c.file_settings-settings.ensures)) (λ e. omega (arith, e)) refl
-    (record { bytes = c.put_refusal.ensures.0; count = c.put_refusal.ensures.1 })
+    (record { bytes = c.put_refusal.ensures.bytes; count = c.put_refusal.ensures.count })
 
 pub returns-then-cause-ne0 : goal.returns-then-cause-ne0
 returns-then-cause-ne0 c =
     start_refused c.args.bytes.now 0 c.args.report.now _ _ c.requires.0 c.start_cause-cause.result 4 (c.start_cause-cause.ensures ∙ ap (λ g. first_cause (start_causes own_lengths g)) c.file_settings-settings.ensures) c.if-cause-ne0.true (later-byte c.start_cause-cause.result c.if-cause-eq1.false)
-    (record { bytes = c.put_refusal-then-cause-ne0.ensures.0; count = c.put_refusal-then-cause-ne0.ensures.1 })
+    (record { bytes = c.put_refusal-then-cause-ne0.ensures.bytes; count = c.put_refusal-then-cause-ne0.ensures.count })
 
 pub run_started-requires : goal.run_started-requires
 run_started-requires c =

@@ -9,12 +9,12 @@ use Rattle.running.proofs.run_started.Goals as goal
 
 pub run_from-requires : goal.run_from-requires
 run_from-requires c =
-     (
-      (start_valid c.args.settings c.requires.0 c.start-job.result _ c.start-job.new.1.0 _ c.start-job.ensures.0 c.start-job.ensures.1 refl refl, c.requires.1, c.requires.2, omega arith),
-      (omega arith, c.requires.3),
-    )
+     record {
+      valid_area = (start_valid c.args.settings c.requires.0 c.start-job.result _ c.start-job.new.1.0 _ c.start-job.ensures.job c.start-job.ensures.run refl refl, c.requires.1, c.requires.2, omega arith);
+      used_le_entries = (omega arith, c.requires.3);
+    }
 
 pub returns : goal.returns
 returns c =
     subst (λ m. Printed (text_in c.args.entries (execution c.args.bytes.now 1025 m 0)) c.args.report.now c.run_from.new.1.1.1.1.1.1.1.1.0 c.run_from.result)
-    (start_state c.args.settings c.requires.0 c.start-job.result _ c.start-job.new.1.0 _ c.start-job.ensures.0 c.start-job.ensures.1 refl refl) c.run_from.ensures
+    (start_state c.args.settings c.requires.0 c.start-job.result _ c.start-job.new.1.0 _ c.start-job.ensures.job c.start-job.ensures.run refl refl) c.run_from.ensures

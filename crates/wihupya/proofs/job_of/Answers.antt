@@ -11,5 +11,5 @@ pub returns : goal.returns
 unfolding job_of
 returns c =
     let w = c.args.words.now in
-    let mean = back c.signed.result (sfits_of c.signed.type-inv) ∙ c.signed.ensures ∙ ap (to_z w64) c.wide-4.ensures in
+    let mean = back c.signed.result (sfits_of c.signed.type_inv) ∙ c.signed.ensures ∙ ap (to_z w64) c.wide-4.ensures in
     rw (c.wide.ensures, c.wide-2.ensures, c.wide-3.ensures, mean)

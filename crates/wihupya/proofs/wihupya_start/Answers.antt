@@ -16,10 +16,10 @@ returns-then-number-ne0 c =
     let cells = c.args.cells.now in
     let store = c.args.store.now in
     let r = c.start-answered.result in
-    let is = c.start-answered.ensures ∙ ap (λ (j : JobRecord). call_on (area_of j cells store) (table.start (record { axes = c.args.axes; threshold = c.args.threshold; budget = c.args.budget }))) c.job_in.ensures.0 in (
-      (λ i. record { number = c.number_of-number.ensures i; job = (refused_words c.args.job.now cells store (table.start (record { axes = c.args.axes; threshold = c.args.threshold; budget = c.args.budget })) r c.start-answered.new.1.1.0 (store) c.number_of-number.result is c.number_of-number.ensures c.if-number-ne0.true c.job_in.ensures.1) i; run = run_of c.start-answered.new.1.1.0; store = store }) ∙ ap exported is,
-      λ n. refl,
-    )
+    let is = c.start-answered.ensures ∙ ap (λ (j : JobRecord). call_on (area_of j cells store) (table.start (record { axes = c.args.axes; threshold = c.args.threshold; budget = c.args.budget }))) c.job_in.ensures.0 in record {
+      is = (λ i. record { number = c.number_of-number.ensures i; job = (refused_words c.args.job.now cells store (table.start (record { axes = c.args.axes; threshold = c.args.threshold; budget = c.args.budget })) r c.start-answered.new.1.1.0 (store) c.number_of-number.result is c.number_of-number.ensures c.if-number-ne0.true c.job_in.ensures.1) i; run = run_of c.start-answered.new.1.1.0; store = store }) ∙ ap exported is;
+      refused = λ n. refl;
+    }
 
 pub returns : goal.returns
 unfolding exported
@@ -27,7 +27,7 @@ returns c =
     let cells = c.args.cells.now in
     let store = c.args.store.now in
     let r = c.start-answered.result in
-    let is = c.start-answered.ensures ∙ ap (λ (j : JobRecord). call_on (area_of j cells store) (table.start (record { axes = c.args.axes; threshold = c.args.threshold; budget = c.args.budget }))) c.job_in.ensures.0 in (
-      (λ i. record { number = c.number_of-number.ensures i; job = c.words_of.ensures i; run = run_of c.start-answered.new.1.1.0; store = store }) ∙ ap exported is,
-      λ n. absurd (n c.if-number-ne0.false),
-    )
+    let is = c.start-answered.ensures ∙ ap (λ (j : JobRecord). call_on (area_of j cells store) (table.start (record { axes = c.args.axes; threshold = c.args.threshold; budget = c.args.budget }))) c.job_in.ensures.0 in record {
+      is = (λ i. record { number = c.number_of-number.ensures i; job = c.words_of.ensures i; run = run_of c.start-answered.new.1.1.0; store = store }) ∙ ap exported is;
+      refused = λ n. absurd (n c.if-number-ne0.false);
+    }

@@ -26,7 +26,7 @@ named_there cells held x links room e a h =
 
 pub name_back-requires : goal.name_back-requires
 name_back-requires c =
-    (omega (arith, c.requires.0.1), named_there c.args.cells.now c.args.held c.args.levels c.new_links-links.result (omega (arith, c.requires.0.0)) c.new_links-links.ensures)
+    (omega (arith, c.requires.held_in_bounds.1), named_there c.args.cells.now c.args.held c.args.levels c.new_links-links.result (omega (arith, c.requires.held_in_bounds.0)) c.new_links-links.ensures)
 
 pub returns : goal.returns
 unfolding appended admitted_record held_in
@@ -37,8 +37,8 @@ returns c =
     let is : run_of after ≡ record { records = appended (records_of cells) c.args.held c.args.first c.args.levels; rest = (run_of cells).rest } =
     c.store.ensures
     ∙ ap (λ (u : Run). stored u c.args.held (record { levels = c.args.levels; state = 0; indicator = 0; first = c.args.first; links = links })) c.name_back.ensures
-    ∙ ap (λ ks. record { records = set (named_from 8 0 ks c.args.held (records_of cells)) c.args.held (record { levels = c.args.levels; state = 0; indicator = 0; first = c.args.first; links = ks }); rest = (run_of cells).rest }) c.new_links-links.ensures in (
-      is,
-      λ f t. subst (λ ws. PackedRun ws (held_in after (c.args.held + 1))) (sym c.put_word.ensures.1)
-          (appended_words cells after c.args.words.now c.args.held c.args.first c.args.levels c.requires.0.0 c.requires.0.1 (ap (λ (u : Run). u.records) is) (c.requires.1 t) f),
-    )
+    ∙ ap (λ ks. record { records = set (named_from 8 0 ks c.args.held (records_of cells)) c.args.held (record { levels = c.args.levels; state = 0; indicator = 0; first = c.args.first; links = ks }); rest = (run_of cells).rest }) c.new_links-links.ensures in record {
+      cells_after = is;
+      words = λ f t. subst (λ ws. PackedRun ws (held_in after (c.args.held + 1))) (sym c.put_word.ensures.words)
+          (appended_words cells after c.args.words.now c.args.held c.args.first c.args.levels c.requires.held_in_bounds.0 c.requires.held_in_bounds.1 (ap (λ (u : Run). u.records) is) (c.requires.packed_if t) f);
+    }
