@@ -6,8 +6,8 @@ use Rattle.calls.proofs.as_answer.Goals as goal
 
 pub returns-in-Spent : goal.returns-in-Spent
 unfolding reply_of outcome_of
-returns-in-Spent c = (ap (λ o. promotion (outcome_of o)) (sym c.enum_told-1.given.1), refl)
+returns-in-Spent c = (ap (λ o. promotion (outcome_of o)) (sym c.in-Spent.is), refl)
 
 pub returns-in-Promoted : goal.returns-in-Promoted
 unfolding reply_of outcome_of
-returns-in-Promoted c = (ap (λ o. promotion (outcome_of o)) (sym c.enum_told-in-Promoted-1.given.1), refl)
+returns-in-Promoted c = (ap (λ o. promotion (outcome_of o)) (sym c.in-Promoted.is), refl)

@@ -6,12 +6,12 @@ use Rattle.calls.proofs.as_chosen.Goals as goal
 
 pub returns-in-Met : goal.returns-in-Met
 unfolding reply_of_choose choice_of
-returns-in-Met c = ap (λ o. chosen (choice_of o)) (sym c.enum_told-1.given.1)
+returns-in-Met c = ap (λ o. chosen (choice_of o)) (sym c.in-Met.is)
 
 pub returns-in-Capped : goal.returns-in-Capped
 unfolding reply_of_choose choice_of
-returns-in-Capped c = ap (λ o. chosen (choice_of o)) (sym c.enum_told-in-Capped-1.given.1)
+returns-in-Capped c = ap (λ o. chosen (choice_of o)) (sym c.in-Capped.is)
 
 pub returns-in-Place : goal.returns-in-Place
 unfolding reply_of_choose choice_of
-returns-in-Place c = ap (λ o. chosen (choice_of o)) (sym c.choice-1.given.1)
+returns-in-Place c = ap (λ o. chosen (choice_of o)) (sym c.in-Place.is)

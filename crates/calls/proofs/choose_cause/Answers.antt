@@ -13,7 +13,7 @@ returns-then-cause-ne0 c =
     c.area_cause-cause.ensures ∙ sym (choose_common (lengths_of a) (is_sound a) (machine_of a).log (λ e. c.if-cause-ne0.true (c.area_cause-cause.ensures ∙ e)))
 
 pub first_wanted-requires : goal.first_wanted-requires
-first_wanted-requires c =  held_there c.args.job c.args.cells.now c.args.store.now (st c.args.job c.args.cells.now c.args.store.now c.area_cause-cause.result c.area_cause-cause.ensures c.if-cause-ne0.false)
+first_wanted-requires c = held_there c.args.job c.args.cells.now c.args.store.now (st c.args.job c.args.cells.now c.args.store.now c.area_cause-cause.result c.area_cause-cause.ensures c.if-cause-ne0.false)
 
 pub returns-then-first_wanted-held : goal.returns-then-first_wanted-held
 returns-then-first_wanted-held c =

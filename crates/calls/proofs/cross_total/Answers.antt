@@ -17,7 +17,7 @@ returns-then-cause-ne0 c =
     cross_refuses a c.area_cause-cause.result c.area_cause-cause.ensures c.if-cause-ne0.true
 
 pub cross_total-requires : goal.cross_total-requires
-cross_total-requires c =  valid c.args.job c.args.cells.now c.args.store.now (sym c.area_cause-cause.ensures ∙ c.if-cause-ne0.false)
+cross_total-requires c = valid c.args.job c.args.cells.now c.args.store.now (sym c.area_cause-cause.ensures ∙ c.if-cause-ne0.false)
 
 pub returns : goal.returns
 unfolding reply_of_total

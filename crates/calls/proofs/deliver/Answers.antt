@@ -47,7 +47,7 @@ returns-then-cause-ne0 c =
     deliver_refuses a c.args.readings.now c.args.indicator c.deliver_cause-cause.result c.deliver_cause-cause.ensures c.if-cause-ne0.true
 
 pub first_wanted-place-requires : goal.first_wanted-place-requires
-first_wanted-place-requires c =  held_there c.args.job c.args.cells.now c.args.store.now (st c.args.job c.args.cells.now c.args.store.now c.args.readings.now c.deliver_cause-cause.result c.deliver_cause-cause.ensures c.if-cause-ne0.false)
+first_wanted-place-requires c = held_there c.args.job c.args.cells.now c.args.store.now (st c.args.job c.args.cells.now c.args.store.now c.args.readings.now c.deliver_cause-cause.result c.deliver_cause-cause.ensures c.if-cause-ne0.false)
 
 pub deliver-after-requires : goal.deliver-after-requires
 deliver-after-requires c =

@@ -16,7 +16,7 @@ returns-then-cause-ne0 c =
     c.area_cause-cause.ensures ∙ sym (deliver_common (lengths_of a) (is_sound a) (machine_of a).log c.args.readings.now (λ e. c.if-cause-ne0.true (c.area_cause-cause.ensures ∙ e)))
 
 pub first_wanted-place-requires : goal.first_wanted-place-requires
-first_wanted-place-requires c =  held_there c.args.job c.args.cells.now c.args.store.now (st c.args.job c.args.cells.now c.args.store.now c.area_cause-cause.result c.area_cause-cause.ensures c.if-cause-ne0.false)
+first_wanted-place-requires c = held_there c.args.job c.args.cells.now c.args.store.now (st c.args.job c.args.cells.now c.args.store.now c.area_cause-cause.result c.area_cause-cause.ensures c.if-cause-ne0.false)
 
 pub returns-then-held-place : goal.returns-then-held-place
 returns-then-held-place c =
@@ -24,10 +24,10 @@ returns-then-held-place c =
     sym (deliver-nothing (lengths_of a) (is_sound a) (machine_of a).log c.args.readings.now (sym c.area_cause-cause.ensures ∙ c.if-cause-ne0.false) (nothing c.args.job c.args.cells.now c.args.store.now c.area_cause-cause.result c.area_cause-cause.ensures c.if-cause-ne0.false c.first_wanted-place.result c.first_wanted-place.ensures c.if-held-place.true))
 
 pub levels_at-requires : goal.levels_at-requires
-levels_at-requires c =  omega (arith, held_there c.args.job c.args.cells.now c.args.store.now (st c.args.job c.args.cells.now c.args.store.now c.area_cause-cause.result c.area_cause-cause.ensures c.if-cause-ne0.false), c.if-held-place.false)
+levels_at-requires c = omega (arith, held_there c.args.job c.args.cells.now c.args.store.now (st c.args.job c.args.cells.now c.args.store.now c.area_cause-cause.result c.area_cause-cause.ensures c.if-cause-ne0.false), c.if-held-place.false)
 
 pub reading_count-count-requires : goal.reading_count-count-requires
-reading_count-count-requires c =  within c.args.job c.args.cells.now c.args.store.now c.area_cause-cause.result c.area_cause-cause.ensures c.if-cause-ne0.false c.first_wanted-place.result c.first_wanted-place.ensures c.if-held-place.false c.levels_at.result c.levels_at.ensures
+reading_count-count-requires c = within c.args.job c.args.cells.now c.args.store.now c.area_cause-cause.result c.area_cause-cause.ensures c.if-cause-ne0.false c.first_wanted-place.result c.first_wanted-place.ensures c.if-held-place.false c.levels_at.result c.levels_at.ensures
 
 pub returns-then-readings-count : goal.returns-then-readings-count
 returns-then-readings-count c =

@@ -15,7 +15,7 @@ returns-then-cause-ne0 c =
     doubles_refuses a c.area_cause-cause.result c.area_cause-cause.ensures c.if-cause-ne0.true
 
 pub doubles-requires : goal.doubles-requires
-doubles-requires c =  valid c.args.job c.args.cells.now c.args.store.now (sym c.area_cause-cause.ensures ∙ c.if-cause-ne0.false)
+doubles-requires c = valid c.args.job c.args.cells.now c.args.store.now (sym c.area_cause-cause.ensures ∙ c.if-cause-ne0.false)
 
 pub returns : goal.returns
 unfolding reply_of_doubles

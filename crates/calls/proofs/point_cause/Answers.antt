@@ -22,7 +22,7 @@ returns-then-cause-ne0 c =
     c.area_cause-cause.ensures ∙ sym (point_common (lengths_of a) (is_sound a) (machine_of a).log c.args.n c.args.room c.if-room-axes.false (λ e. c.if-cause-ne0.true (c.area_cause-cause.ensures ∙ e)))
 
 pub first_wanted-place-requires : goal.first_wanted-place-requires
-first_wanted-place-requires c =  held_there c.args.job c.args.cells.now c.args.store.now (st c.args.job c.args.cells.now c.args.store.now c.area_cause-cause.result c.area_cause-cause.ensures c.if-cause-ne0.false)
+first_wanted-place-requires c = held_there c.args.job c.args.cells.now c.args.store.now (st c.args.job c.args.cells.now c.args.store.now c.area_cause-cause.result c.area_cause-cause.ensures c.if-cause-ne0.false)
 
 pub returns-then-held-place : goal.returns-then-held-place
 unfolding machine_of
@@ -31,10 +31,10 @@ returns-then-held-place c =
     sym (point_nothing (lengths_of a) (is_sound a) (machine_of a).log c.args.n c.args.room c.if-room-axes.false (sym c.area_cause-cause.ensures ∙ c.if-cause-ne0.false) (nothing c.args.job c.args.cells.now c.args.store.now c.area_cause-cause.result c.area_cause-cause.ensures c.if-cause-ne0.false c.first_wanted-place.result c.first_wanted-place.ensures c.if-held-place.true))
 
 pub levels_at-requires : goal.levels_at-requires
-levels_at-requires c =  omega (arith, held_there c.args.job c.args.cells.now c.args.store.now (st c.args.job c.args.cells.now c.args.store.now c.area_cause-cause.result c.area_cause-cause.ensures c.if-cause-ne0.false), c.if-held-place.false)
+levels_at-requires c = omega (arith, held_there c.args.job c.args.cells.now c.args.store.now (st c.args.job c.args.cells.now c.args.store.now c.area_cause-cause.result c.area_cause-cause.ensures c.if-cause-ne0.false), c.if-held-place.false)
 
 pub block_size-size-requires : goal.block_size-size-requires
-block_size-size-requires c =  within c.args.job c.args.cells.now c.args.store.now c.area_cause-cause.result c.area_cause-cause.ensures c.if-cause-ne0.false c.first_wanted-place.result c.first_wanted-place.ensures c.if-held-place.false c.levels_at.result c.levels_at.ensures
+block_size-size-requires c = within c.args.job c.args.cells.now c.args.store.now c.area_cause-cause.result c.area_cause-cause.ensures c.if-cause-ne0.false c.first_wanted-place.result c.first_wanted-place.ensures c.if-held-place.false c.levels_at.result c.levels_at.ensures
 
 pub returns-then-size-n : goal.returns-then-size-n
 unfolding machine_of

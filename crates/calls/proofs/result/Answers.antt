@@ -16,7 +16,7 @@ returns-then-cause-ne0 c =
     result_refuses a c.area_cause-cause.result c.area_cause-cause.ensures c.if-cause-ne0.true
 
 pub result-requires : goal.result-requires
-result-requires c =  valid c.args.job c.args.cells.now c.args.store.now (sym c.area_cause-cause.ensures ∙ c.if-cause-ne0.false)
+result-requires c = valid c.args.job c.args.cells.now c.args.store.now (sym c.area_cause-cause.ensures ∙ c.if-cause-ne0.false)
 
 pub returns : goal.returns
 unfolding reply_of_result

@@ -45,7 +45,7 @@ returns-then-cause-ne0 c =
     start_refuses a c.args.settings c.start_cause-cause.result (cause_is c.args.job c.args.cells.now c.args.store.now c.args.settings c.start_cause-cause.result c.start_cause-cause.ensures) c.if-cause-ne0.true
 
 pub start-started-requires : goal.start-started-requires
-start-started-requires c =  omega (arith, room c.args.job c.args.cells.now c.args.store.now c.args.settings c.start_cause-cause.result c.start_cause-cause.ensures c.if-cause-ne0.false)
+start-started-requires c = omega (arith, room c.args.job c.args.cells.now c.args.store.now c.args.settings c.start_cause-cause.result c.start_cause-cause.ensures c.if-cause-ne0.false)
 
 pub returns : goal.returns
 unfolding reply_of

@@ -6,7 +6,7 @@ use Rattle.counting.proofs.Cross.{summable, summed}
 use Rattle.counting.proofs.cross_total.Goals as goal
 
 pub combination_sum-requires : goal.combination_sum-requires
-combination_sum-requires c =  summable c.args.job c.args.cells.now c.args.store.now c.requires
+combination_sum-requires c = summable c.args.job c.args.cells.now c.args.store.now c.requires
 
 pub returns : goal.returns
 returns c =

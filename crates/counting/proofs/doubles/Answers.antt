@@ -13,7 +13,7 @@ use Rattle.counting.proofs.Reported.{largest_is, mean_small, pending_small}
 use Rattle.counting.proofs.doubles.Goals as goal
 
 pub largest_difference-largest-requires : goal.largest_difference-largest-requires
-largest_difference-largest-requires c =  (summable c.args.job c.args.cells.now c.args.store.now c.requires).0
+largest_difference-largest-requires c = (summable c.args.job c.args.cells.now c.args.store.now c.requires).0
 
 pub report_of-requires : goal.report_of-requires
 report_of-requires c =

@@ -9,13 +9,13 @@ use Rattle.counting.proofs.Heads.{held_there, held_few, held_within, counted, ca
 use Rattle.counting.proofs.result.Goals as goal
 
 pub state_count-old-requires : goal.state_count-old-requires
-state_count-old-requires c =  (held_there c.args.job c.args.cells.now c.args.store.now c.requires, held_few c.args.job c.args.cells.now c.args.store.now c.requires)
+state_count-old-requires c = (held_there c.args.job c.args.cells.now c.args.store.now c.requires, held_few c.args.job c.args.cells.now c.args.store.now c.requires)
 
 pub state_count-active-requires : goal.state_count-active-requires
-state_count-active-requires c =  (held_there c.args.job c.args.cells.now c.args.store.now c.requires, held_few c.args.job c.args.cells.now c.args.store.now c.requires)
+state_count-active-requires c = (held_there c.args.job c.args.cells.now c.args.store.now c.requires, held_few c.args.job c.args.cells.now c.args.store.now c.requires)
 
 pub state_count-wanted-requires : goal.state_count-wanted-requires
-state_count-wanted-requires c =  (held_there c.args.job c.args.cells.now c.args.store.now c.requires, held_few c.args.job c.args.cells.now c.args.store.now c.requires)
+state_count-wanted-requires c = (held_there c.args.job c.args.cells.now c.args.store.now c.requires, held_few c.args.job c.args.cells.now c.args.store.now c.requires)
 
 pub ceiling_count-ceiling-requires : goal.ceiling_count-ceiling-requires
 ceiling_count-ceiling-requires c =

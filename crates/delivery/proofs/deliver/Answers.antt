@@ -74,7 +74,7 @@ module _ (j : JobRecord) (c : List ℕ) (s rs : List ℤ) (i place : ℕ) (valid
     mean_small x h = le_trans (abs_add j.mean x) (omega (arith, h, mean_fits j c s rs i valid wanted-first whole range))
 
 pub first_at-first-requires : goal.first_at-first-requires
-first_at-first-requires c =  room c.args.job c.args.cells.now c.args.store.now c.args.readings.now c.args.indicator c.args.place c.requires.valid_area.0 c.requires.valid_area.1 c.requires.valid_area.2 c.requires.readings_len.0 c.requires.readings_len.1
+first_at-first-requires c = room c.args.job c.args.cells.now c.args.store.now c.args.readings.now c.args.indicator c.args.place c.requires.valid_area.0 c.requires.valid_area.1 c.requires.valid_area.2 c.requires.readings_len.0 c.requires.readings_len.1
 
 pub put_readings-requires : goal.put_readings-requires
 put_readings-requires c =
@@ -82,7 +82,7 @@ put_readings-requires c =
     c.first_at-first.result c.first_at-first.ensures
 
 pub set_state-requires : goal.set_state-requires
-set_state-requires c =  room c.args.job c.args.cells.now c.args.store.now c.args.readings.now c.args.indicator c.args.place c.requires.valid_area.0 c.requires.valid_area.1 c.requires.valid_area.2 c.requires.readings_len.0 c.requires.readings_len.1
+set_state-requires c = room c.args.job c.args.cells.now c.args.store.now c.args.readings.now c.args.indicator c.args.place c.requires.valid_area.0 c.requires.valid_area.1 c.requires.valid_area.2 c.requires.readings_len.0 c.requires.readings_len.1
 
 pub levels_at-levels-requires : goal.levels_at-levels-requires
 levels_at-levels-requires c =

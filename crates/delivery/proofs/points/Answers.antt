@@ -44,7 +44,7 @@ pub block_size-size-requires : goal.block_size-size-requires
 block_size-size-requires c = rw c.levels_at-index.ensures c.requires.within.0
 
 pub overflow_sub-size : goal.overflow_sub-size
-overflow_sub-size c =  omega (arith, c.requires.within.1, ap block_size c.levels_at-index.ensures, c.block_size-size.ensures)
+overflow_sub-size c = omega (arith, c.requires.within.1, ap block_size c.levels_at-index.ensures, c.block_size-size.ensures)
 
 pub put_points-requires : goal.put_points-requires
 put_points-requires c =

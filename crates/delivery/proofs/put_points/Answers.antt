@@ -41,7 +41,7 @@ overflow_add-n c =
     omega arith
 
 pub point_of-point-requires : goal.point_of-point-requires
-point_of-point-requires c =  (c.requires.2, omega (arith, c.requires.3))
+point_of-point-requires c = (c.requires.2, omega (arith, c.requires.3))
 
 pub overflow_mul-written : goal.overflow_mul-written
 overflow_mul-written c =

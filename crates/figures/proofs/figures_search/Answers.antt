@@ -13,11 +13,11 @@ pub returns-in-At : goal.returns-in-At
 returns-in-At c =
     let rs = held_in c.args.cells.now c.args.held in
     let few : length rs ≤ 512 = omega (arith, c.requires.1, held_length c.args.cells.now c.args.held c.requires.0) in
-    sym (found_at rs c.args.levels.now few c.place-1.given.0.0 (sym c.lookup_packed.ensures ∙ c.place-1.given.1)).0
+    sym (found_at rs c.args.levels.now few c.in-At.FIELD (sym c.lookup_packed.ensures ∙ c.in-At.is)).0
 
 pub returns-in-NotFound : goal.returns-in-NotFound
 unfolding none
 returns-in-NotFound c =
     let rs = held_in c.args.cells.now c.args.held in
     let few : length rs ≤ 512 = omega (arith, c.requires.1, held_length c.args.cells.now c.args.held c.requires.0) in
-    sym (not_held rs c.args.levels.now few (found_none rs c.args.levels.now few (sym c.lookup_packed.ensures ∙ c.enum_told-1.given.1)))
+    sym (not_held rs c.args.levels.now few (found_none rs c.args.levels.now few (sym c.lookup_packed.ensures ∙ c.in-NotFound.is)))

@@ -72,7 +72,7 @@ pub backward_neighbour-requires : goal.backward_neighbour-requires
 backward_neighbour-requires c = (omega (arith, c.requires.axes_bound.0), c.if-neighbour-other-gt1.true)
 
 pub is_old-requires : goal.is_old-requires
-is_old-requires c =  record {
+is_old-requires c = record {
       held_in_bounds = (c.requires.axes_bound.1, c.requires.axes_bound.2, c.requires.axes_bound.3);
       packed_if = c.requires.packed_if;
     }

@@ -21,4 +21,4 @@ returns-else-place-refined c =
 
 pub returns-in-NotFound : goal.returns-in-NotFound
 returns-in-NotFound c =
-    not_old c.args.cells.now c.args.held c.args.refined c.args.levels c.requires.held_in_bounds.0 c.requires.held_in_bounds.1 c.requires.held_in_bounds.2 (sym c.lookup_packed.ensures ∙ c.enum_told-1.given.1)
+    not_old c.args.cells.now c.args.held c.args.refined c.args.levels c.requires.held_in_bounds.0 c.requires.held_in_bounds.1 c.requires.held_in_bounds.2 (sym c.lookup_packed.ensures ∙ c.in-NotFound.is)

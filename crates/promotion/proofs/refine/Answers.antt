@@ -85,10 +85,10 @@ append_marked-requires c =
     (marks_ask t u, (append_asks t u v (length e.new.1.1.1.0) c.readings_for-first.result e.auto.1.1.1.0 c.readings_for-first.ensures c.if-held-count-gt512.false c.if-most-reserved.false, λ f. state_words cells e.new.1.1.1.0 c.pack_held-packed.new.1.1.0 c.args.job.held c.args.place 2 c.indicator_at-indicator.result e.ensures (c.pack_held-packed.ensures.words f)))
 
 pub overflow_add-after-2 : goal.overflow_add-after-2
-overflow_add-after-2 c =  omega (arith, c.if-most-reserved.false, c.requires.place_lt_held.2, c.requires.valid_area.0.sound.settings.budget.1)
+overflow_add-after-2 c = omega (arith, c.if-most-reserved.false, c.requires.place_lt_held.2, c.requires.valid_area.0.sound.settings.budget.1)
 
 pub overflow_cast-after-2 : goal.overflow_cast-after-2
-overflow_cast-after-2 c =  omega (arith, c.if-most-reserved.false, c.requires.place_lt_held.2, c.requires.valid_area.0.sound.settings.budget.1)
+overflow_cast-after-2 c = omega (arith, c.if-most-reserved.false, c.requires.place_lt_held.2, c.requires.valid_area.0.sound.settings.budget.1)
 
 pub overflow_sub-after : goal.overflow_sub-after
 overflow_sub-after c =

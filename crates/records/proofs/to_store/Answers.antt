@@ -5,16 +5,16 @@ use Rattle.records.proofs.to_store.Goals as goal
 
 pub returns-in-Refused : goal.returns-in-Refused
 unfolding stored_by
-returns-in-Refused c =  ap (λ x. stored_by x (min c.args.output.job.held c.args.count)) (sym c.enum_told-1.given.1)
+returns-in-Refused c = ap (λ x. stored_by x (min c.args.output.job.held c.args.count)) (sym c.in-Refused.is)
 
 pub returns-in-Accepted : goal.returns-in-Accepted
 unfolding stored_by
-returns-in-Accepted c =  c.lesser-held.ensures ∙ ap (λ x. stored_by x (min c.args.output.job.held c.args.count)) (sym c.enum_told-in-Accepted-1.given.1)
+returns-in-Accepted c = c.lesser-held.ensures ∙ ap (λ x. stored_by x (min c.args.output.job.held c.args.count)) (sym c.in-Accepted.is)
 
 pub returns-in-Spent : goal.returns-in-Spent
 unfolding stored_by
-returns-in-Spent c =  ap (λ x. stored_by x (min c.args.output.job.held c.args.count)) (sym c.enum_told-in-Spent-1.given.1)
+returns-in-Spent c = ap (λ x. stored_by x (min c.args.output.job.held c.args.count)) (sym c.in-Spent.is)
 
 pub returns-in-Promoted : goal.returns-in-Promoted
 unfolding stored_by
-returns-in-Promoted c =  c.lesser-held.ensures ∙ ap (λ x. stored_by x (min c.args.output.job.held c.args.count)) (sym c.enum_told-in-Promoted-1.given.1)
+returns-in-Promoted c = c.lesser-held.ensures ∙ ap (λ x. stored_by x (min c.args.output.job.held c.args.count)) (sym c.in-Promoted.is)

@@ -40,10 +40,10 @@ read_block-requires c =
     )
 
 pub slice_bounds-first_out_of_range-end : goal.slice_bounds-first_out_of_range-end
-slice_bounds-first_out_of_range-end c =  long_enough c.args.bytes.now c.four_at-count.result c.four_at-from.result c.args.block.now _ c.read_block.ensures
+slice_bounds-first_out_of_range-end c = long_enough c.args.bytes.now c.four_at-count.result c.four_at-from.result c.args.block.now _ c.read_block.ensures
 
 pub slice_bounds-first_out_of_range-end-2 : goal.slice_bounds-first_out_of_range-end-2
-slice_bounds-first_out_of_range-end-2 c =  sym (length-take-le c.four_at-count.result _ (long_enough c.args.bytes.now c.four_at-count.result c.four_at-from.result c.args.block.now _ c.read_block.ensures))
+slice_bounds-first_out_of_range-end-2 c = sym (length-take-le c.four_at-count.result _ (long_enough c.args.bytes.now c.four_at-count.result c.four_at-from.result c.args.block.now _ c.read_block.ensures))
 
 pub returns-then-bad-count : goal.returns-then-bad-count
 unfolding after_delivery
@@ -55,10 +55,10 @@ returns-then-bad-count c =
     }
 
 pub slice_bounds-deliver-end : goal.slice_bounds-deliver-end
-slice_bounds-deliver-end c =  long_enough c.args.bytes.now c.four_at-count.result c.four_at-from.result c.args.block.now _ c.read_block.ensures
+slice_bounds-deliver-end c = long_enough c.args.bytes.now c.four_at-count.result c.four_at-from.result c.args.block.now _ c.read_block.ensures
 
 pub slice_bounds-deliver-end-2 : goal.slice_bounds-deliver-end-2
-slice_bounds-deliver-end-2 c =  sym (length-take-le c.four_at-count.result _ (long_enough c.args.bytes.now c.four_at-count.result c.four_at-from.result c.args.block.now _ c.read_block.ensures))
+slice_bounds-deliver-end-2 c = sym (length-take-le c.four_at-count.result _ (long_enough c.args.bytes.now c.four_at-count.result c.four_at-from.result c.args.block.now _ c.read_block.ensures))
 
 pub deliver-after-requires : goal.deliver-after-requires
 unfolding machine_of

@@ -12,7 +12,7 @@ use Rattle.running.proofs.Stepping.{way_short, way_deliver, way_choose, place_is
 use Rattle.running.proofs.next_step.Goals as goal
 
 pub first_wanted-place-requires : goal.first_wanted-place-requires
-first_wanted-place-requires c =  held_there c.args.job c.args.cells.now c.args.store.now c.requires.0
+first_wanted-place-requires c = held_there c.args.job c.args.cells.now c.args.store.now c.requires.0
 
 pub returns-then-entries-used : goal.returns-then-entries-used
 unfolding after_step ending_in
@@ -41,7 +41,7 @@ returns-then-place-held c =
     }
 
 pub choose-choice-requires : goal.choose-choice-requires
-choose-choice-requires c =  c.requires.0
+choose-choice-requires c = c.requires.0
 
 pub promote_chosen-requires : goal.promote_chosen-requires
 promote_chosen-requires c =

@@ -24,7 +24,7 @@ unfolding choice_of by_choice after_step ending_in
 returns-in-Met c =
     let m = machine_of (area_of c.args.job c.args.cells.now c.args.store.now) in
     record {
-      is = λ bytes n used. ap (λ x. by_choice (choice_of x) m used (λ p. execution bytes n (promote_step m p) used)) c.enum_told-1.given.1;
+      is = λ bytes n used. ap (λ x. by_choice (choice_of x) m used (λ p. execution bytes n (promote_step m p) used)) c.in-Met.is;
       left = λ n used. refl;
     }
 
@@ -33,7 +33,7 @@ unfolding choice_of by_choice after_step ending_in
 returns-in-Capped c =
     let m = machine_of (area_of c.args.job c.args.cells.now c.args.store.now) in
     record {
-      is = λ bytes n used. ap (λ x. by_choice (choice_of x) m used (λ p. execution bytes n (promote_step m p) used)) c.enum_told-in-Capped-1.given.1;
+      is = λ bytes n used. ap (λ x. by_choice (choice_of x) m used (λ p. execution bytes n (promote_step m p) used)) c.in-Capped.is;
       left = λ n used. refl;
     }
 

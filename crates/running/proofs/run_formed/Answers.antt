@@ -8,10 +8,10 @@ use Rattle.running.proofs.Whole.{start_refused, runs, later-byte, same_run}
 use Rattle.running.proofs.run_formed.Goals as goal
 
 pub file_settings-settings-requires : goal.file_settings-settings-requires
-file_settings-settings-requires c =  let f = form_facts.formed_file c.args.bytes.now c.requires.0 in omega (arith, f.header_inside)
+file_settings-settings-requires c = let f = form_facts.formed_file c.args.bytes.now c.requires.0 in omega (arith, f.header_inside)
 
 pub four_at-entries-requires : goal.four_at-entries-requires
-four_at-entries-requires c =  let f = form_facts.formed_file c.args.bytes.now c.requires.0 in omega (arith, f.header_inside)
+four_at-entries-requires c = let f = form_facts.formed_file c.args.bytes.now c.requires.0 in omega (arith, f.header_inside)
 
 pub returns-then-cause-eq1 : goal.returns-then-cause-eq1
 unfolding start_byte

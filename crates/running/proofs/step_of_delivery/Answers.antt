@@ -5,8 +5,8 @@ use Rattle.running.proofs.step_of_delivery.Goals as goal
 
 pub returns-in-Refused : goal.returns-in-Refused
 unfolding step_of_delivery
-returns-in-Refused c = ap step_of_delivery (sym c.delivery-1.given.1)
+returns-in-Refused c = ap step_of_delivery (sym c.in-Refused.is)
 
 pub returns-in-Done : goal.returns-in-Done
 unfolding step_of_delivery
-returns-in-Done c = ap step_of_delivery (sym c.delivery-in-Done-1.given.1)
+returns-in-Done c = ap step_of_delivery (sym c.in-Done.is)

@@ -5,8 +5,8 @@ use Rattle.running.proofs.step_of_promotion.Goals as goal
 
 pub returns-in-Spent : goal.returns-in-Spent
 unfolding step_promoted
-returns-in-Spent c = ap (λ o. step_promoted o c.args.job) (sym c.enum_told-1.given.1)
+returns-in-Spent c = ap (λ o. step_promoted o c.args.job) (sym c.in-Spent.is)
 
 pub returns-in-Promoted : goal.returns-in-Promoted
 unfolding step_promoted
-returns-in-Promoted c = ap (λ o. step_promoted o c.args.job) (sym c.enum_told-in-Promoted-1.given.1)
+returns-in-Promoted c = ap (λ o. step_promoted o c.args.job) (sym c.in-Promoted.is)

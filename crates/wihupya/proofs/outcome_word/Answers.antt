@@ -6,16 +6,16 @@ use Rattle.wihupya.proofs.outcome_word.Goals as goal
 
 pub returns-in-Refused : goal.returns-in-Refused
 unfolding reply_of answer_words outcome_word
-returns-in-Refused c = ap (λ x. answer_words (reply_of x) c.args.before) (sym c.enum_told-1.given.1)
+returns-in-Refused c = ap (λ x. answer_words (reply_of x) c.args.before) (sym c.in-Refused.is)
 
 pub returns-in-Accepted : goal.returns-in-Accepted
 unfolding reply_of answer_words outcome_word
-returns-in-Accepted c = ap (λ x. answer_words (reply_of x) c.args.before) (sym c.enum_told-in-Accepted-1.given.1)
+returns-in-Accepted c = ap (λ x. answer_words (reply_of x) c.args.before) (sym c.in-Accepted.is)
 
 pub returns-in-Spent : goal.returns-in-Spent
 unfolding reply_of answer_words outcome_word
-returns-in-Spent c = ap (λ x. answer_words (reply_of x) c.args.before) (sym c.enum_told-in-Spent-1.given.1)
+returns-in-Spent c = ap (λ x. answer_words (reply_of x) c.args.before) (sym c.in-Spent.is)
 
 pub returns-in-Promoted : goal.returns-in-Promoted
 unfolding reply_of answer_words outcome_word
-returns-in-Promoted c = ap (λ x. answer_words (reply_of x) c.args.before) (sym c.enum_told-in-Promoted-1.given.1)
+returns-in-Promoted c = ap (λ x. answer_words (reply_of x) c.args.before) (sym c.in-Promoted.is)

@@ -37,7 +37,7 @@ unfolding reply_of_choose number_of answer_words
 returns-in-Refused c =
     let f = c.choose-answered in
     let j = c.Job-of in
-    let is = said c.args.job.now c.args.cells.now c.args.store.now j.result f.result _ j.ensures f.ensures c.answered-1.given.1 in
+    let is = said c.args.job.now c.args.cells.now c.args.store.now j.result f.result _ j.ensures f.ensures c.in-Refused.is in
     (ap number_of is, ap (λ x. answer_words x c.args.choice.now) is)
 
 pub returns-in-Met : goal.returns-in-Met
@@ -45,7 +45,7 @@ unfolding reply_of_choose number_of choice_words answer_words
 returns-in-Met c =
     let f = c.choose-answered in
     let j = c.Job-of in
-    let is = said c.args.job.now c.args.cells.now c.args.store.now j.result f.result _ j.ensures f.ensures c.enum_told-1.given.1 in
+    let is = said c.args.job.now c.args.cells.now c.args.store.now j.result f.result _ j.ensures f.ensures c.in-Met.is in
     (ap number_of is, ap (λ x. answer_words x c.args.choice.now) is)
 
 pub returns-in-Capped : goal.returns-in-Capped
@@ -53,7 +53,7 @@ unfolding reply_of_choose number_of choice_words answer_words
 returns-in-Capped c =
     let f = c.choose-answered in
     let j = c.Job-of in
-    let is = said c.args.job.now c.args.cells.now c.args.store.now j.result f.result _ j.ensures f.ensures c.enum_told-in-Capped-1.given.1 in
+    let is = said c.args.job.now c.args.cells.now c.args.store.now j.result f.result _ j.ensures f.ensures c.in-Capped.is in
     (ap number_of is, ap (λ x. answer_words x c.args.choice.now) is)
 
 pub returns-in-Chosen : goal.returns-in-Chosen
@@ -61,5 +61,5 @@ unfolding reply_of_choose number_of choice_words answer_words
 returns-in-Chosen c =
     let f = c.choose-answered in
     let j = c.Job-of in
-    let is = said c.args.job.now c.args.cells.now c.args.store.now j.result f.result _ j.ensures f.ensures c.answered-in-Chosen-1.given.1 in
+    let is = said c.args.job.now c.args.cells.now c.args.store.now j.result f.result _ j.ensures f.ensures c.in-Chosen.is in
     (ap number_of is, ap (λ x. answer_words x c.args.choice.now) is)

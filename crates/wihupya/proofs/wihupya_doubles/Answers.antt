@@ -22,11 +22,11 @@ pub returns-in-Refused : goal.returns-in-Refused
 unfolding reply_of_doubles number_of answer_words
 returns-in-Refused c =
     let a = area_of (job_of c.args.job.now) c.args.cells.now c.args.store.now in
-    let is = ap reply_of_doubles (sym c.doubled-1.given.1) ∙ ap (λ (x : table.Answer). x.reply) c.doubles-doubled.ensures ∙ ap (λ (j : JobRecord). (call_on (area_of j c.args.cells.now c.args.store.now) table.doubles).answer.reply) c.Job-of.ensures in
+    let is = ap reply_of_doubles (sym c.in-Refused.is) ∙ ap (λ (x : table.Answer). x.reply) c.doubles-doubled.ensures ∙ ap (λ (j : JobRecord). (call_on (area_of j c.args.cells.now c.args.store.now) table.doubles).answer.reply) c.Job-of.ensures in
     (ap number_of is, ap (λ x. answer_words x c.args.report.now) is)
 
 pub returns-in-Reported : goal.returns-in-Reported
 unfolding reply_of_doubles number_of answer_words
 returns-in-Reported c =
-    let is = ap reply_of_doubles (sym c.doubled-in-Reported-1.given.1) ∙ ap (λ (x : table.Answer). x.reply) c.doubles-doubled.ensures ∙ ap (λ (j : JobRecord). (call_on (area_of j c.args.cells.now c.args.store.now) table.doubles).answer.reply) c.Job-of.ensures in
+    let is = ap reply_of_doubles (sym c.in-Reported.is) ∙ ap (λ (x : table.Answer). x.reply) c.doubles-doubled.ensures ∙ ap (λ (j : JobRecord). (call_on (area_of j c.args.cells.now c.args.store.now) table.doubles).answer.reply) c.Job-of.ensures in
     (ap number_of is, c.report_bits.ensures ∙ ap (λ x. answer_words x c.args.report.now) is)

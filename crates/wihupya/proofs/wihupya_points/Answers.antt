@@ -12,12 +12,12 @@ pub returns-in-Refused : goal.returns-in-Refused
 unfolding reply_of_points number_of answer_words
 returns-in-Refused c =
     let is = c.points-answered.ensures ∙ ap (λ (j : JobRecord). (call_on (area_of j c.args.cells.now c.args.store.now) (table.points c.args.n c.args.buffer.now)).answer) c.Job-of.ensures in
-    let reply = ap reply_of_points (sym c.answered-1.given.1) ∙ ap (λ (x : table.Answer). x.reply) is in
+    let reply = ap reply_of_points (sym c.in-Refused.is) ∙ ap (λ (x : table.Answer). x.reply) is in
     (ap number_of reply, ap (λ x. answer_words x c.args.counts.now) reply, ap (λ (x : table.Answer). x.buffer) is)
 
 pub returns-in-Wrote : goal.returns-in-Wrote
 unfolding reply_of_points number_of answer_words
 returns-in-Wrote c =
     let is = c.points-answered.ensures ∙ ap (λ (j : JobRecord). (call_on (area_of j c.args.cells.now c.args.store.now) (table.points c.args.n c.args.buffer.now)).answer) c.Job-of.ensures in
-    let reply = ap reply_of_points (sym c.answered-in-Wrote-1.given.1) ∙ ap (λ (x : table.Answer). x.reply) is in
+    let reply = ap reply_of_points (sym c.in-Wrote.is) ∙ ap (λ (x : table.Answer). x.reply) is in
     (ap number_of reply, ap (λ x. answer_words x c.args.counts.now) reply, ap (λ (x : table.Answer). x.buffer) is)

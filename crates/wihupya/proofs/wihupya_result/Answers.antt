@@ -13,11 +13,11 @@ pub returns-in-Refused : goal.returns-in-Refused
 unfolding reply_of_result number_of answer_words
 returns-in-Refused c =
     let a = area_of (job_of c.args.job.now) c.args.cells.now c.args.store.now in
-    let is = ap reply_of_result (sym c.resulted-1.given.1) ∙ ap (λ (x : table.Answer). x.reply) c.result-resulted.ensures ∙ ap (λ (j : JobRecord). (call_on (area_of j c.args.cells.now c.args.store.now) table.result).answer.reply) c.Job-of.ensures in
+    let is = ap reply_of_result (sym c.in-Refused.is) ∙ ap (λ (x : table.Answer). x.reply) c.result-resulted.ensures ∙ ap (λ (j : JobRecord). (call_on (area_of j c.args.cells.now c.args.store.now) table.result).answer.reply) c.Job-of.ensures in
     (ap number_of is, ap (λ x. answer_words x c.args.counts.now) is)
 
 pub returns-in-Counted : goal.returns-in-Counted
 unfolding reply_of_result number_of answer_words
 returns-in-Counted c =
-    let is = ap reply_of_result (sym c.resulted-in-Counted-1.given.1) ∙ ap (λ (x : table.Answer). x.reply) c.result-resulted.ensures ∙ ap (λ (j : JobRecord). (call_on (area_of j c.args.cells.now c.args.store.now) table.result).answer.reply) c.Job-of.ensures in
+    let is = ap reply_of_result (sym c.in-Counted.is) ∙ ap (λ (x : table.Answer). x.reply) c.result-resulted.ensures ∙ ap (λ (j : JobRecord). (call_on (area_of j c.args.cells.now c.args.store.now) table.result).answer.reply) c.Job-of.ensures in
     (ap number_of is, c.count_words.ensures ∙ ap (λ x. answer_words x c.args.counts.now) is)

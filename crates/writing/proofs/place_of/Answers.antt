@@ -31,9 +31,9 @@ overflow_cast-result c =
 
 pub returns-in-At : goal.returns-in-At
 returns-in-At c =
-    at_place c.args.cells.now c.args.held c.args.levels c.requires.held_in_bounds.0 c.requires.held_in_bounds.1 c.place-1.given.0.0 (sym c.lookup_packed.ensures ∙ c.place-1.given.1)
+    at_place c.args.cells.now c.args.held c.args.levels c.requires.held_in_bounds.0 c.requires.held_in_bounds.1 c.in-At.FIELD (sym c.lookup_packed.ensures ∙ c.in-At.is)
 
 pub returns-in-NotFound : goal.returns-in-NotFound
 unfolding none
 returns-in-NotFound c =
-    no_place c.args.cells.now c.args.held c.args.levels c.requires.held_in_bounds.0 c.requires.held_in_bounds.1 (sym c.lookup_packed.ensures ∙ c.enum_told-1.given.1)
+    no_place c.args.cells.now c.args.held c.args.levels c.requires.held_in_bounds.0 c.requires.held_in_bounds.1 (sym c.lookup_packed.ensures ∙ c.in-NotFound.is)
