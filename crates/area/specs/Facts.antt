@@ -1,6 +1,6 @@
 -- What is said of storage besides the functions' contracts.
 use Rattle.std.specs.Prelude.{◌≡◌, true, false, cond, List, [], ◌∷◌, ◌++◌, ℕ, ◌+◌, ◌/◌, ◌%◌, ◌^◌, ◌<◌, ◌≤◌, leb, length, get_or, set}
-use Rattle.grid.specs.Index.{level, Index, at_ceiling}
+use Rattle.grid.specs.Index.{level, at_ceiling}
 use Rattle.grid.specs.Boundary.{pair}
 use Rattle.area.specs.declared.IndexRecord.{IndexRecord}
 use Rattle.area.specs.declared.LookupResult.TheVariants.{At, NotFound}

@@ -3,15 +3,13 @@
 -- Assumes nothing.
 use mathlib.Core.Path.{◌≡◌}
 use mathlib.Core.Bool.{Bool, true, false, cond}
-use mathlib.Core.List.{List, [], ◌∷◌, map}
-use Prim.Native.Nat.{ℕ, suc, ◌+◌, ◌*◌, ◌^◌, ◌<◌, ◌≤◌}
+use mathlib.Core.List.{List, [], ◌∷◌}
+use Prim.Native.Nat.{ℕ, suc, ◌+◌, ◌^◌, ◌<◌, ◌≤◌}
 use native.Mathlib.Omega.{arith}
-use lib.Dec.{leb, eqb}
-use lib.IntN.{ℤ, nat_abs}
+use lib.Dec.{leb}
+use lib.IntN.{nat_abs}
 use lib.ListN.{length, length-map}
 use Rattle.sums.specs.Sums.{nat_sum_to}
-use Rattle.area.specs.declared.IndexRecord.{IndexRecord}
-use Rattle.area.specs.declared.Settings.{Settings}
 use Rattle.area.specs.Settings.{reading_count, least_store}
 use Rattle.area.specs.Entry.{Entry, delivered_of}
 use Rattle.area.specs.Encoding.{Area, held_of, entry_of, entries_of}

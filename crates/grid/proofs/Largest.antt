@@ -8,7 +8,7 @@ use native.Mathlib.Nat.{le_trans, le_of_eq}
 use native.Mathlib.Decide.{dec_lt}
 use native.Mathlib.Omega.{arith}
 use borrow.Author.Tests.{le-leb, lt-leb}
-use lib.IntN.{ℤ, pos, nat_abs}
+use lib.IntN.{ℤ, nat_abs}
 use lib.ListN.{length, get_or}
 use Rattle.grid.specs.Difference.{Readings, scaled_difference}
 use Rattle.grid.specs.Terms.{Agree, pad, padded}

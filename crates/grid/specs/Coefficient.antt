@@ -1,5 +1,5 @@
 -- The combination coefficient ("Blocks and differences").
-use Rattle.std.specs.Prelude.{Bool, true, false, cond, ◌&&◌, List, [], ◌∷◌, ◌++◌, map, ℕ, zero, suc, ◌+◌, ◌/◌, ◌%◌, eqb, ℤ, pos, neg_ℤ, length}
+use Rattle.std.specs.Prelude.{Bool, true, false, cond, ◌&&◌, List, [], ◌∷◌, ◌++◌, map, ℕ, zero, suc, ◌/◌, ◌%◌, eqb, ℤ, pos, neg_ℤ, length}
 use Rattle.sums.specs.Sums.{sum_of}
 
 -- Whether two level lists are the same, and whether one stands in a list of them.

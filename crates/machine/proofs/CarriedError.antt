@@ -1,13 +1,13 @@
 -- How the steps move the carried error.
 -- The idea: an entry that is not old has no part in it, so only making one old adds anything.
 -- Assumes nothing.
-use mathlib.Core.Path.{◌≡◌, refl, sym, ◌∙◌}
+use mathlib.Core.Path.{◌≡◌, refl, ◌∙◌}
 use mathlib.Core.Bool.{Bool, true, false, cond}
 use mathlib.Core.List.{List, [], ◌∷◌, ◌++◌, map}
-use Prim.Native.Nat.{ℕ, ◌+◌, ◌<◌, ◌≤◌}
+use Prim.Native.Nat.{ℕ, ◌+◌, ◌<◌}
 use native.Mathlib.Omega.{arith}
 use lib.IntN.{ℤ}
-use lib.ListN.{length, set}
+use lib.ListN.{length}
 use Rattle.grid.specs.Index.{at_ceiling, forward}
 use Rattle.area.specs.Entry.{Entry, carried_of}
 use Rattle.area.proofs.Carried.{carried_facts}

@@ -9,7 +9,7 @@ use native.Mathlib.Nat as NatL
 use native.Mathlib.Omega.{arith}
 use borrow.Author.Tests.{eqb-false}
 use lib.Dec.{eqb}
-use lib.IntN.{ℤ, pos, nat_abs, ◌+ℤ◌, +ℤ_idr}
+use lib.IntN.{pos, nat_abs, ◌+ℤ◌, +ℤ_idr}
 use lib.ListN.{length}
 use lib.Pow.{pow_mono}
 use Rattle.sums.specs.Sums.{sum_to}

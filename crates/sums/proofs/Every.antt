@@ -2,7 +2,7 @@
 -- The idea: the test runs through the numbers once; a law turns its answer into the fact at each of them.
 -- Assumes nothing.
 use mathlib.Core.Path.{◌≡◌, refl, ap, subst, sym}
-use mathlib.Core.Logic.{◌⊎◌, ⊎_elim}
+use mathlib.Core.Logic.{⊎_elim}
 use mathlib.Core.Bool.{Bool, true, false}
 use Prim.Native.Nat.{ℕ, zero, suc, ◌<◌}
 use native.Mathlib.Nat.{eq-or-lt_of_le}

@@ -1,7 +1,7 @@
 -- `area::eight_at` meets its contract: the cells passed are in the list, and the rest of it is still zero. Assumes nothing.
 use mathlib.Core.Path.{◌≡◌}
 use mathlib.Core.List.{◌++◌}
-use Prim.Native.Nat.{◌≤◌, ◌-◌, ◌+◌}
+use Prim.Native.Nat.{◌≤◌, ◌-◌}
 use lib.ListN.{take, drop, replicate}
 use Rattle.area.proofs.eight_at.Given as goal
 

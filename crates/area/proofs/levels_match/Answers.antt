@@ -1,8 +1,7 @@
 -- `area::levels_match` meets its contract: the flag says whether the levels passed were the same, and those left answer for the rest. Assumes nothing.
 use borrow.Author.Rules.{rules}
 use mathlib.Core.Path.{refl, sym, ◌∙◌}
-use mathlib.Core.Logic.{⊎_elim}
-use Prim.Native.Nat.{◌<◌, ◌-◌}
+use Prim.Native.Nat.{◌<◌}
 use native.Mathlib.Omega.{arith}
 use lib.ListN.{length}
 use Rattle.area.proofs.Records.{level_in, eight_levels}
@@ -47,16 +46,16 @@ loop-i-preserved c =
     let room : l.i < length (held cells place) = rw (eight_levels cells place c.requires) (omega arith) in
     let read = level_in cells place c.requires l.i (omega arith) in
     elim c.if-cells-at.branch [
-      then-cells-at w ↦ (
-      omega arith,
-      l.invariant.1,
-      now_other (held cells place) levels l.i _ l.same c.if-cells-at.same room (omega arith) (λ e. w.if-cells-at.true (read ∙ e)) w.same-is l.invariant.2,
-    )
-    | else-cells-at w ↦ (
-      omega arith,
-      l.invariant.1,
-      still_same (held cells place) levels l.i _ l.same c.if-cells-at.same room (omega arith) (sym read ∙ w.if-cells-at.false) w.same-is l.invariant.2,
-    )
+      | then-cells-at w ↦ (
+        omega arith,
+        l.invariant.1,
+        now_other (held cells place) levels l.i _ l.same c.if-cells-at.same room (omega arith) (λ e. w.if-cells-at.true (read ∙ e)) w.same-is l.invariant.2,
+      )
+      | else-cells-at w ↦ (
+        omega arith,
+        l.invariant.1,
+        still_same (held cells place) levels l.i _ l.same c.if-cells-at.same room (omega arith) (sym read ∙ w.if-cells-at.false) w.same-is l.invariant.2,
+      )
     ]
 
 pub returns : goal.returns

@@ -1,6 +1,5 @@
 -- `area::load` meets its contract: each field is read from the cells where the record has it. Assumes nothing.
 use Rattle.area.proofs.Records.{load_is}
-use Prim.Native.Nat.{◌-◌}
 use Rattle.area.proofs.load.Goals as goal
 
 pub returns : goal.returns

@@ -2,7 +2,6 @@
 use borrow.Author.Rules.{rules}
 use mathlib.Core.Path.{sym, ap, ◌∙◌}
 use native.Mathlib.Omega.{arith}
-use borrow.Author.Tests.{not-false}
 use lib.ListN.{take}
 use Rattle.area.specs.Packed.{word_from}
 use Rattle.area.proofs.Packs.{pack_facts, told_word}

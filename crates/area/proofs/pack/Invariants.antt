@@ -1,7 +1,7 @@
 -- `area::pack` meets its contract: the word so far is that of the axes passed, all of which fit. Assumes nothing.
 use mathlib.Core.Path.{◌≡◌}
 use mathlib.Core.List.{List}
-use Prim.Native.Nat.{ℕ, ◌≤◌, ◌-◌}
+use Prim.Native.Nat.{ℕ, ◌≤◌}
 use lib.ListN.{length, drop}
 use Rattle.area.specs.Packed.{packed, FitsByte}
 use Rattle.area.proofs.pack.Given as goal

@@ -1,10 +1,9 @@
 -- `area::pack_held` meets its contract: the words so far are those of the records passed, and the records left say whether all fit. Assumes nothing.
 use mathlib.Core.Path.{◌≡◌, refl, sym, ap, ◌∙◌, subst}
 use mathlib.Core.Bool.{true, false, ◌&&◌}
-use Prim.Native.Nat.{ℕ, ◌-◌, ◌+◌}
+use Prim.Native.Nat.{ℕ, ◌+◌}
 use native.Mathlib.Omega.{arith}
 use lib.ListN.{get_or, drop}
-use borrow.Author.Tests.{not-true, not-false}
 use Rattle.area.specs.Records.{records_of, blank, held_in}
 use Rattle.area.specs.Packed.{fits_byte, all_fit_byte, words_with, PackedRun}
 use Rattle.area.proofs.Packs.{pack_facts}

@@ -4,7 +4,6 @@ use Rattle.sums.proofs.Lists.{sets_step}
 use borrow.Author.Rules.{rules}
 use native.Mathlib.Omega.{arith}
 use mathlib.Core.Path.{◌≡◌, refl, ◌∙◌}
-use Prim.Native.Nat.{◌-◌}
 use lib.ListN.{length, length-set}
 use Rattle.area.proofs.put_sixteen.Goals as goal
 

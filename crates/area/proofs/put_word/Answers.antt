@@ -1,5 +1,5 @@
 -- `area::put_word` meets its contract: the word is written where packing gives one. Assumes nothing.
-use mathlib.Core.Path.{sym, ◌∙◌}
+use mathlib.Core.Path.{sym}
 use native.Mathlib.Omega.{arith}
 use Rattle.area.specs.Packed.{words_with}
 use Rattle.area.proofs.Packs.{told_word, told_larger}

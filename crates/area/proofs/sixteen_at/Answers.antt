@@ -3,7 +3,6 @@ use Rattle.area.proofs.Slices.{gather_suc}
 use native.Mathlib.Omega.{arith}
 use mathlib.Core.Path.{◌≡◌, refl, ◌∙◌}
 use mathlib.Core.List.{append-nil}
-use Prim.Native.Nat.{◌-◌}
 use lib.ListN.{replicate}
 use Rattle.area.proofs.sixteen_at.Goals as goal
 

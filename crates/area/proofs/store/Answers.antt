@@ -1,8 +1,7 @@
 -- `area::store` meets its contract: the 27 cells that are written are those of the record, and the others stay. Assumes nothing.
 use Rattle.area.proofs.Records.{run_pieces}
 use native.Mathlib.Omega.{arith}
-use mathlib.Core.Path.{◌≡◌, ◌∙◌}
-use Prim.Native.Nat.{◌-◌}
+use mathlib.Core.Path.{◌≡◌}
 use lib.ListN.{length, length-set}
 use borrow.Author.Rules.{rules}
 use Rattle.area.proofs.store.Goals as goal

@@ -1,9 +1,6 @@
 -- `grid::at_ceiling` meets its contract: with an excess of 12 it is, else it is so among the axes passed if one stood at level 8. Assumes nothing.
 use borrow.Author.Rules.{rules}
 use mathlib.Core.Path.{◌≡◌, refl, sym, ap, ◌∙◌}
-use mathlib.Core.Logic.{⊎_elim}
-use mathlib.Core.Bool.{true}
-use Prim.Native.Nat.{◌-◌}
 use native.Mathlib.Omega.{arith}
 use lib.ListN.{length}
 use Rattle.grid.specs.Index.{at_ceiling}
@@ -40,8 +37,8 @@ loop-axis-preserved c =
     let k = c.args.levels in
     let l = c.loop-axis in
     elim c.if-levels-axis-ge8.branch [
-      then-levels-axis-ge8 w ↦ (omega arith, l.invariant.1, l.invariant.2, w.highest-is ∙ sym (ceiling_more k l.axis (full_level k l.invariant.1 c.requires l.axis (omega arith) w.if-levels-axis-ge8.true)))
-    | else-levels-axis-ge8 w ↦ (omega arith, l.invariant.1, l.invariant.2, w.highest-is ∙ l.invariant.3 ∙ sym (ceiling_kept k l.axis (not_full k l.invariant.1 c.requires l.axis (omega arith) l.invariant.2 w.if-levels-axis-ge8.false)))
+      | then-levels-axis-ge8 w ↦ (omega arith, l.invariant.1, l.invariant.2, w.highest-is ∙ sym (ceiling_more k l.axis (full_level k l.invariant.1 c.requires l.axis (omega arith) w.if-levels-axis-ge8.true)))
+      | else-levels-axis-ge8 w ↦ (omega arith, l.invariant.1, l.invariant.2, w.highest-is ∙ l.invariant.3 ∙ sym (ceiling_kept k l.axis (not_full k l.invariant.1 c.requires l.axis (omega arith) l.invariant.2 w.if-levels-axis-ge8.false)))
     ]
 
 pub returns : goal.returns

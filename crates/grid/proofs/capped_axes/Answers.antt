@@ -2,8 +2,6 @@
 -- Assumes nothing.
 use borrow.Author.Rules.{rules}
 use mathlib.Core.Path.{◌≡◌, refl, sym, ap, ◌∙◌}
-use mathlib.Core.Logic.{⊎_elim}
-use Prim.Native.Nat.{◌-◌}
 use native.Mathlib.Omega.{arith}
 use lib.ListN.{length}
 use Rattle.grid.specs.Index.{capped_axes}
@@ -45,8 +43,8 @@ loop-axis-preserved c =
     let k = c.args.levels in
     let l = c.loop-axis in
     elim c.if-levels-axis-ge8.branch [
-      then-levels-axis-ge8 w ↦ (omega arith, omega (arith, w.count-is), l.invariant.2, l.invariant.3, omega (arith, w.count-is, l.invariant.4, capped_more k l.axis (full_level k l.invariant.2 c.requires.1 l.axis (omega (arith, c.requires.0)) w.if-levels-axis-ge8.true)))
-    | else-levels-axis-ge8 w ↦ (omega arith, omega (arith, w.count-is), l.invariant.2, l.invariant.3, omega (arith, w.count-is, l.invariant.4, capped_same k l.axis (not_full k l.invariant.2 c.requires.1 l.axis (omega (arith, c.requires.0)) l.invariant.3 w.if-levels-axis-ge8.false)))
+      | then-levels-axis-ge8 w ↦ (omega arith, omega (arith, w.count-is), l.invariant.2, l.invariant.3, omega (arith, w.count-is, l.invariant.4, capped_more k l.axis (full_level k l.invariant.2 c.requires.1 l.axis (omega (arith, c.requires.0)) w.if-levels-axis-ge8.true)))
+      | else-levels-axis-ge8 w ↦ (omega arith, omega (arith, w.count-is), l.invariant.2, l.invariant.3, omega (arith, w.count-is, l.invariant.4, capped_same k l.axis (not_full k l.invariant.2 c.requires.1 l.axis (omega (arith, c.requires.0)) l.invariant.3 w.if-levels-axis-ge8.false)))
     ]
 
 pub returns : goal.returns

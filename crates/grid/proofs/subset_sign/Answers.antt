@@ -2,7 +2,6 @@
 -- whole sign. Assumes nothing.
 use mathlib.Core.Path.{◌≡◌, sym, ap, ◌∙◌}
 use mathlib.Core.Bool.{Bool, true, false}
-use mathlib.Core.Logic.{⊎_elim}
 use Prim.Native.Nat.{ℕ, ◌+◌, ◌-◌, ◌/◌, ◌^◌, ◌≤◌}
 use native.Mathlib.Omega.{arith}
 use lib.IntN.{pos}
@@ -30,7 +29,7 @@ loop-axis-preserved c =
     let rest = sign (marks (8 - (l.axis + 1)) (m / 2 ^ (l.axis + 1))) in (
       omega arith,
       elim c.if-mask-axis-eq1.branch [
-        then-mask-axis-eq1 w ↦ l.invariant.1 ∙ sign_in m l.axis l.odd (omega arith) w.if-mask-axis-eq1.true ∙ ap (λ t. turned t rest) (sym w.odd-is)
+        | then-mask-axis-eq1 w ↦ l.invariant.1 ∙ sign_in m l.axis l.odd (omega arith) w.if-mask-axis-eq1.true ∙ ap (λ t. turned t rest) (sym w.odd-is)
         | else-mask-axis-eq1 w ↦ l.invariant.1 ∙ sign_out m l.axis l.odd (omega arith) w.if-mask-axis-eq1.false ∙ ap (λ t. turned t rest) (sym w.odd-is)
       ],
     )

@@ -4,8 +4,6 @@ use mathlib.Core.Path.{◌≡◌}
 use mathlib.Core.List.{List}
 use Prim.Native.Nat.{ℕ, ◌*◌, ◌-◌, ◌^◌, ◌≤◌}
 use lib.IntN.{ℤ, nat_abs}
-use mir.Syntax.{w64}
-use mir.Val.{to_z}
 use Rattle.sums.specs.Sums.{sum_to}
 use Rattle.area.specs.Records.{records_of, held_in}
 use Rattle.quadrature.specs.Parts.{combined_rule}

@@ -2,8 +2,6 @@
 use mathlib.Core.Path.{◌≡◌}
 use Prim.Native.Nat.{◌*◌, ◌-◌, ◌^◌, ◌≤◌}
 use lib.IntN.{nat_abs}
-use mir.Syntax.{w64}
-use mir.Val.{to_z}
 use Rattle.sums.specs.Sums.{sum_to}
 use Rattle.area.specs.Records.{records_of}
 use Rattle.quadrature.specs.Parts.{delivered_difference}

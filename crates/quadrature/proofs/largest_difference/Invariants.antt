@@ -1,9 +1,7 @@
 -- `quadrature::largest_difference` meets its contract: the largest of the places passed is kept. Assumes nothing.
 use mathlib.Core.Path.{◌≡◌}
-use Prim.Native.Nat.{◌-◌, ◌^◌, ◌≤◌}
+use Prim.Native.Nat.{◌^◌, ◌≤◌}
 use lib.IntN.{nat_abs}
-use mir.Syntax.{w64}
-use mir.Val.{to_z}
 use Rattle.area.specs.Records.{records_of}
 use Rattle.quadrature.proofs.Largest.{largest_from}
 use Rattle.quadrature.proofs.largest_difference.Given as goal

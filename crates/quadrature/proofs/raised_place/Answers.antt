@@ -1,9 +1,8 @@
 -- `quadrature::raised_place` meets its contract: the axes passed are raised where marked, and where a link names no held place the
 -- raised index is not held. Assumes nothing.
 use mathlib.Core.Path.{◌≡◌, sym, ap, ◌∙◌}
-use mathlib.Core.Logic.{⊎_elim}
 use mathlib.Core.List.{List}
-use Prim.Native.Nat.{ℕ, ◌*◌, ◌-◌, ◌≤◌, ◌<◌}
+use Prim.Native.Nat.{ℕ, ◌*◌, ◌≤◌, ◌<◌}
 use native.Mathlib.Omega.{arith}
 use lib.ListN.{length, get_or}
 use Rattle.area.specs.Encoding.{none}
@@ -58,19 +57,19 @@ loop-axis-preserved c =
     let rs = held_in cells c.args.held in
     let n = held_length cells c.args.held c.requires.1 in
     elim c.if-mask-axis-eq1.branch [
-      then-mask-axis-eq1+else-held-next w ↦
-    let q = w.link_at-next.result in
-    let e : get_or (record_at rs l.at).links l.axis none ≡ q = link_held cells c.args.held l.at l.axis q c.requires.1 l.invariant.1 w.link_at-next.ensures in
-    rw w.at-is (
-      omega arith,
-      w.if-held-next.false,
-      l.invariant.2 ∙ step_held c.requires.0 l.at (omega arith) c.args.mask l.axis (omega (arith, c.requires.0.axes)) w.if-mask-axis-eq1.true q e (omega (arith, w.if-held-next.false)),
-    )
-    | else-mask-axis-eq1 w ↦ rw w.at-is (
-      omega arith,
-      l.invariant.1,
-      l.invariant.2 ∙ raising_out (record_at rs l.at).levels c.args.mask l.axis (omega (arith, c.requires.0.axes)) (c.requires.0.eight l.at (omega arith)) w.if-mask-axis-eq1.false,
-    )
+      | then-mask-axis-eq1+else-held-next w ↦
+          let q = w.link_at-next.result in
+          let e : get_or (record_at rs l.at).links l.axis none ≡ q = link_held cells c.args.held l.at l.axis q c.requires.1 l.invariant.1 w.link_at-next.ensures in
+          rw w.at-is (
+            omega arith,
+            w.if-held-next.false,
+            l.invariant.2 ∙ step_held c.requires.0 l.at (omega arith) c.args.mask l.axis (omega (arith, c.requires.0.axes)) w.if-mask-axis-eq1.true q e (omega (arith, w.if-held-next.false)),
+          )
+      | else-mask-axis-eq1 w ↦ rw w.at-is (
+        omega arith,
+        l.invariant.1,
+        l.invariant.2 ∙ raising_out (record_at rs l.at).levels c.args.mask l.axis (omega (arith, c.requires.0.axes)) (c.requires.0.eight l.at (omega arith)) w.if-mask-axis-eq1.false,
+      )
     ]
 
 pub returns : goal.returns

@@ -1,6 +1,6 @@
 -- `quadrature::scaled` meets its contract: the shift is the power of two that the units leave to 20. Assumes nothing.
 use mathlib.Core.Path.{ap}
-use Prim.Native.Nat.{◌-◌, ◌^◌, ◌≤◌}
+use Prim.Native.Nat.{◌-◌, ◌^◌}
 use native.Mathlib.Omega.{arith}
 use lib.IntN.{pos, ◌*ℤ◌}
 use Rattle.quadrature.proofs.Shifts.{shift_fits, scaled_fits, scaled_is}
@@ -8,7 +8,6 @@ use Rattle.quadrature.proofs.scaled.Goals as goal
 
 pub unit_sum-units-requires : goal.unit_sum-units-requires
 unit_sum-units-requires c = c.requires.0
-
 
 pub overflow_sub-result : goal.overflow_sub-result
 overflow_sub-result c = omega (arith, c.unit_sum-units.ensures, c.requires.1)

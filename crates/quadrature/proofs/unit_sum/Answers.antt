@@ -1,9 +1,8 @@
 -- `quadrature::unit_sum` meets its contract: the units so far and those of the axes left are the whole. Assumes nothing.
 use borrow.Author.Rules.{rules}
 use mathlib.Core.Path.{◌≡◌, refl}
-use mathlib.Core.Logic.{⊎_elim}
 use mathlib.Core.List.{List}
-use Prim.Native.Nat.{ℕ, zero, suc, ◌+◌, ◌-◌, ◌≤◌, ◌<◌}
+use Prim.Native.Nat.{ℕ, zero, suc, ◌+◌, ◌≤◌, ◌<◌}
 use native.Mathlib.Omega.{arith}
 use lib.ListN.{length, drop}
 use Rattle.rule.specs.Rules.{unit}
@@ -59,8 +58,8 @@ loop-axis-preserved c =
     let high : x ≤ 8 = c.requires.high l.axis (omega arith) in
     let e = step k l.axis (omega arith) in
     elim c.if-level-gt1.branch [
-      then-level-gt1 w ↦ (omega arith, l.invariant.1, omega (arith, w.units-is), omega (arith, w.units-is, above x w.if-level-gt1.true))
-    | else-level-gt1 w ↦ (omega arith, l.invariant.1, omega (arith, w.units-is), omega (arith, w.units-is, at_one x w.if-level-gt1.false))
+      | then-level-gt1 w ↦ (omega arith, l.invariant.1, omega (arith, w.units-is), omega (arith, w.units-is, above x w.if-level-gt1.true))
+      | else-level-gt1 w ↦ (omega arith, l.invariant.1, omega (arith, w.units-is), omega (arith, w.units-is, at_one x w.if-level-gt1.false))
     ]
 
 pub returns : goal.returns
