@@ -2,7 +2,7 @@
 use mathlib.Core.Path.{◌≡◌, sym, ap, ◌∙◌, subst}
 use mathlib.Core.Logic.{◌⊎◌, inl, inr, ⊎_elim}
 use mathlib.Core.List.{List}
-use Prim.Native.Nat.{ℕ, ◌+◌, ◌*◌, ◌-◌, ◌<◌, ◌≤◌}
+use Prim.Native.Nat.{ℕ, ◌+◌, ◌*◌, ◌<◌, ◌≤◌}
 use native.Mathlib.Omega.{arith}
 use lib.ListN.{length, get_or, set}
 use Rattle.area.specs.Records.{Run, records_of, run_of, stored, held_in, levels_of}
@@ -33,7 +33,7 @@ unfolding appended admitted_record held_in
 returns c =
     let cells = c.args.cells.now in
     let links = c.new_links-links.result in
-    let after = c.store.new.0 in
+    let after = c.store.new.cells in
     let is : run_of after ≡ record { records = appended (records_of cells) c.args.held c.args.first c.args.levels; rest = (run_of cells).rest } =
     c.store.ensures
     ∙ ap (λ (u : Run). stored u c.args.held (record { levels = c.args.levels; state = 0; indicator = 0; first = c.args.first; links = links })) c.name_back.ensures

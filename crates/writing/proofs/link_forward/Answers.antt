@@ -1,6 +1,5 @@
 -- `writing::link_forward` meets its contract: one record loaded, one link changed, and stored. Assumes nothing.
 use mathlib.Core.Path.{ap, ◌∙◌}
-use Prim.Native.Nat.{◌-◌}
 use lib.ListN.{set}
 use Rattle.area.specs.declared.IndexRecord.{IndexRecord}
 use Rattle.area.specs.Records.{run_of, stored}

@@ -1,6 +1,6 @@
 -- `writing::name_back` meets its contract: the axes left name back what all of them would. Assumes nothing.
 use mathlib.Core.Path.{◌≡◌, refl, sym, ap, ◌∙◌}
-use mathlib.Core.Logic.{◌⊎◌, ⊎_elim}
+use mathlib.Core.Logic.{⊎_elim}
 use mathlib.Core.List.{List}
 use Prim.Native.Nat.{ℕ, ◌+◌, ◌-◌}
 use native.Mathlib.Omega.{arith}
@@ -13,6 +13,7 @@ use Rattle.quadrature.specs.Readings.{record_at}
 use Rattle.writing.specs.Changes.{with_forward_link, named_from}
 use Rattle.writing.proofs.Linking.{named_none, named-one, named_end}
 use Rattle.writing.proofs.name_back.Goals as goal
+use Rattle.writing.proofs.name_back.Goals.{then-behind, else-behind}
 
 -- a record written leaves the rest
 records_are : (before after : List ℕ) (place : ℕ) (r : IndexRecord) → run_of after ≡ stored (run_of before) place r → records_of after ≡ set (records_of before) place r
@@ -56,25 +57,22 @@ loop-axis-preserved c =
     let links = c.args.links in
     let behind = get_or links (8 + l.axis) 0 in
     let r = with_forward_link (record_at (records_of l.cells) behind) l.axis c.args.held in
-    ⊎_elim
-    (λ w. (
-      omega arith,
-      ap length w.5 ∙ w.2.kept.1.1.1.0 ∙ l.invariant.1,
-      ap (λ x. (run_of x).rest) w.5 ∙ rest_is l.cells w.2.last.1.1.1.0 behind r w.2.ensures ∙ l.invariant.2,
-      l.invariant.3 ∙ named-one l.axis links c.args.held (records_of l.cells) (omega arith) w.0.taken
-          ∙ ap (named_from (8 - (l.axis + 1)) (l.axis + 1) links c.args.held) (sym (ap records_of w.5 ∙ records_are l.cells w.2.last.1.1.1.0 behind r w.2.ensures)),
-    ))
-    (λ w. (
-      omega arith,
-      ap length w.1 ∙ l.invariant.1,
-      ap (λ x. (run_of x).rest) w.1 ∙ l.invariant.2,
-      l.invariant.3 ∙ named_none l.axis links c.args.held (records_of l.cells) (omega arith) w.0.left
-          ∙ ap (λ x. named_from (8 - (l.axis + 1)) (l.axis + 1) links c.args.held (records_of x)) (sym w.1),
-    ))
-    c.if-behind.branch
-
-pub shape_of-cells : goal.shape_of-cells
-shape_of-cells c = c.loop-axis.invariant.1
+    elim c.if-behind.branch [
+      | then-behind w ↦ (
+        omega arith,
+        ap length w.cells-is ∙ w.link_forward.auto.cells ∙ l.invariant.1,
+        ap (λ x. (run_of x).rest) w.cells-is ∙ rest_is l.cells w.link_forward.new.cells behind r w.link_forward.ensures ∙ l.invariant.2,
+        l.invariant.3 ∙ named-one l.axis links c.args.held (records_of l.cells) (omega arith) w.if-behind.true
+            ∙ ap (named_from (8 - (l.axis + 1)) (l.axis + 1) links c.args.held) (sym (ap records_of w.cells-is ∙ records_are l.cells w.link_forward.new.cells behind r w.link_forward.ensures)),
+      )
+      | else-behind w ↦ (
+        omega arith,
+        ap length w.cells-is ∙ l.invariant.1,
+        ap (λ x. (run_of x).rest) w.cells-is ∙ l.invariant.2,
+        l.invariant.3 ∙ named_none l.axis links c.args.held (records_of l.cells) (omega arith) w.if-behind.false
+            ∙ ap (λ x. named_from (8 - (l.axis + 1)) (l.axis + 1) links c.args.held (records_of x)) (sym w.cells-is),
+      )
+    ]
 
 pub returns : goal.returns
 returns c =

@@ -1,12 +1,12 @@
 -- `writing::new_links` meets its contract: the axes passed have their link, the others none. Assumes nothing.
 use mathlib.Core.Path.{sym, ap, ◌∙◌, subst}
-use mathlib.Core.Logic.{◌⊎◌, ⊎_elim}
-use Prim.Native.Nat.{◌+◌, ◌-◌}
+use Prim.Native.Nat.{◌+◌}
 use native.Mathlib.Omega.{arith}
 use Rattle.area.specs.Records.{held_in, levels_of}
 use Rattle.area.specs.Encoding.{none, place_of}
 use Rattle.writing.proofs.Linking.{SoFar, so_far_start, so_far_skip, so_far_put, so_far_end, link_along, along_above, along_one, links_are}
 use Rattle.writing.proofs.new_links.Goals as goal
+use Rattle.writing.proofs.new_links.Goals.{then-levels-axis-gt1, else-levels-axis-gt1}
 
 pub loop-axis-init : goal.loop-axis-init
 unfolding none
@@ -45,15 +45,15 @@ loop-axis-preserved c =
     let k = c.args.levels in
     let ls = levels_of (held_in c.args.cells.now c.args.held) in
     let f = link_along ls k in
-    ⊎_elim
-    (λ w. (
-      omega arith,
-      subst (SoFar f (l.axis + 1)) (sym w.3)
-          (so_far_put f l.axis l.links (omega arith) l.invariant.1 w.2.result
-          (w.2.ensures ∙ ap (place_of ls) w.1.ensures ∙ sym (along_above ls k l.axis w.0.taken))),
-    ))
-    (λ w. (omega arith, subst (SoFar f (l.axis + 1)) (sym w.1) (so_far_skip f l.axis l.links (omega arith) l.invariant.1 (along_one ls k l.axis w.0.left))))
-    c.if-levels-axis-gt1.branch
+    elim c.if-levels-axis-gt1.branch [
+      | then-levels-axis-gt1 w ↦ (
+        omega arith,
+        subst (SoFar f (l.axis + 1)) (sym w.links-is)
+            (so_far_put f l.axis l.links (omega arith) l.invariant.1 w.place_of.result
+            (w.place_of.ensures ∙ ap (place_of ls) w.backward_neighbour.ensures ∙ sym (along_above ls k l.axis w.if-levels-axis-gt1.true))),
+      )
+      | else-levels-axis-gt1 w ↦ (omega arith, subst (SoFar f (l.axis + 1)) (sym w.links-is) (so_far_skip f l.axis l.links (omega arith) l.invariant.1 (along_one ls k l.axis w.if-levels-axis-gt1.false)))
+    ]
 
 pub returns : goal.returns
 returns c =

@@ -1,7 +1,7 @@
 -- `writing::place_of` meets its contract: the lookup as an answer and as a place are one. Assumes nothing.
-use mathlib.Core.Path.{◌≡◌, sym, ◌∙◌}
+use mathlib.Core.Path.{◌≡◌, sym}
 use mathlib.Core.List.{List}
-use Prim.Native.Nat.{ℕ, ◌*◌, ◌-◌, ◌<◌, ◌≤◌}
+use Prim.Native.Nat.{ℕ, ◌*◌, ◌<◌, ◌≤◌}
 use native.Mathlib.Omega.{arith}
 use lib.ListN.{length}
 use Rattle.area.specs.Records.{held_in, levels_of}
@@ -27,13 +27,13 @@ module _ (cells : List ℕ) (held : ℕ) (k : List ℕ) (room : held * 27 ≤ le
 
 pub overflow_cast-result : goal.overflow_cast-result
 overflow_cast-result c =
-    omega (arith, at_small c.args.cells.now c.args.held c.args.levels c.requires.held_in_bounds.0 c.requires.held_in_bounds.1 c.place-1.given.0.0 (sym c.lookup_packed.ensures ∙ c.place-1.given.1))
+    omega (arith, at_small c.args.cells.now c.args.held c.args.levels c.requires.held_in_bounds.0 c.requires.held_in_bounds.1 c.in-At.place (sym c.in-At.ensures))
 
 pub returns-in-At : goal.returns-in-At
 returns-in-At c =
-    at_place c.args.cells.now c.args.held c.args.levels c.requires.held_in_bounds.0 c.requires.held_in_bounds.1 c.in-At.FIELD (sym c.lookup_packed.ensures ∙ c.in-At.is)
+    at_place c.args.cells.now c.args.held c.args.levels c.requires.held_in_bounds.0 c.requires.held_in_bounds.1 c.in-At.place (sym c.in-At.ensures)
 
 pub returns-in-NotFound : goal.returns-in-NotFound
 unfolding none
 returns-in-NotFound c =
-    no_place c.args.cells.now c.args.held c.args.levels c.requires.held_in_bounds.0 c.requires.held_in_bounds.1 (sym c.lookup_packed.ensures ∙ c.in-NotFound.is)
+    no_place c.args.cells.now c.args.held c.args.levels c.requires.held_in_bounds.0 c.requires.held_in_bounds.1 (sym c.in-NotFound.ensures)

@@ -1,6 +1,5 @@
 -- `writing::set_state` meets its contract: one record loaded, changed and stored. Assumes nothing.
 use mathlib.Core.Path.{ap, ◌∙◌}
-use Prim.Native.Nat.{◌-◌}
 use Rattle.area.specs.declared.IndexRecord.{IndexRecord}
 use Rattle.area.specs.Records.{run_of, stored}
 use Rattle.writing.specs.Changes.{with_state}
