@@ -2,9 +2,11 @@
 SHELL = /bin/bash
 .SHELLFLAGS = -o pipefail -c
 
-# What is built: by rt the program and the archives, in target/; by cargo the Rust packages (Cargo.toml), in build/.
+# What is built: by rt the program and the archives, each in its crate's out/, from where they come to target/; by cargo the Rust packages
+# (Cargo.toml), in build/.
 INTEGRATOR = target/bin/integrator
 LIBRARY = target/staticlib/libwihupya.a
+FIGURES = target/staticlib/libfigures.a
 TOOLS = build/release
 
 # Not told of make's jobs, which it cannot share.
@@ -12,21 +14,19 @@ CARGO = MAKEFLAGS= cargo
 RELEASE = --release --offline --quiet
 C = $(CC) -std=c99 -Wall -Wextra -Werror -O2 -I include
 
-# What rt says, line by line as it comes: each crate when it is proved, and of one that is not, the prover's errors with file and line.
-# Left out are notes and help, with their indented lines, what was proved before, and what fails only because something else does; all of
-# it is in target/log/.
-SHOWN = 2>&1 | LC_ALL=C sed -u -E \
-	-e ':line' \
-	-e '/^(help: |note: (no function with|antt.s advice|what antt said)|[^ ]+: note: )/{' \
-	-e ':rest' -e 'N' -e 's/.*\n//' -e '/^ /b rest' -e 'b line' -e '}' \
-	-e '/^(fn|enum|struct) [^ ]+: proved$$/d' \
-	-e '/^(logic|library|axioms|linked)[ =]/d' \
-	-e '/^rattle build: nothing was built/d' \
-	-e '/ proved \(unchanged since it was last proved\)$$/d' \
-	-e '/ NOT PROVED: its dependency /d' \
-	-e '/ was not admitted .* so this cannot be checked$$/d' \
-	-e '/ not proved; it calls .* which is not proved$$/d' \
+# What rt says, line by line as it comes. Left out are, of what is proved, the items one by one, what they rest on in the toolchain, and what was
+# loaded for them. A line of any other form is shown, and so is each error; all of it is in build/log/.
+SHOWN = | tee build/log/$@ | LC_ALL=C sed -u -E \
+	-e '/^[a-z]+ [^ ]+: proved(, may (abort|wait))?$$/d' \
+	-e '/^empty contracts: 0 found; tried ([0-9]+) of \1 functions$$/d' \
+	-e '/^logic [^ ]+: libraries=[0-9]+ files=[0-9]+ sum=[0-9a-f]+$$/d' \
+	-e '/^(statements|library) [^ ]+: modules loaded=[0-9]+ checked=[0-9]+$$/d' \
+	-e '/^axioms (core|io|libc|os|std[a-z_]*): .* of the [0-9]+ declared\)?$$/d' \
+	-e '/^linked target=[^ ]+ loader=[^ ]+ files=[^ ]+$$/d' \
 	-e 's|$(CURDIR)/||g'
+
+# Where an archive is as it was it stays, so that cargo does not link anew. $(call taken,CRATE,ARCHIVE)
+taken = cmp -s crates/$(1)/out/lib$(1).a $(2) || install -D -m 644 crates/$(1)/out/lib$(1).a $(2)
 
 # What `make compare` and `make soak` run over; both can be set on the command line.
 SEED = 1
@@ -41,39 +41,50 @@ endif
 run: program
 	@$(INTEGRATOR) < examples/four-axis-pump.job
 
-# The proved program. Only what is proved is built, which takes some minutes the first time.
+# The proved program. Only what is proved is built, which takes some minutes the first time. rt runs it too, here on the example of `make run`.
 program:
-	@rt check integrator $(SHOWN)
+	@mkdir -p build/log
+	@(cd crates/integrator && rt run) < examples/four-axis-pump.job 2>&1 > /dev/null $(SHOWN)
+	@install -D crates/integrator/out/integrator $(INTEGRATOR)
 
 # The reference's programs: jobtext makes job files, compare holds a program to the reference.
 tools:
 	@$(CARGO) build $(RELEASE) -p reference
 
 # Every test. The proofs come first, since the other tests run what they build; those run two at a time, since most of them keep one processor
-# busy. The verdict of the proofs, the last line of `rt ci`, is said again at the end.
+# busy. The verdict of the proofs, which `rt ci` says last, is said again at the end.
 test: proofs
-	@$(MAKE) --no-print-directory --jobs=2 --output-sync=target tests
-	@tail -n 1 build/verdict
+	@$(MAKE) --no-print-directory --jobs=2 --output-sync=target PARTS='exported figures tools' tests
+	@grep -oE '^[0-9]+ passed, [0-9]+ failed' build/verdict | tail -n 1
 
 # Those without cargo come next to the first, which has it compile.
 tests: rust-test programs-compared reference-runs check-compared records-compared figures-compared calls-compared callers
 
+# The gate of the proofs, over the checkout as it is. A must-fail edit that cannot be applied or read fails it here: rt counts it on its line
+# `rt: ok`, after those that were refused, and passes. It leaves the program that it built and ran, and no archive.
 proofs:
-	@rt fmt --check
-	@mkdir -p build
-	@rt ci $(SHOWN) | tee build/verdict
+	@mkdir -p build/log
+	@rt ci 2>&1 $(SHOWN) | tee build/verdict
+	@grep -q '^rt: ok' build/verdict || { echo 'proofs: rt ci printed no line that begins rt: ok' >&2; exit 1; }
+	@if grep -E '^rt: ok.*, [1-9][0-9]* bad\b' build/verdict >&2; then echo 'proofs: mend the bad must-fail edits' >&2; exit 1; fi
+	@install -D crates/integrator/out/integrator $(INTEGRATOR)
 
-# What the tests run.
+# What the tests run. After `proofs` the program is there.
+PARTS = exported figures program tools
 built:
-	@for part in exported figures program tools; do $(MAKE) --no-print-directory $$part || exit 1; done
+	@for part in $(PARTS); do $(MAKE) --no-print-directory $$part || exit 1; done
 
 # The exported calls as the static library that callers link.
 exported:
-	@rt staticlib wihupya $(SHOWN)
+	@mkdir -p build/log
+	@(cd crates/wihupya_c && rt lib) 2>&1 $(SHOWN)
+	@$(call taken,wihupya_c,$(LIBRARY))
 
 # The proved figures of areas as the static library that the comparison links.
 figures:
-	@rt staticlib figures $(SHOWN)
+	@mkdir -p build/log
+	@(cd crates/figures && rt lib) 2>&1 $(SHOWN)
+	@$(call taken,figures,$(FIGURES))
 
 # The tests of all Rust packages: the reference's own; named cases on the exported calls, their boundary cases and causes; the bindings for
 # Rust and the header's numbers; the integrator in idiomatic Rust against the reference. About a minute.
@@ -147,4 +158,4 @@ vectors: tools
 	@$(TOOLS)/vectors crates/vectors
 
 clean:
-	rm -rf target build
+	rm -rf target build crates/*/out

@@ -31,7 +31,7 @@
  * Everything else is the library's. Every call has a defined answer to every number, reading and length, and to every content of
  * the arrays: old, altered, garbage or never set.
  *
- * STACK. Measured, on jobs at both ceilings and with 512 indices: wihupya_deliver and wihupya_doubles take up to 16 KB of stack,
+ * STACK. Measured with an older compiler (rattle-kit-5b), on jobs at both ceilings and with 512 indices: wihupya_deliver and wihupya_doubles take up to 16 KB of stack,
  * wihupya_promote 5 KB, wihupya_cross_total 3 KB, every other call less than 1 KB.
  *
  * LATER RELEASES. Words, doubles and values of a word are only ever appended, never moved. When they are, compile anew with the new header: the arrays that
