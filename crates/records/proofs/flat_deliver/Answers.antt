@@ -11,7 +11,6 @@ use Rattle.calls.specs.Calls.{call_on}
 use Rattle.records.proofs.Cuts.{room_for, cut_count, cut_run, cut_after, cut_whole, front_length}
 use Rattle.records.proofs.Stored.{stores, deliver_idle}
 use Rattle.records.specs.Lent.{area_on, front}
-use Rattle.records.proofs.Words.{words_count}
 use Rattle.records.proofs.flat_deliver.Goals as goal
 
 pub slice_bounds-words-end : goal.slice_bounds-words-end
@@ -31,12 +30,12 @@ returns c =
     let r = c.deliver-answer.result in
     let flat = c.args.flat in
     let n = flat.count in
-    let count : length flat.words ≡ 13824 = words_count flat _ c.well_formed.1.1.1.0 in
-    let after = c.deliver-answer.new.1.1.1.0 in
-    let same = c.deliver-answer.auto.1.1.1.0 in
-    stores (area_on c.args.job (front n flat.words) c.args.store.now) (table.deliver c.args.readings.now c.args.indicator) r c.deliver-answer.new.1.1.1.1.0 (after ++ drop (n * 27) flat.words) n c.to_store-stored.result
+    let count : length flat.words ≡ 13824 = search rules in
+    let after = c.deliver-answer.new.cells in
+    let same = c.deliver-answer.auto.cells in
+    stores (area_on c.args.job (front n flat.words) c.args.store.now) (table.deliver c.args.readings.now c.args.indicator) r c.deliver-answer.new.store (after ++ drop (n * 27) flat.words) n c.to_store-stored.result
     (front_length n flat.words c.requires count) (front_length n (after ++ drop (n * 27) flat.words) c.requires (cut_whole n flat.words c.requires count after same))
     (deliver_idle (area_on c.args.job (front n flat.words) c.args.store.now) c.args.readings.now c.args.indicator) c.to_store-stored.ensures
-    (ap (λ (u : Run). record { answer = table.answer (reply_of r.answer); area = record { job = r.job; run = u; store = c.deliver-answer.new.1.1.1.1.0 } }) (cut_after n flat.words c.requires count after same)
+    (ap (λ (u : Run). record { answer = table.answer (reply_of r.answer); area = record { job = r.job; run = u; store = c.deliver-answer.new.store } }) (cut_after n flat.words c.requires count after same)
     ∙ c.deliver-answer.ensures
     ∙ ap (λ (u : Run). call_on (record { job = c.args.job; run = u; store = c.args.store.now }) (table.deliver c.args.readings.now c.args.indicator)) (cut_run n flat.words c.requires count))

@@ -11,7 +11,6 @@ use Rattle.calls.specs.Calls.{call_on}
 use Rattle.records.proofs.Cuts.{room_for, cut_count, cut_run, cut_after, cut_whole, front_length}
 use Rattle.records.proofs.Stored.{promote_idle, stores}
 use Rattle.records.specs.Lent.{area_on, front}
-use Rattle.records.proofs.Words.{words_count}
 use Rattle.records.proofs.flat_promote.Goals as goal
 
 pub slice_bounds-words-end : goal.slice_bounds-words-end
@@ -31,7 +30,7 @@ returns c =
     let r = c.promote-answer.result in
     let flat = c.args.flat in
     let n = flat.count in
-    let count : length flat.words ≡ 13824 = words_count flat _ c.well_formed.1.1.0 in
+    let count : length flat.words ≡ 13824 = search rules in
     let after = c.promote-answer.new.1.1.0 in
     let same = c.promote-answer.auto.1.1.0 in
     stores (area_on c.args.job (front n flat.words) c.args.store.now) (table.promote c.args.place) r c.args.store.now (after ++ drop (n * 27) flat.words) n c.to_store-stored.result

@@ -41,8 +41,8 @@ returns c =
     let w = c.no_words-words.result in
     let count : length w ≡ 13824 = search rules in
     let r = c.start-answer.result in
-    let after = c.start-answer.new.1.1.0 in
-    let same = c.start-answer.auto.1.1.0 in
+    let after = c.start-answer.new.cells in
+    let same = c.start-answer.auto.cells in
     let is =
     ap (λ (u : Run). record { answer = table.answer (reply_of r.answer); area = record { job = r.job; run = u; store = store } }) (cut_after n w small count after same)
     ∙ c.start-answer.ensures
