@@ -31,8 +31,8 @@ returns c =
     let flat = c.args.flat in
     let n = flat.count in
     let count : length flat.words ≡ 13824 = search rules in
-    let after = c.promote-answer.new.1.1.0 in
-    let same = c.promote-answer.auto.1.1.0 in
+    let after = c.promote-answer.new.cells in
+    let same = c.promote-answer.auto.cells in
     stores (area_on c.args.job (front n flat.words) c.args.store.now) (table.promote c.args.place) r c.args.store.now (after ++ drop (n * 27) flat.words) n c.to_store-stored.result
     (front_length n flat.words c.requires count) (front_length n (after ++ drop (n * 27) flat.words) c.requires (cut_whole n flat.words c.requires count after same))
     (promote_idle (area_on c.args.job (front n flat.words) c.args.store.now) c.args.place) c.to_store-stored.ensures
