@@ -1,13 +1,13 @@
 -- Signed numbers against a bound b and −b: together the two tests are a test of the size.
 -- Assumes nothing.
-use mathlib.Core.Path.{◌≡◌, sym, ◌∙◌}
+use mathlib.Core.Path.{◌≡◌, sym}
 use mathlib.Core.Bool.{true, false}
 use Prim.Native.Nat.{ℕ, zero, suc}
 use native.Mathlib.Omega.{arith}
 use borrow.Author.Tests.{ltb-true, ltb-false, le-leb, lt-leb}
-use lib.Dec.{leb, leb-suc-suc}
+use lib.Dec.{leb}
 use lib.IntN.{ℤ, pos, negsuc, neg_ℤ, nat_abs}
-use lib.Signed.{lt_z, le_z}
+use lib.Signed.{lt_z}
 
 clash : {A : Type 0} → false ≡ true → A
 clash e = absurd (let z : ◌≡◌ {A = ℕ} 0 1 = cc in omega arith)
@@ -21,13 +21,6 @@ too_low (negsuc n) (suc b) e = lt-leb (suc n) (suc b) (omega (arith, ltb-true b 
 pub too_high : (z : ℤ) (b : ℕ) → lt_z (pos b) z ≡ true → leb (nat_abs z) b ≡ false
 too_high (pos n) b e = lt-leb n b (ltb-true b n e)
 too_high (negsuc n) b e = clash e
-
--- at most b: what is left to ask is whether it is at least −b
-pub at_most : (z : ℤ) (b : ℕ) → lt_z (pos b) z ≡ false → le_z (neg_ℤ (pos b)) z ≡ leb (nat_abs z) b
-at_most (pos n) zero e = le-leb 0 n (omega arith) ∙ sym (le-leb n 0 (ltb-false 0 n e))
-at_most (pos n) (suc b) e = sym (le-leb n (suc b) (ltb-false (suc b) n e))
-at_most (negsuc n) zero e = sym (lt-leb (suc n) 0 (omega arith))
-at_most (negsuc n) (suc b) e = sym (leb-suc-suc n b)
 
 pub in_range_lem : (z : ℤ) (b : ℕ) → lt_z z (neg_ℤ (pos b)) ≡ false → lt_z (pos b) z ≡ false → leb (nat_abs z) b ≡ true
 in_range_lem (pos n) b d e = le-leb n b (ltb-false b n e)

@@ -1,10 +1,8 @@
 -- `checking::all_complete` meets its contract: the places left answer as all of them did. Assumes nothing.
 use mathlib.Core.Path.{sym, ap, ◌∙◌}
-use Prim.Native.Nat.{◌-◌}
 use native.Mathlib.Omega.{arith}
 use Rattle.area.specs.Records.{records_of}
 use Rattle.soundness.proofs.Exactly.{all_go, all_stop, all_end}
-use borrow.Author.Tests.{not-true, not-false}
 use Rattle.soundness.specs.Test.{all_from, place_complete_test, all_complete_test}
 use Rattle.checking.proofs.all_complete.Goals as goal
 
@@ -12,25 +10,13 @@ pub loop-place-init : goal.loop-place-init
 unfolding all_complete_test
 loop-place-init c = (omega arith, ap (λ n. all_from n 0 (place_complete_test c.args.axes (records_of c.args.cells.now))) (omega arith))
 
-pub place_complete-requires : goal.place_complete-requires
-place_complete-requires c = record {
-      axes_bound = c.requires.axes_bound;
-      place_in_bounds = omega (arith, c.requires.cells_len);
-    }
-
 pub returns-then-not-place_complete : goal.returns-then-not-place_complete
 returns-then-not-place_complete c =
     let l = c.loop-place in
     sym
     (l.invariant.1
     ∙ all_stop (place_complete_test c.args.axes (records_of c.args.cells.now)) c.args.held l.place (omega arith)
-    (sym c.place_complete.ensures ∙ not-true c.place_complete.result c.if-not-place_complete.true))
-
-pub overflow_add-place : goal.overflow_add-place
-overflow_add-place c = omega arith
-
-pub loop-place-smaller : goal.loop-place-smaller
-loop-place-smaller c = omega arith
+    (sym c.place_complete.ensures ∙ c.if-not-place_complete.true))
 
 pub loop-place-preserved : goal.loop-place-preserved
 loop-place-preserved c =
@@ -38,7 +24,7 @@ loop-place-preserved c =
       omega arith,
       l.invariant.1
           ∙ all_go (place_complete_test c.args.axes (records_of c.args.cells.now)) c.args.held l.place (omega arith)
-          (sym c.place_complete.ensures ∙ not-false c.place_complete.result c.if-not-place_complete.false),
+          (sym c.place_complete.ensures ∙ c.if-not-place_complete.false),
     )
 
 pub returns : goal.returns

@@ -1,5 +1,4 @@
 -- `checking::all_wanted_fit` meets its contract: the places left to ask answer as all of them did. Assumes nothing.
-use borrow.Author.Tests.{not-true, not-false}
 use mathlib.Core.Path.{◌≡◌, sym, ap, ◌∙◌}
 use Prim.Native.Nat.{◌-◌}
 use native.Mathlib.Omega.{arith}
@@ -17,27 +16,18 @@ loop-place-init c =
     let e : length rs ≡ c.args.held - 0 = omega arith in
     (omega arith, ap (λ n. all_from n 0 (wanted_test rs)) e)
 
-pub wanted_fits-requires : goal.wanted_fits-requires
-wanted_fits-requires c = omega arith
-
 pub returns-then-not-wanted_fits : goal.returns-then-not-wanted_fits
 returns-then-not-wanted_fits c =
     let l = c.loop-place in
     sym (l.invariant.1 ∙ all_stop (wanted_test (records_of c.args.cells.now)) c.args.held l.place (omega arith)
-    (sym c.wanted_fits.ensures ∙ not-true c.wanted_fits.result c.if-not-wanted_fits.true))
-
-pub overflow_add-place : goal.overflow_add-place
-overflow_add-place c = omega arith
-
-pub loop-place-smaller : goal.loop-place-smaller
-loop-place-smaller c = omega arith
+    (sym c.wanted_fits.ensures ∙ c.if-not-wanted_fits.true))
 
 pub loop-place-preserved : goal.loop-place-preserved
 loop-place-preserved c =
     let l = c.loop-place in (
       omega arith,
       l.invariant.1 ∙ all_go (wanted_test (records_of c.args.cells.now)) c.args.held l.place (omega arith)
-          (sym c.wanted_fits.ensures ∙ not-false c.wanted_fits.result c.if-not-wanted_fits.false),
+          (sym c.wanted_fits.ensures ∙ c.if-not-wanted_fits.false),
     )
 
 pub returns : goal.returns

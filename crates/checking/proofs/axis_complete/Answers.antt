@@ -1,6 +1,5 @@
 -- `checking::axis_complete` meets its contract: each question that answers decides the test, and past the last the axes that bar do. Assumes nothing.
 use mathlib.Core.Path.{sym, ◌∙◌}
-use Prim.Native.Nat.{◌-◌}
 use native.Mathlib.Omega.{arith}
 use Rattle.area.specs.Records.{records_of}
 use Rattle.area.specs.Encoding.{none}

@@ -1,6 +1,5 @@
 -- `checking::backward_link_fits` meets its contract: by the level along the axis. Assumes nothing.
 use mathlib.Core.Path.{sym, ap, ◌∙◌}
-use Prim.Native.Nat.{◌-◌}
 use native.Mathlib.Omega.{arith}
 use Rattle.area.specs.Records.{records_of}
 use lib.Dec.{eqb}
@@ -14,12 +13,6 @@ level_at-requires c = (in_cells_lem c.args.cells.now c.args.place (omega arith),
 
 pub link_at-requires : goal.link_at-requires
 link_at-requires c = (in_cells_lem c.args.cells.now c.args.place (omega arith), omega arith)
-
-pub backward_neighbour_fits-requires : goal.backward_neighbour_fits-requires
-backward_neighbour_fits-requires c = record {
-      cells_len = (omega arith, omega arith, omega arith);
-      bound = omega (arith, c.level_at.ensures, c.if-level_at-le1.false);
-    }
 
 pub returns-then-level_at-le1 : goal.returns-then-level_at-le1
 unfolding none

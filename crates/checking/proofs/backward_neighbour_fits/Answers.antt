@@ -1,9 +1,8 @@
 -- `checking::backward_neighbour_fits` meets its contract: each question that fails decides the test, and past the last the levels do. Assumes nothing.
-use mathlib.Core.Path.{sym, ap, ◌∙◌, subst}
-use Prim.Native.Nat.{◌-◌, ◌<◌}
+use mathlib.Core.Path.{sym, ap, ◌∙◌}
 use native.Mathlib.Omega.{arith}
 use Rattle.area.specs.Records.{records_of}
-use Rattle.grid.specs.Index.{level, backward}
+use Rattle.grid.specs.Index.{backward}
 use Rattle.grid.specs.Coefficient.{same_levels}
 use Rattle.soundness.specs.Held.{levels_at}
 use Rattle.soundness.specs.Test.{backward_neighbour_test}
@@ -45,10 +44,6 @@ returns-then-link_at-place c =
 
 pub levels_at-levels-requires : goal.levels_at-levels-requires
 levels_at-levels-requires c = in_cells_lem c.args.cells.now c.args.place (omega arith)
-
-pub backward_neighbour-requires : goal.backward_neighbour-requires
-backward_neighbour-requires c =
-    (c.requires.cells_len.2, subst (λ k. 1 < level k c.args.axis) (sym c.levels_at-levels.ensures) c.requires.bound)
 
 pub levels_are-requires : goal.levels_are-requires
 levels_are-requires c = in_cells_lem c.args.cells.now c.link_at-behind.result (omega arith)

@@ -1,20 +1,10 @@
 -- `checking::barred` meets its contract: the axes left answer as all of them did. Assumes nothing.
-use mathlib.Core.Path.{sym, ap, ◌∙◌}
-use Prim.Native.Nat.{◌-◌}
+use mathlib.Core.Path.{sym, ◌∙◌}
 use native.Mathlib.Omega.{arith}
 use Rattle.area.specs.Records.{records_of}
 use Rattle.soundness.proofs.Exactly.{any_go, any_stop, any_end}
-use Rattle.soundness.specs.Test.{any_from, bars_test}
+use Rattle.soundness.specs.Test.{bars_test}
 use Rattle.checking.proofs.barred.Goals as goal
-
-pub loop-other-init : goal.loop-other-init
-loop-other-init c = (omega arith, ap (λ n. any_from n 0 (bars_test (records_of c.args.cells.now) c.args.place c.args.axis)) (omega arith))
-
-pub bars-requires : goal.bars-requires
-bars-requires c = record {
-      axes_bound = c.requires.axes_bound;
-      place_in_bounds = (c.requires.place_in_bounds.0, c.requires.place_in_bounds.1, omega arith);
-    }
 
 pub returns-then-bars : goal.returns-then-bars
 returns-then-bars c =
@@ -22,12 +12,6 @@ returns-then-bars c =
     sym
     (l.invariant.1
     ∙ any_stop (bars_test (records_of c.args.cells.now) c.args.place c.args.axis) c.args.axes l.other (omega arith) (sym c.bars.ensures ∙ c.if-bars.true))
-
-pub overflow_add-other : goal.overflow_add-other
-overflow_add-other c = omega arith
-
-pub loop-other-smaller : goal.loop-other-smaller
-loop-other-smaller c = omega arith
 
 pub loop-other-preserved : goal.loop-other-preserved
 loop-other-preserved c =

@@ -14,12 +14,12 @@ first_at-requires c = omega (arith, length-records_of c.args.cells.now)
 pub returns-then-first_at-first : goal.returns-then-first_at-first
 returns-then-first_at-first c =
     sym (elsewhere (records_of c.args.cells.now) c.args.place c.args.settings c.args.store.now
-    (λ e. c.if-first_at-first.true (c.first_at.ensures ∙ e ∙ sym c.requires.first_value.0.0)))
+    (λ e. c.if-first_at-first.true (c.first_at.ensures ∙ e ∙ sym c.requires.first_value.0)))
 
 pub returns-then-least_store-first : goal.returns-then-least_store-first
 returns-then-least_store-first c =
     sym (too_far (records_of c.args.cells.now) c.args.place c.args.settings c.args.store.now
-    (sym c.first_at.ensures ∙ c.if-first_at-first.false ∙ c.requires.first_value.0.0) (omega arith))
+    (sym c.first_at.ensures ∙ c.if-first_at-first.false ∙ c.requires.first_value.0) (omega arith))
 
 pub state_at-requires : goal.state_at-requires
 state_at-requires c = omega (arith, length-records_of c.args.cells.now)
@@ -27,16 +27,13 @@ state_at-requires c = omega (arith, length-records_of c.args.cells.now)
 pub returns-then-state_at-eq-WANTED : goal.returns-then-state_at-eq-WANTED
 returns-then-state_at-eq-WANTED c =
     sym (not-read (records_of c.args.cells.now) c.args.place c.args.settings c.args.store.now
-    (sym c.first_at.ensures ∙ c.if-first_at-first.false ∙ c.requires.first_value.0.0) (omega arith) (sym c.state_at.ensures ∙ c.if-state_at-eq-WANTED.true))
-
-pub readings_fit-requires : goal.readings_fit-requires
-readings_fit-requires c = omega (arith, c.least_store.ensures)
+    (sym c.first_at.ensures ∙ c.if-first_at-first.false ∙ c.requires.first_value.0) (omega arith) (sym c.state_at.ensures ∙ c.if-state_at-eq-WANTED.true))
 
 pub returns : goal.returns
 returns c =
     let store = c.args.store.now in
     c.readings_fit.ensures
-    ∙ ap₂ (λ n i. all_from n i (reading_test store)) c.requires.first_value.1.0 c.requires.first_value.0.0
+    ∙ ap₂ (λ n i. all_from n i (reading_test store)) c.requires.count_value.0 c.requires.first_value.0
     ∙ sym (by_readings (records_of c.args.cells.now) c.args.place c.args.settings store
-    (sym c.first_at.ensures ∙ c.if-first_at-first.false ∙ c.requires.first_value.0.0) (omega arith)
+    (sym c.first_at.ensures ∙ c.if-first_at-first.false ∙ c.requires.first_value.0) (omega arith)
     (λ e. c.if-state_at-eq-WANTED.false (c.state_at.ensures ∙ e)))

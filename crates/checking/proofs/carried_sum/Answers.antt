@@ -1,14 +1,14 @@
 -- `checking::carried_sum` meets its contract: the old places passed that are at a ceiling have added their indicators. Assumes nothing.
 use borrow.Author.Tests.{eq-eqb, ne_eqb}
-use mathlib.Core.Path.{◌≡◌, refl, sym, ap, ◌∙◌, subst}
-use mathlib.Core.Logic.{◌≢◌, ⊎_elim}
+use mathlib.Core.Path.{◌≡◌, refl, sym, ap, ◌∙◌}
+use mathlib.Core.Logic.{◌≢◌}
 use mathlib.Core.Bool.{true, false}
 use mathlib.Core.List.{List}
-use Prim.Native.Nat.{ℕ, ◌-◌}
+use Prim.Native.Nat.{ℕ}
 use native.Mathlib.Omega.{arith}
 use lib.ListN.{length}
 use Rattle.sums.specs.Sums.{nat_sum_to}
-use Rattle.grid.specs.Index.{Within, at_ceiling}
+use Rattle.grid.specs.Index.{at_ceiling}
 use Rattle.area.specs.declared.IndexRecord.{IndexRecord}
 use Rattle.area.specs.Records.{records_of}
 use Rattle.area.proofs.Records.{length-records_of}
@@ -17,6 +17,7 @@ use Rattle.soundness.specs.Held.{levels_at, state_at}
 use Rattle.soundness.specs.Totals.{carried_in}
 use Rattle.checking.proofs.Blocks.{sum_next}
 use Rattle.checking.proofs.carried_sum.Invariants.{carried}
+use Rattle.checking.proofs.carried_sum.Goals.{then-state_at-eq-OLD+then-at_ceiling, then-state_at-eq-OLD+else-at_ceiling, else-state_at-eq-OLD}
 use Rattle.checking.proofs.carried_sum.Goals as goal
 
 module _ (rs : List IndexRecord) (p : ℕ) where
@@ -38,24 +39,8 @@ state_at-requires c = omega (arith, length-records_of c.args.cells.now)
 pub levels_at-requires : goal.levels_at-requires
 levels_at-requires c = omega (arith, length-records_of c.args.cells.now)
 
-pub at_ceiling-requires : goal.at_ceiling-requires
-at_ceiling-requires c =
-    subst Within (sym c.levels_at.ensures) (c.requires.by_index c.loop-place.place (omega arith))
-
 pub indicator_at-requires : goal.indicator_at-requires
 indicator_at-requires c = omega (arith, length-records_of c.args.cells.now)
-
-pub overflow_cast-sum : goal.overflow_cast-sum
-overflow_cast-sum c = omega arith
-
-pub overflow_add-sum : goal.overflow_add-sum
-overflow_add-sum c = omega arith
-
-pub overflow_add-place : goal.overflow_add-place
-overflow_add-place c = omega arith
-
-pub loop-place-smaller : goal.loop-place-smaller
-loop-place-smaller c = omega arith
 
 pub loop-place-preserved : goal.loop-place-preserved
 loop-place-preserved c =
@@ -63,20 +48,21 @@ loop-place-preserved c =
     let l = c.loop-place in
     let next = sum_next l.place (carried rs) in
     let state = c.state_at.ensures in
-    ⊎_elim (λ w.
-    let ceiling = sym (w.2.ensures ∙ ap (at_ceiling 8) w.1.ensures) in (
-      omega arith,
-      omega (arith, w.5, w.4.ok),
-      omega (arith, w.5, next, its_own rs l.place (sym state ∙ w.0.taken) (ceiling ∙ w.3.taken), w.4.ensures),
-    ))
-    (⊎_elim (λ w.
-    let ceiling = sym (w.2.ensures ∙ ap (at_ceiling 8) w.1.ensures) in (
-      omega arith,
-      omega (arith, w.4),
-      omega (arith, w.4, next, not_there rs l.place (sym state ∙ w.0.taken) (ceiling ∙ w.3.left)),
-    ))
-    (λ w. (omega arith, omega (arith, w.1), omega (arith, w.1, next, not_old rs l.place (λ e. w.0.left (state ∙ e))))))
-    c.if-state_at-eq-OLD.branch
+    elim c.if-state_at-eq-OLD.branch [
+      | then-state_at-eq-OLD+then-at_ceiling w ↦
+          let ceiling = sym (w.at_ceiling.ensures ∙ ap (at_ceiling 8) w.levels_at.ensures) in (
+            omega arith,
+            omega (arith, w.sum-is),
+            omega (arith, w.sum-is, next, its_own rs l.place (sym state ∙ w.if-state_at-eq-OLD.true) (ceiling ∙ w.if-at_ceiling.true), w.indicator_at.ensures),
+          )
+      | then-state_at-eq-OLD+else-at_ceiling w ↦
+          let ceiling = sym (w.at_ceiling.ensures ∙ ap (at_ceiling 8) w.levels_at.ensures) in (
+            omega arith,
+            omega (arith, w.sum-is),
+            omega (arith, w.sum-is, next, not_there rs l.place (sym state ∙ w.if-state_at-eq-OLD.true) (ceiling ∙ w.if-at_ceiling.false)),
+          )
+      | else-state_at-eq-OLD w ↦ (omega arith, omega (arith, w.sum-is), omega (arith, w.sum-is, next, not_old rs l.place (λ e. w.if-state_at-eq-OLD.false (state ∙ e))))
+    ]
 
 pub returns : goal.returns
 unfolding carried_in

@@ -1,9 +1,9 @@
 -- `checking::delivered_count` meets its contract: the places passed have been counted. Assumes nothing.
 use borrow.Author.Tests.{eq-eqb, ne_eqb}
 use mathlib.Core.Path.{◌≡◌, refl, sym, ap, ◌∙◌}
-use mathlib.Core.Logic.{◌≢◌, ⊎_elim}
+use mathlib.Core.Logic.{◌≢◌}
 use mathlib.Core.List.{List}
-use Prim.Native.Nat.{ℕ, ◌-◌}
+use Prim.Native.Nat.{ℕ}
 use native.Mathlib.Omega.{arith}
 use lib.ListN.{length}
 use Rattle.sums.specs.Sums.{nat_sum_to}
@@ -14,6 +14,7 @@ use Rattle.soundness.specs.Held.{state_at}
 use Rattle.soundness.specs.Totals.{delivered_count}
 use Rattle.checking.proofs.Blocks.{sum_next}
 use Rattle.checking.proofs.delivered_count.Invariants.{delivered}
+use Rattle.checking.proofs.delivered_count.Goals.{then-state_at-ne-WANTED, else-state_at-ne-WANTED}
 use Rattle.checking.proofs.delivered_count.Goals as goal
 
 module _ (rs : List IndexRecord) (p : ℕ) where
@@ -29,23 +30,16 @@ loop-place-init c = (omega arith, omega arith, unfold nat_sum_to in refl)
 pub state_at-requires : goal.state_at-requires
 state_at-requires c = omega (arith, length-records_of c.args.cells.now)
 
-pub overflow_add-count : goal.overflow_add-count
-overflow_add-count c = omega arith
-
-pub overflow_add-place : goal.overflow_add-place
-overflow_add-place c = omega arith
-
-pub loop-place-smaller : goal.loop-place-smaller
-loop-place-smaller c = omega arith
-
 pub loop-place-preserved : goal.loop-place-preserved
 loop-place-preserved c =
     let rs = records_of c.args.cells.now in
     let l = c.loop-place in
     let next = sum_next l.place (delivered rs) in
     let state = c.state_at.ensures in
-    ⊎_elim (λ w. (omega arith, omega (arith, w.1), omega (arith, w.1, next, one rs l.place (λ e. w.0.taken (state ∙ e)))))
-    (λ w. (omega arith, omega (arith, w.1), omega (arith, w.1, next, nothing rs l.place (sym state ∙ w.0.left)))) c.if-state_at-ne-WANTED.branch
+    elim c.if-state_at-ne-WANTED.branch [
+      | then-state_at-ne-WANTED w ↦ (omega arith, omega (arith, w.count-is), omega (arith, w.count-is, next, one rs l.place (λ e. w.if-state_at-ne-WANTED.true (state ∙ e))))
+      | else-state_at-ne-WANTED w ↦ (omega arith, omega (arith, w.count-is), omega (arith, w.count-is, next, nothing rs l.place (sym state ∙ w.if-state_at-ne-WANTED.false)))
+    ]
 
 pub returns : goal.returns
 unfolding delivered_count

@@ -1,6 +1,5 @@
 -- `checking::forward_link_fits` meets its contract: none, or the place that is named answers. Assumes nothing.
 use mathlib.Core.Path.{sym, ap, ◌∙◌}
-use Prim.Native.Nat.{◌-◌}
 use native.Mathlib.Omega.{arith}
 use Rattle.area.specs.Records.{records_of}
 use lib.Dec.{eqb}

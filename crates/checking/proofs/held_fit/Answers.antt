@@ -1,8 +1,6 @@
 -- `checking::held_fit` meets its contract: each part that fails decides the test, and past the last the recorded numbers do. Assumes nothing.
 use mathlib.Core.Path.{sym, ◌∙◌}
-use Prim.Native.Nat.{◌-◌}
 use Rattle.area.specs.Records.{records_of}
-use borrow.Author.Tests.{not-true, not-false}
 use Rattle.checking.proofs.Whole.{held_no_place, held_not_complete, held_no_wanted, held_no_blocks, held_numbers}
 use Rattle.checking.proofs.held_fit.Goals as goal
 
@@ -11,49 +9,28 @@ returns-then-not-places_fit c =
     let j = c.args.job in
     let rs = records_of c.args.cells.now in
     let store = c.args.store.now in
-    sym (held_no_place j rs store (sym c.places_fit.ensures ∙ not-true c.places_fit.result c.if-not-places_fit.true))
-
-pub all_complete-requires : goal.all_complete-requires
-all_complete-requires c = record {
-      axes_bound = (c.requires.settings_fit.0.axes.1, sym c.places_fit.ensures ∙ not-false c.places_fit.result c.if-not-places_fit.false);
-      cells_len = c.requires.cells_len.0;
-    }
+    sym (held_no_place j rs store (sym c.places_fit.ensures ∙ c.if-not-places_fit.true))
 
 pub returns-then-not-all_complete : goal.returns-then-not-all_complete
 returns-then-not-all_complete c =
     let j = c.args.job in
     let rs = records_of c.args.cells.now in
     let store = c.args.store.now in
-    sym (held_not_complete j rs store (sym c.places_fit.ensures ∙ not-false c.places_fit.result c.if-not-places_fit.false) (sym c.all_complete.ensures ∙ not-true c.all_complete.result c.if-not-all_complete.true))
+    sym (held_not_complete j rs store (sym c.places_fit.ensures ∙ c.if-not-places_fit.false) (sym c.all_complete.ensures ∙ c.if-not-all_complete.true))
 
 pub returns-then-not-all_wanted_fit : goal.returns-then-not-all_wanted_fit
 returns-then-not-all_wanted_fit c =
     let j = c.args.job in
     let rs = records_of c.args.cells.now in
     let store = c.args.store.now in
-    sym (held_no_wanted j rs store (sym c.places_fit.ensures ∙ not-false c.places_fit.result c.if-not-places_fit.false) (sym c.all_complete.ensures ∙ not-false c.all_complete.result c.if-not-all_complete.false) (sym c.all_wanted_fit.ensures ∙ not-true c.all_wanted_fit.result c.if-not-all_wanted_fit.true))
-
-pub blocks_fit-requires : goal.blocks_fit-requires
-blocks_fit-requires c =
-    record {
-      settings_fit = (c.requires.settings_fit.0, sym c.places_fit.ensures ∙ not-false c.places_fit.result c.if-not-places_fit.false);
-      cells_len = c.requires.cells_len;
-    }
+    sym (held_no_wanted j rs store (sym c.places_fit.ensures ∙ c.if-not-places_fit.false) (sym c.all_complete.ensures ∙ c.if-not-all_complete.false) (sym c.all_wanted_fit.ensures ∙ c.if-not-all_wanted_fit.true))
 
 pub returns-then-not-blocks_fit : goal.returns-then-not-blocks_fit
 returns-then-not-blocks_fit c =
     let j = c.args.job in
     let rs = records_of c.args.cells.now in
     let store = c.args.store.now in
-    sym (held_no_blocks j rs store (sym c.places_fit.ensures ∙ not-false c.places_fit.result c.if-not-places_fit.false) (sym c.all_complete.ensures ∙ not-false c.all_complete.result c.if-not-all_complete.false) (sym c.all_wanted_fit.ensures ∙ not-false c.all_wanted_fit.result c.if-not-all_wanted_fit.false) (sym c.blocks_fit.ensures ∙ not-true c.blocks_fit.result c.if-not-blocks_fit.true))
-
-pub numbers_fit-requires : goal.numbers_fit-requires
-numbers_fit-requires c =
-    let places = c.places_fit in
-    record {
-      settings_fit = (c.requires.settings_fit.0, c.requires.settings_fit.1, c.requires.cells_len.0);
-      cells_value = sym places.ensures ∙ not-false places.result c.if-not-places_fit.false;
-    }
+    sym (held_no_blocks j rs store (sym c.places_fit.ensures ∙ c.if-not-places_fit.false) (sym c.all_complete.ensures ∙ c.if-not-all_complete.false) (sym c.all_wanted_fit.ensures ∙ c.if-not-all_wanted_fit.false) (sym c.blocks_fit.ensures ∙ c.if-not-blocks_fit.true))
 
 pub returns : goal.returns
 returns c =
@@ -66,4 +43,4 @@ returns c =
     let blocks = c.blocks_fit in
     c.numbers_fit.ensures
     ∙ sym
-    (held_numbers j rs store (sym places.ensures ∙ not-false places.result c.if-not-places_fit.false) (sym complete.ensures ∙ not-false complete.result c.if-not-all_complete.false) (sym wanted.ensures ∙ not-false wanted.result c.if-not-all_wanted_fit.false) (sym blocks.ensures ∙ not-false blocks.result c.if-not-blocks_fit.false))
+    (held_numbers j rs store (sym places.ensures ∙ c.if-not-places_fit.false) (sym complete.ensures ∙ c.if-not-all_complete.false) (sym wanted.ensures ∙ c.if-not-all_wanted_fit.false) (sym blocks.ensures ∙ c.if-not-blocks_fit.false))

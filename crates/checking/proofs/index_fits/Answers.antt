@@ -1,31 +1,24 @@
 -- `checking::index_fits` meets its contract: the axes left beyond the last answer as all of them did. Assumes nothing.
 use borrow.Author.Rules.{rules}
 use mathlib.Core.Path.{sym, ◌∙◌}
-use Prim.Native.Nat.{◌-◌}
 use native.Mathlib.Omega.{arith}
 use Rattle.soundness.proofs.Exactly.{all_go, all_stop, all_end}
 use lib.Dec.{eqb}
-use borrow.Author.Tests.{eq-eqb, ne_eqb, not-true, not-false}
+use borrow.Author.Tests.{eq-eqb, ne_eqb}
 use Rattle.grid.specs.Index.{level}
 use Rattle.checking.proofs.Passes.{index_above, index_beyond}
 use Rattle.checking.proofs.index_fits.Goals as goal
 
 pub returns-then-not-within_ceilings : goal.returns-then-not-within_ceilings
 returns-then-not-within_ceilings c =
-    sym (index_above c.args.axes c.args.levels (sym c.within_ceilings.ensures ∙ not-true c.within_ceilings.result c.if-not-within_ceilings.true))
+    sym (index_above c.args.axes c.args.levels (sym c.within_ceilings.ensures ∙ c.if-not-within_ceilings.true))
 
 pub loop-axis-init : goal.loop-axis-init
 loop-axis-init c = (
   omega arith,
   search rules,
-  index_beyond c.args.axes c.args.levels (sym c.within_ceilings.ensures ∙ not-false c.within_ceilings.result c.if-not-within_ceilings.false),
+  index_beyond c.args.axes c.args.levels (sym c.within_ceilings.ensures ∙ c.if-not-within_ceilings.false),
 )
-
-pub offset_bounds-levels-axis : goal.offset_bounds-levels-axis
-offset_bounds-levels-axis c = omega arith
-
-pub bounds-levels-axis : goal.bounds-levels-axis
-bounds-levels-axis c = omega arith
 
 pub returns-then-levels-axis-ne1 : goal.returns-then-levels-axis-ne1
 returns-then-levels-axis-ne1 c =
@@ -33,12 +26,6 @@ returns-then-levels-axis-ne1 c =
     sym
     (l.invariant.2
     ∙ all_stop (λ a. eqb (level c.args.levels a) 1) 8 l.axis (omega arith) (ne_eqb (level c.args.levels l.axis) 1 c.if-levels-axis-ne1.true))
-
-pub overflow_add-axis : goal.overflow_add-axis
-overflow_add-axis c = omega arith
-
-pub loop-axis-smaller : goal.loop-axis-smaller
-loop-axis-smaller c = omega arith
 
 pub loop-axis-preserved : goal.loop-axis-preserved
 loop-axis-preserved c =

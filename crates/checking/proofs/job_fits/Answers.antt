@@ -1,5 +1,4 @@
 -- `checking::job_fits` meets its contract: a number out of range refutes what the test reads as. Assumes nothing.
-use borrow.Author.Tests.{not-true, not-false}
 use mathlib.Core.Path.{◌≡◌, sym, ◌∙◌}
 use Prim.Native.Nat.{ℕ}
 use native.Mathlib.Omega.{arith}
@@ -18,7 +17,7 @@ returns-then-readings-least_store c =
 
 pub returns-then-not-settings_fit : goal.returns-then-not-settings_fit
 returns-then-not-settings_fit c =
-    let no = not-true c.settings_fit.result c.if-not-settings_fit.true in
+    let no = c.if-not-settings_fit.true in
     sym (refuted _ (reads_job c.args.job c.args.records c.args.readings) (λ f.
     let yes = c.settings_fit.ensures ∙ (reads_settings c.args.job.settings).back f.settings in
     let z : ◌≡◌ {A = ℕ} 0 1 = cc in
@@ -30,7 +29,7 @@ returns-then-job-lt1 c =
 
 pub returns : goal.returns
 returns c =
-    let fit = sym c.settings_fit.ensures ∙ not-false c.settings_fit.result c.if-not-settings_fit.false in
+    let fit = sym c.settings_fit.ensures ∙ c.if-not-settings_fit.false in
     same _ _ (reads_le c.args.job.held 512) (reads_job c.args.job c.args.records c.args.readings)
     (λ h. record {
       long = omega arith;

@@ -1,9 +1,9 @@
 -- `checking::pending_sum` meets its contract: the places passed have added their indicators. Assumes nothing.
 use borrow.Author.Tests.{eq-eqb, ne_eqb}
 use mathlib.Core.Path.{◌≡◌, refl, sym, ap, ◌∙◌}
-use mathlib.Core.Logic.{◌≢◌, ⊎_elim}
+use mathlib.Core.Logic.{◌≢◌}
 use mathlib.Core.List.{List}
-use Prim.Native.Nat.{ℕ, ◌-◌}
+use Prim.Native.Nat.{ℕ}
 use native.Mathlib.Omega.{arith}
 use lib.ListN.{length}
 use Rattle.sums.specs.Sums.{nat_sum_to}
@@ -15,6 +15,7 @@ use Rattle.soundness.specs.Held.{state_at}
 use Rattle.soundness.specs.Totals.{pending_in}
 use Rattle.checking.proofs.Blocks.{sum_next}
 use Rattle.checking.proofs.pending_sum.Invariants.{active}
+use Rattle.checking.proofs.pending_sum.Goals.{then-state_at-eq-ACTIVE, else-state_at-eq-ACTIVE}
 use Rattle.checking.proofs.pending_sum.Goals as goal
 
 module _ (rs : List IndexRecord) (p : ℕ) where
@@ -33,30 +34,20 @@ state_at-requires c = omega (arith, length-records_of c.args.cells.now)
 pub indicator_at-requires : goal.indicator_at-requires
 indicator_at-requires c = omega (arith, length-records_of c.args.cells.now)
 
-pub overflow_cast-sum : goal.overflow_cast-sum
-overflow_cast-sum c = omega arith
-
-pub overflow_add-sum : goal.overflow_add-sum
-overflow_add-sum c = omega arith
-
-pub overflow_add-place : goal.overflow_add-place
-overflow_add-place c = omega arith
-
-pub loop-place-smaller : goal.loop-place-smaller
-loop-place-smaller c = omega arith
-
 pub loop-place-preserved : goal.loop-place-preserved
 loop-place-preserved c =
     let rs = records_of c.args.cells.now in
     let l = c.loop-place in
     let next = sum_next l.place (active rs) in
     let state = c.state_at.ensures in
-    ⊎_elim (λ w. (
-      omega arith,
-      omega (arith, w.2, w.1.ok),
-      omega (arith, w.2, next, its_own rs l.place (sym state ∙ w.0.taken), w.1.ensures),
-    ))
-    (λ w. (omega arith, omega (arith, w.1), omega (arith, w.1, next, nothing rs l.place (λ e. w.0.left (state ∙ e))))) c.if-state_at-eq-ACTIVE.branch
+    elim c.if-state_at-eq-ACTIVE.branch [
+      | then-state_at-eq-ACTIVE w ↦ (
+        omega arith,
+        omega (arith, w.sum-is),
+        omega (arith, w.sum-is, next, its_own rs l.place (sym state ∙ w.if-state_at-eq-ACTIVE.true), w.indicator_at.ensures),
+      )
+      | else-state_at-eq-ACTIVE w ↦ (omega arith, omega (arith, w.sum-is), omega (arith, w.sum-is, next, nothing rs l.place (λ e. w.if-state_at-eq-ACTIVE.false (state ∙ e))))
+    ]
 
 pub returns : goal.returns
 unfolding pending_in

@@ -1,11 +1,9 @@
 -- `checking::place_complete` meets its contract: an old index with room, along every axis: the axes left answer as all of them did. Assumes nothing.
 use mathlib.Core.Path.{sym, ap, ◌∙◌}
-use Prim.Native.Nat.{◌-◌}
 use native.Mathlib.Omega.{arith}
 use Rattle.area.specs.Records.{records_of}
 use Rattle.soundness.proofs.Exactly.{all_go, all_stop, all_end}
 use mathlib.Core.Path.{subst}
-use borrow.Author.Tests.{not-true, not-false}
 use Rattle.grid.specs.Index.{excess, Within}
 use Rattle.soundness.specs.Test.{all_from, axis_complete_test}
 use Rattle.checking.proofs.Cells.{in_cells_lem}
@@ -41,25 +39,13 @@ loop-axis-init c =
           ∙ ap (λ n. all_from n 0 (axis_complete_test c.args.axes rs c.args.place)) (omega arith),
     )
 
-pub axis_complete-requires : goal.axis_complete-requires
-axis_complete-requires c = record {
-      axes_bound = c.requires.axes_bound;
-      place_in_bounds = (c.requires.place_in_bounds, omega arith);
-    }
-
 pub returns-then-not-axis_complete : goal.returns-then-not-axis_complete
 returns-then-not-axis_complete c =
     let l = c.loop-axis in
     sym
     (l.invariant.1
     ∙ all_stop (axis_complete_test c.args.axes (records_of c.args.cells.now) c.args.place) c.args.axes l.axis (omega arith)
-    (sym c.axis_complete.ensures ∙ not-true c.axis_complete.result c.if-not-axis_complete.true))
-
-pub overflow_add-axis : goal.overflow_add-axis
-overflow_add-axis c = omega arith
-
-pub loop-axis-smaller : goal.loop-axis-smaller
-loop-axis-smaller c = omega arith
+    (sym c.axis_complete.ensures ∙ c.if-not-axis_complete.true))
 
 pub loop-axis-preserved : goal.loop-axis-preserved
 loop-axis-preserved c =
@@ -67,7 +53,7 @@ loop-axis-preserved c =
       omega arith,
       l.invariant.1
           ∙ all_go (axis_complete_test c.args.axes (records_of c.args.cells.now) c.args.place) c.args.axes l.axis (omega arith)
-          (sym c.axis_complete.ensures ∙ not-false c.axis_complete.result c.if-not-axis_complete.false),
+          (sym c.axis_complete.ensures ∙ c.if-not-axis_complete.false),
     )
 
 pub returns : goal.returns

@@ -1,10 +1,8 @@
 -- `checking::places_fit` meets its contract: the places left answer as all of them did. Assumes nothing.
 use mathlib.Core.Path.{sym, ap, ◌∙◌}
-use Prim.Native.Nat.{◌-◌}
 use native.Mathlib.Omega.{arith}
 use Rattle.area.specs.Records.{records_of}
 use Rattle.soundness.proofs.Exactly.{all_go, all_stop, all_end}
-use borrow.Author.Tests.{not-true, not-false}
 use Rattle.soundness.specs.Test.{all_from, place_test, places_test}
 use Rattle.checking.proofs.places_fit.Goals as goal
 
@@ -12,22 +10,13 @@ pub loop-place-init : goal.loop-place-init
 unfolding places_test
 loop-place-init c = (omega arith, ap (λ n. all_from n 0 (place_test c.args.axes (records_of c.args.cells.now))) (omega arith))
 
-pub place_fits-requires : goal.place_fits-requires
-place_fits-requires c = (c.requires.0, c.requires.1, omega arith)
-
 pub returns-then-not-place_fits : goal.returns-then-not-place_fits
 returns-then-not-place_fits c =
     let l = c.loop-place in
     sym
     (l.invariant.1
     ∙ all_stop (place_test c.args.axes (records_of c.args.cells.now)) c.args.held l.place (omega arith)
-    (sym c.place_fits.ensures ∙ not-true c.place_fits.result c.if-not-place_fits.true))
-
-pub overflow_add-place : goal.overflow_add-place
-overflow_add-place c = omega arith
-
-pub loop-place-smaller : goal.loop-place-smaller
-loop-place-smaller c = omega arith
+    (sym c.place_fits.ensures ∙ c.if-not-place_fits.true))
 
 pub loop-place-preserved : goal.loop-place-preserved
 loop-place-preserved c =
@@ -35,7 +24,7 @@ loop-place-preserved c =
       omega arith,
       l.invariant.1
           ∙ all_go (place_test c.args.axes (records_of c.args.cells.now)) c.args.held l.place (omega arith)
-          (sym c.place_fits.ensures ∙ not-false c.place_fits.result c.if-not-place_fits.false),
+          (sym c.place_fits.ensures ∙ c.if-not-place_fits.false),
     )
 
 pub returns : goal.returns

@@ -1,7 +1,10 @@
 -- `checking::root_fits` meets its contract: the root is the one index without excess; the answer is turned round past place 0. Assumes nothing.
-use mathlib.Core.Path.{◌≡◌, sym, ap, ◌∙◌, subst}
+use mathlib.Core.Path.{◌≡◌, sym, ap, ◌∙◌}
 use mathlib.Core.Bool.{not}
+use mathlib.Core.List.{List}
+use Prim.Native.Nat.{ℕ, ◌<◌}
 use lib.Dec.{eqb}
+use lib.ListN.{length}
 use Rattle.grid.specs.Index.{excess, Within, root}
 use Rattle.grid.specs.Coefficient.{same_levels}
 use Rattle.area.specs.Records.{records_of}
@@ -13,21 +16,17 @@ use Rattle.checking.proofs.root_fits.Goals as goal
 pub levels_at-requires : goal.levels_at-requires
 levels_at-requires c = in_cells_lem c.args.cells.now c.args.place c.requires.0
 
-pub excess_of-is_root-requires : goal.excess_of-is_root-requires
-excess_of-is_root-requires c = subst Within (sym c.levels_at.ensures) c.requires.1
-
 -- the code's answer is that of the comparison with the root
-is-root : (c : tie.After-excess-of) → eqb c.excess-of.result 0 ≡ same_levels (levels_at (records_of c.before.before.before.args.cells.now) c.before.before.before.args.place) root
-is-root c =
-    let s = c.before.before.before in
-    let cells = s.args.cells.now in
-    ap (λ n. eqb n 0) (c.excess-of.ensures ∙ ap excess c.before.levels-at.ensures)
-    ∙ root_by_excess (levels_at (records_of cells) s.args.place) (formed cells s.args.place s.requires.0) s.requires.1
+is_root : (cells : List ℕ) {p n : ℕ} {k : List ℕ} → p < length (records_of cells) → Within (levels_at (records_of cells) p)
+    → n ≡ excess k → k ≡ levels_at (records_of cells) p → eqb n 0 ≡ same_levels (levels_at (records_of cells) p) root
+is_root cells {p = p} held within e f = rw (e, f) (root_by_excess (levels_at (records_of cells) p) (formed cells p held) within)
 
 pub returns-then-place-eq0 : goal.returns-then-place-eq0
 returns-then-place-eq0 c =
-    is-root c ∙ sym (root_here (records_of c.args.cells.now) c.args.place c.if-place-eq0.true)
+    is_root c.args.cells.now c.requires.0 c.requires.1 c.excess_of-is_root.ensures c.levels_at.ensures
+    ∙ sym (root_here (records_of c.args.cells.now) c.args.place c.if-place-eq0.true)
 
 pub returns-else-place-eq0 : goal.returns-else-place-eq0
 returns-else-place-eq0 c =
-    ap not (is-root c) ∙ sym (root_elsewhere (records_of c.args.cells.now) c.args.place c.if-place-eq0.false)
+    ap not (is_root c.args.cells.now c.requires.0 c.requires.1 c.excess_of-is_root.ensures c.levels_at.ensures)
+    ∙ sym (root_elsewhere (records_of c.args.cells.now) c.args.place c.if-place-eq0.false)

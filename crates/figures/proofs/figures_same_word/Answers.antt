@@ -22,24 +22,23 @@ told_both k l v w h e f =
     rw (t.0, u.0, same_words k l h ((pack_facts.tested k).0 t.0) ((pack_facts.tested l).0 u.0), t.1, u.1)
 
 pub returns-in_default : goal.returns-in_default
-returns-in_default c =
-    rw (told_larger c.args.left.now (sym c.pack.ensures ∙ c.enum_told-1.given.1))
+returns-in_default c = rw (told_larger c.args.left.now (sym c.pack.ensures ∙ c.in_default.is))
 
 pub returns-in_default-pack : goal.returns-in_default-pack
 returns-in_default-pack c =
-    let t = told_word c.args.left.now c.first-1.given.0.0 (sym c.pack.ensures ∙ c.first-1.given.1) in
-    rw (t.0, told_larger c.args.right.now (sym c.pack-2.ensures ∙ c.enum_told-in_default-pack-1.given.1))
+    let t = told_word c.args.left.now c.in-Word.first (sym c.pack.ensures ∙ c.in-Word.is) in
+    rw (t.0, told_larger c.args.right.now (sym c.pack-2.ensures ∙ c.in_default-pack.is))
 
 pub returns-then-first-second : goal.returns-then-first-second
 returns-then-first-second c =
     sym
-    (told_both c.args.left.now c.args.right.now c.first-1.given.0.0 c.second-1.given.0.0 (c.requires.0 ∙ sym c.requires.1) (sym c.pack.ensures ∙ c.first-1.given.1)
-    (sym c.pack-2.ensures ∙ c.second-1.given.1)
+    (told_both c.args.left.now c.args.right.now c.in-Word.first c.in-Word-pack.second (c.requires.0 ∙ sym c.requires.1) (sym c.pack.ensures ∙ c.in-Word.is)
+    (sym c.pack-2.ensures ∙ c.in-Word-pack.is)
     ∙ ap (λ t. cond t 1 0) (eq-eqb _ _ c.if-first-second.true))
 
 pub returns-else-first-second : goal.returns-else-first-second
 returns-else-first-second c =
     sym
-    (told_both c.args.left.now c.args.right.now c.first-1.given.0.0 c.second-1.given.0.0 (c.requires.0 ∙ sym c.requires.1) (sym c.pack.ensures ∙ c.first-1.given.1)
-    (sym c.pack-2.ensures ∙ c.second-1.given.1)
+    (told_both c.args.left.now c.args.right.now c.in-Word.first c.in-Word-pack.second (c.requires.0 ∙ sym c.requires.1) (sym c.pack.ensures ∙ c.in-Word.is)
+    (sym c.pack-2.ensures ∙ c.in-Word-pack.is)
     ∙ ap (λ t. cond t 1 0) (ne_eqb _ _ c.if-first-second.false))

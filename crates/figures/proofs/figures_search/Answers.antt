@@ -13,7 +13,7 @@ pub returns-in-At : goal.returns-in-At
 returns-in-At c =
     let rs = held_in c.args.cells.now c.args.held in
     let few : length rs ≤ 512 = omega (arith, c.requires.1, held_length c.args.cells.now c.args.held c.requires.0) in
-    sym (found_at rs c.args.levels.now few c.in-At.FIELD (sym c.lookup_packed.ensures ∙ c.in-At.is)).0
+    sym (found_at rs c.args.levels.now few c.in-At.place (sym c.lookup_packed.ensures ∙ c.in-At.is)).0
 
 pub returns-in-NotFound : goal.returns-in-NotFound
 unfolding none
