@@ -1,2 +1,4 @@
 -- The laws of the program's reading and printing.
-pub mod Rooms
+pub mod Taking
+pub mod Printing
+pub mod Whole

@@ -1,2 +1,3 @@
--- What the program's reading promises.
+-- What the program promises: its reading, and its run as a whole.
 pub mod Reading
+pub mod Run

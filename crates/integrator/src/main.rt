@@ -1,20 +1,44 @@
-#![tactic(auto)]
 // The program: a job file on standard input, its report or the line of its refusal on standard output.
-ghost use Rattle.std.specs.Prelude.{◌≡◌, ◌+◌, ◌≤◌, length};
+#![tactic(auto)]
+
+ghost use Rattle.std.specs.Prelude.{◌≡◌, ◌+◌, ◌-◌, ◌≤◌, min, length, OnOk};
+ghost use Rattle.std.specs.Io.KnownBytes.{Appends};
 ghost use Rattle.std.proofs.Math.Seq.{paste};
-ghost use Rattle.integrator.specs.Reading.{Read, Fits};
+ghost use Rattle.running.specs.Report.{text_of};
+ghost use Rattle.integrator.specs.Reading.{Read, Fits, TakesChunk, TakesFile};
+ghost use Rattle.integrator.specs.Run.{Runs};
 
-use libc::{STDIN_FILENO, STDOUT_FILENO};
+use std::error::Error;
+use std::{fmt, io};
 
-// What reading gave: it failed, or so many bytes came, 0 of them at the end of the input.
-#[derive(Clone, Copy)]
-enum ReadResult {
-    Failed,
-    Bytes(usize),
+// Why the program ended with no report, or with a part of it.
+#[derive(Drop)]
+enum JobError {
+    NotRead(io::Error),
+    NotWritten(io::Error),
 }
 
+impl fmt::Display for JobError {
+    fn fmt<W: fmt::Write>(&self, f: &mut fmt::Formatter<W>) -> fmt::Result {
+        match self {
+            JobError::NotRead(error) => write!(f, "the job file cannot be read: {error}"),
+            JobError::NotWritten(error) => write!(f, "the report cannot be written: {error}"),
+        }
+    }
+}
+
+// `main`'s error is printed by its `Debug`: in the same words.
+impl fmt::Debug for JobError {
+    fn fmt<W: fmt::Write>(&self, f: &mut fmt::Formatter<W>) -> fmt::Result {
+        write!(f, "{self}")
+    }
+}
+
+impl Error for JobError {}
+
 fn min_of(a: usize, b: usize) -> usize
-    ensures { (result ≤ a) × (result ≤ b) }
+    ensures bounds { (result ≤ a) × (result ≤ b) }
+    ensures value { result ≡ min a b }
 {
     if a < b { a } else { b }
 }
@@ -24,71 +48,65 @@ fn put_chunk(chunk: &[u8], count: usize, at: usize, file: &mut [u8])
     requires { (count ≤ length chunk.now) × (at + count ≤ length file.old) }
     ensures { file.new ≡ paste file.old at chunk.now count }
 {
-    let mut i: usize = 0;
-    while i < count {
-        file[at + i] = chunk[i];
-        i += 1;
-    }
+    file[at..at + count].copy_from_slice(&chunk[..count]);
 }
 
 // Reads once, by way of a chunk, and puts what came into the file from `at` on.
-fn read_more(at: usize, chunk: &mut [u8], file: &mut [u8]) -> ReadResult
+fn read_more<R: io::Read>(
+    input: &mut R,
+    at: usize,
+    chunk: &mut [u8],
+    file: &mut [u8],
+) -> io::Result<usize>
     requires { at ≤ length file.old }
-    ensures { Read at chunk.new file.old file.new result }
+    ensures stands { Read at chunk.new file.old file.new result }
+    ensures within { Fits (length chunk.new) result }
+    ensures bytes { TakesChunk (min (length file.old - at) (length chunk.old)) chunk.new (R.remaining input.old) (R.remaining input.new) result }
 {
     let room = min_of(file.len() - at, chunk.len());
-    let received = libc::read(STDIN_FILENO, &mut chunk[..room]);
-    if received < 0 {
-        return ReadResult::Failed;
-    }
-    let count = min_of(io::count(received, chunk), room);
+    let count = input.read(&mut chunk[..room])?;
     put_chunk(chunk, count, at, file);
-    ReadResult::Bytes(count)
+    Ok(count)
 }
 
 // Reads until the input ends or the file is full.
-fn read_file(file: &mut [u8]) -> ReadResult
-    ensures { Fits (length file.new) result }
+fn read_file<R: io::Read>(input: &mut R, file: &mut [u8]) -> io::Result<usize>
+    ensures fits { Fits (length file.new) result }
+    ensures bytes { TakesFile file.new (R.remaining input.old) (R.remaining input.new) result }
 {
-    let mut space = io::buffer();
-    let chunk: &mut [u8] = &mut space;
+    let mut chunk = [0u8; 4096];
     let mut at: usize = 0;
     while at < file.len() {
-        let received = read_more(at, chunk, file);
-        match received {
-            ReadResult::Failed => return ReadResult::Failed,
-            ReadResult::Bytes(count) => {
-                if count == 0 {
-                    break;
-                }
-                at += count;
-            }
+        let count = read_more(input, at, &mut chunk, file)?;
+        if count == 0 {
+            break;
         }
+        at += count;
     }
-    ReadResult::Bytes(at)
+    Ok(at)
 }
 
 // Runs the job and writes what it gives. 512 bytes are never too short for it.
-fn print_report(bytes: &[u8]) {
+fn print_report<W: io::Write>(output: &mut W, bytes: &[u8]) -> io::Result<()>
+    ensures { OnOk result (Appends (W.contents output.old) (W.contents output.new) (text_of bytes.now)) }
+{
     let mut report = [0u8; 512];
-    let status = running::run(bytes, &mut report);
-    match status {
-        running::RunStatus::TooShort => {}
-        running::RunStatus::Written(count) => {
-            let is_written = io::write_all(STDOUT_FILENO, &report[..count]);
-            if !is_written {
-                os::fail(b"the report cannot be written");
-            }
-        }
+    match running::run(bytes, &mut report) {
+        running::RunStatus::TooShort => Ok(()),
+        running::RunStatus::Written(count) => output.write_all(&report[..count]),
     }
 }
 
 // Reads one byte more than the longest file of the right form has: what would come after it cannot change the answer.
-fn main() {
+fn run_job<R: io::Read, W: io::Write>(input: &mut R, output: &mut W) -> Result<(), JobError>
+    ensures { Runs (R.remaining input.old) (W.contents output.old) (W.contents output.new) result }
+{
     let mut file = [0u8; 38937];
-    let received = read_file(&mut file);
-    match received {
-        ReadResult::Failed => os::fail(b"the job file cannot be read"),
-        ReadResult::Bytes(count) => print_report(&file[..count]),
-    }
+    let count = read_file(input, &mut file).map_err(JobError::NotRead)?;
+    print_report(output, &file[..count]).map_err(JobError::NotWritten)?;
+    Ok(())
+}
+
+fn main(rt: HostRuntime) -> Result<(), JobError> {
+    run_job(&mut rt.stdin(), &mut rt.stdout())
 }

@@ -1,65 +1,83 @@
-#![tactic(auto)]
 // Runs named job files one after the other, and prints each name and what its run gives. They come as a bundle on standard input: their number,
 // then for each its name and its bytes, both with their length in front. Numbers have four bytes.
-ghost use Rattle.std.specs.Prelude.{◌≤◌};
-ghost use Rattle.io.specs.Counts.{IsPrefixLen};
+#![tactic(auto)]
 
-use libc::{STDIN_FILENO, STDOUT_FILENO};
+ghost use Rattle.std.specs.Prelude.{◌≡◌, ◌≤◌, min};
+ghost use Rattle.std.specs.Io.{ReadsAtMost};
+ghost use Rattle.vectors.specs.Reading.{TakesBuffer};
+
+use std::io;
 
 fn min_of(a: usize, b: usize) -> usize
-    ensures { (result ≤ a) × (result ≤ b) }
+    ensures bounds { (result ≤ a) × (result ≤ b) }
+    ensures value { result ≡ min a b }
 {
     if a < b { a } else { b }
 }
 
-// A number of the bundle.
-fn read_number() -> usize {
+// Reads until the buffer is full or the input ends, and gives how many bytes came. The rest of the buffer stays as it was.
+fn read_full<R: io::Read>(input: &mut R, buffer: &mut [u8]) -> io::Result<usize>
+    ensures bound { ReadsAtMost result buffer.new }
+    ensures bytes { TakesBuffer buffer.new (R.remaining input.old) (R.remaining input.new) result }
+{
+    let mut at: usize = 0;
+    while at < buffer.len() {
+        let count = input.read(&mut buffer[at..])?;
+        if count == 0 {
+            break;
+        }
+        at += count;
+    }
+    Ok(at)
+}
+
+// A number of the bundle. Where the bundle ends early, the bytes that are missing count as zeros.
+fn read_number<R: io::Read>(input: &mut R) -> io::Result<usize> {
     let mut four = [0u8; 4];
-    io::read_full(STDIN_FILENO, &mut four);
-    jobfile::four_at(&four, 0) as usize
+    read_full(input, &mut four)?;
+    Ok(jobfile::four_at(&four, 0) as usize)
 }
 
 // Reads a name or a file into the front of a buffer, as far as it has room, and gives its length.
-fn read_part(buffer: &mut [u8]) -> usize
-    ensures { IsPrefixLen result buffer.new }
+fn read_part<R: io::Read>(input: &mut R, buffer: &mut [u8]) -> io::Result<usize>
+    ensures { ReadsAtMost result buffer.new }
 {
-    let length = min_of(read_number(), buffer.len());
-    io::read_full(STDIN_FILENO, &mut buffer[..length]);
-    length
+    let length = min_of(read_number(input)?, buffer.len());
+    read_full(input, &mut buffer[..length])?;
+    Ok(length)
 }
 
 // Prints the next name as a line.
-fn copy_name() {
+fn copy_name<R: io::Read, W: io::Write>(input: &mut R, output: &mut W) -> io::Result<()> {
     let mut name = [0u8; 64];
-    let length = read_part(&mut name);
-    io::write_all(STDOUT_FILENO, &name[..length]);
-    io::write_all(STDOUT_FILENO, b"\n");
+    let length = read_part(input, &mut name)?;
+    output.write_all(&name[..length])?;
+    output.write_all(b"\n")
 }
 
 // Runs a job file and prints what it gives.
-fn print_report(bytes: &[u8]) {
+fn print_report<W: io::Write>(output: &mut W, bytes: &[u8]) -> io::Result<()> {
     let mut report = [0u8; 512];
-    let status = running::run(bytes, &mut report);
-    match status {
-        running::RunStatus::TooShort => {}
-        running::RunStatus::Written(count) => {
-            io::write_all(STDOUT_FILENO, &report[..count]);
-        }
+    match running::run(bytes, &mut report) {
+        running::RunStatus::TooShort => Ok(()),
+        running::RunStatus::Written(count) => output.write_all(&report[..count]),
     }
 }
 
 // Runs the next file.
-fn run_next() {
-    copy_name();
+fn run_next<R: io::Read, W: io::Write>(input: &mut R, output: &mut W) -> io::Result<()> {
+    copy_name(input, output)?;
     let mut file = [0u8; 38937];
-    let length = read_part(&mut file);
-    print_report(&file[..length]);
+    let length = read_part(input, &mut file)?;
+    print_report(output, &file[..length])
 }
 
-fn main() {
-    let mut left = read_number();
-    while left > 0 {
-        run_next();
-        left -= 1;
+fn main(rt: HostRuntime) -> io::Result<()> {
+    let mut input = rt.stdin();
+    let mut output = rt.stdout();
+    let files = read_number(&mut input)?;
+    for _ in 0..files {
+        run_next(&mut input, &mut output)?;
     }
+    Ok(())
 }

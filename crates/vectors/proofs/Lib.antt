@@ -1,0 +1,2 @@
+-- The laws of the program's reading.
+pub mod Taking
