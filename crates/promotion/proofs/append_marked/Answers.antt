@@ -1,7 +1,6 @@
 -- `promotion::append_marked` meets its contract: what is left to append to what is there is what was to be appended. Assumes nothing.
 use borrow.Author.Rules.{rules}
 use mathlib.Core.Path.{◌≡◌, refl, sym, ap, ◌∙◌, subst}
-use mathlib.Core.Logic.{⊎_elim}
 use mathlib.Core.List.{List, [], ◌∷◌}
 use Prim.Native.Nat.{ℕ, ◌+◌, ◌-◌}
 use native.Mathlib.Omega.{arith}
@@ -21,6 +20,7 @@ use Rattle.area.specs.Settings.{reading_count}
 use Rattle.area.proofs.Readings.{reading_facts}
 use Rattle.writing.specs.Changes.{appended, appended_all}
 use Rattle.promotion.proofs.append_marked.Invariants.{readings_along}
+use Rattle.promotion.proofs.append_marked.Goals.{then-marks-axis-eq1, else-marks-axis-eq1}
 use Rattle.promotion.proofs.append_marked.Goals as goal
 
 on : (g : Settings) (k : List ℕ) (a : ℕ) (rest : List ℕ) → readings_along g k (a ∷ rest) ≡ reading_count g (forward k a) + readings_along g k rest
@@ -46,7 +46,7 @@ moved {ws} {vs} {c} {d} {n} {m} e f g u =
 
 pub loop-axis-init : goal.loop-axis-init
 loop-axis-init c =
-    let e = passing_all c.args.levels c.args.axes in (
+    let e = passing_all c.args.marks c.args.axes in (
       omega arith,
       search rules,
       refl,
@@ -54,97 +54,71 @@ loop-axis-init c =
       omega (arith, ap (readings_along c.args.settings c.args.levels) e),
       refl,
       ap (appended_all c.args.settings (records_of c.args.cells.now) c.args.held c.args.first c.args.levels) (sym e),
-      c.requires.marks_in_bounds.1,
+      c.requires.packed_if,
     )
 
-pub offset_bounds-marks-axis : goal.offset_bounds-marks-axis
-offset_bounds-marks-axis c = omega arith
-
-pub bounds-marks-axis : goal.bounds-marks-axis
-bounds-marks-axis c = omega arith
-
-pub forward_neighbour-neighbour-requires : goal.forward_neighbour-neighbour-requires
-forward_neighbour-neighbour-requires c = (omega arith, c.requires.axes_bound.2 c.loop-axis.axis (omega arith))
-
-pub reading_count-readings-requires : goal.reading_count-readings-requires
-reading_count-readings-requires c = subst Within (sym c.forward_neighbour-neighbour.ensures) (c.requires.axes_bound.1 c.loop-axis.axis (omega arith) c.if-marks-axis-eq1.true)
-
-pub append-requires : goal.append-requires
-append-requires c =
+pub append-requires-clause-held_in_bounds : goal.append-requires-clause-held_in_bounds
+append-requires-clause-held_in_bounds c =
     let l = c.loop-axis in
-    let e = passing_on c.args.levels c.args.axes l.axis (omega arith) c.if-marks-axis-eq1.true in
-    record {
-      held_in_bounds = (omega (arith, l.invariant.2, l.invariant.3, ap length e, c.requires.marks_in_bounds.0.0), omega (arith, l.invariant.3, ap length e, c.requires.marks_in_bounds.0.1), omega (arith, l.invariant.4, c.requires.marks_in_bounds.0.2));
-      packed_if = l.invariant.7;
-    }
-
-pub overflow_add-count : goal.overflow_add-count
-overflow_add-count c = omega (arith, c.loop-axis.invariant.3, c.requires.marks_in_bounds.0.1)
+    let r = c.requires.marks_in_bounds in
+    let e = passing_on c.args.marks c.args.axes l.axis (omega arith) c.if-marks-axis-eq1.true in
+    (omega (arith, l.invariant.2, l.invariant.3, ap length e, r.0), omega (arith, l.invariant.3, ap length e, r.1), omega (arith, l.invariant.4, r.2))
 
 pub overflow_add-next : goal.overflow_add-next
 overflow_add-next c =
     let l = c.loop-axis in
     let k = c.args.levels in
-    let e = passing_on c.args.levels c.args.axes l.axis (omega arith) c.if-marks-axis-eq1.true in
-    let left = passing (c.args.axes - (l.axis + 1)) (l.axis + 1) (marked c.args.levels) in
+    let e = passing_on c.args.marks c.args.axes l.axis (omega arith) c.if-marks-axis-eq1.true in
+    let left = passing (c.args.axes - (l.axis + 1)) (l.axis + 1) (marked c.args.marks) in
     let readings = c.reading_count-readings.ensures ∙ ap (reading_count c.args.settings) c.forward_neighbour-neighbour.ensures in
-    omega (arith, l.invariant.4, c.requires.marks_in_bounds.0.2, ap (readings_along c.args.settings k) e ∙ on c.args.settings k l.axis left, readings)
-
-pub overflow_add-axis : goal.overflow_add-axis
-overflow_add-axis c = omega arith
-
-pub loop-axis-smaller : goal.loop-axis-smaller
-loop-axis-smaller c = omega arith
+    omega (arith, l.invariant.4, c.requires.marks_in_bounds.2, ap (readings_along c.args.settings k) e ∙ on c.args.settings k l.axis left, readings)
 
 pub loop-axis-preserved : goal.loop-axis-preserved
 loop-axis-preserved c =
     let l = c.loop-axis in
     let k = c.args.levels in
-    let left = passing (c.args.axes - (l.axis + 1)) (l.axis + 1) (marked c.args.levels) in
-    ⊎_elim
-    (λ w.
-    let e = passing_on c.args.levels c.args.axes l.axis (omega arith) w.0.taken in
-    let size = w.2.ensures ∙ ap (reading_count c.args.settings) w.1.ensures in
-    let run = w.5.ensures.0 ∙ ap (λ x. record { records = appended (records_of l.cells) l.count l.next x; rest = (run_of l.cells).rest }) w.1.ensures in (
-      omega arith,
-      l.invariant.1,
-      ap length w.8 ∙ w.5.kept.1.1.1.0 ∙ l.invariant.2,
-      omega (arith, w.10, l.invariant.3, ap length e),
-      omega (arith, w.11, l.invariant.4, ap (readings_along c.args.settings k) e ∙ on c.args.settings k l.axis left, size),
-      ap (λ x. (run_of x).rest) w.8 ∙ ap (λ (u : Run). u.rest) run ∙ l.invariant.5,
-      l.invariant.6 ∙ ap (appended_all c.args.settings (records_of l.cells) l.count l.next k) e ∙ all_on c.args.settings (records_of l.cells) l.count l.next k l.axis left
-          ∙ sym
-          (ap (λ x. appended_all c.args.settings (records_of x) c.if-marks-axis-eq1.count c.if-marks-axis-eq1.next k left) w.8
-          ∙ ap (λ x. appended_all c.args.settings x c.if-marks-axis-eq1.count c.if-marks-axis-eq1.next k left) (ap (λ (u : Run). u.records) run)
-          ∙ ap (λ n. appended_all c.args.settings (appended (records_of l.cells) l.count l.next (forward k l.axis)) n c.if-marks-axis-eq1.next k left) w.10
-          ∙ ap (λ f. appended_all c.args.settings (appended (records_of l.cells) l.count l.next (forward k l.axis)) (l.count + 1) f k left) (w.11 ∙ ap (λ x. l.next + x) size)),
-      λ t. moved w.9 w.8 w.10 (w.5.ensures.1 (within-fits (subst Within (sym w.1.ensures) (c.requires.axes_bound.1 l.axis (omega arith) w.0.taken))) t),
-    ))
-    (λ w.
-    let e = passing_off c.args.levels c.args.axes l.axis (omega arith) w.0.left in (
-      omega arith,
-      l.invariant.1,
-      ap length w.1 ∙ l.invariant.2,
-      omega (arith, w.3, l.invariant.3, ap length e),
-      omega (arith, w.4, l.invariant.4, ap (readings_along c.args.settings k) e),
-      ap (λ x. (run_of x).rest) w.1 ∙ l.invariant.5,
-      l.invariant.6 ∙ ap (appended_all c.args.settings (records_of l.cells) l.count l.next k) e
-          ∙ sym
-          (ap (λ x. appended_all c.args.settings (records_of x) c.if-marks-axis-eq1.count c.if-marks-axis-eq1.next k left) w.1
-          ∙ ap (λ n. appended_all c.args.settings (records_of l.cells) n c.if-marks-axis-eq1.next k left) w.3
-          ∙ ap (λ f. appended_all c.args.settings (records_of l.cells) l.count f k left) w.4),
-      λ t. moved w.2 w.1 w.3 (l.invariant.7 t),
-    ))
-    c.if-marks-axis-eq1.branch
-
-pub shape_of-cells : goal.shape_of-cells
-shape_of-cells c = c.loop-axis.invariant.2
+    let left = passing (c.args.axes - (l.axis + 1)) (l.axis + 1) (marked c.args.marks) in
+    elim c.if-marks-axis-eq1.branch [
+      | then-marks-axis-eq1 w ↦
+          let e = passing_on c.args.marks c.args.axes l.axis (omega arith) w.if-marks-axis-eq1.true in
+          let size = w.reading_count-readings.ensures ∙ ap (reading_count c.args.settings) w.forward_neighbour-neighbour.ensures in
+          let run = w.append.ensures.cells_after ∙ ap (λ x. record { records = appended (records_of l.cells) l.count l.next x; rest = (run_of l.cells).rest }) w.forward_neighbour-neighbour.ensures in (
+            omega arith,
+            l.invariant.1,
+            ap length w.cells-is ∙ w.append.auto.cells ∙ l.invariant.2,
+            omega (arith, w.count-is, l.invariant.3, ap length e),
+            omega (arith, w.next-is, l.invariant.4, ap (readings_along c.args.settings k) e ∙ on c.args.settings k l.axis left, size),
+            ap (λ x. (run_of x).rest) w.cells-is ∙ ap (λ (u : Run). u.rest) run ∙ l.invariant.5,
+            l.invariant.6 ∙ ap (appended_all c.args.settings (records_of l.cells) l.count l.next k) e ∙ all_on c.args.settings (records_of l.cells) l.count l.next k l.axis left
+                ∙ sym
+                (ap (λ x. appended_all c.args.settings (records_of x) c.if-marks-axis-eq1.count c.if-marks-axis-eq1.next k left) w.cells-is
+                ∙ ap (λ x. appended_all c.args.settings x c.if-marks-axis-eq1.count c.if-marks-axis-eq1.next k left) (ap (λ (u : Run). u.records) run)
+                ∙ ap (λ n. appended_all c.args.settings (appended (records_of l.cells) l.count l.next (forward k l.axis)) n c.if-marks-axis-eq1.next k left) w.count-is
+                ∙ ap (λ f. appended_all c.args.settings (appended (records_of l.cells) l.count l.next (forward k l.axis)) (l.count + 1) f k left) (w.next-is ∙ ap (λ x. l.next + x) size)),
+            λ t. moved w.words-is w.cells-is w.count-is (w.append.ensures.words (within-fits (subst Within (sym w.forward_neighbour-neighbour.ensures) (c.requires.axes_bound.1 l.axis (omega arith) w.if-marks-axis-eq1.true))) t),
+          )
+      | else-marks-axis-eq1 w ↦
+          let e = passing_off c.args.marks c.args.axes l.axis (omega arith) w.if-marks-axis-eq1.false in (
+            omega arith,
+            l.invariant.1,
+            ap length w.cells-is ∙ l.invariant.2,
+            omega (arith, w.count-is, l.invariant.3, ap length e),
+            omega (arith, w.next-is, l.invariant.4, ap (readings_along c.args.settings k) e),
+            ap (λ x. (run_of x).rest) w.cells-is ∙ l.invariant.5,
+            l.invariant.6 ∙ ap (appended_all c.args.settings (records_of l.cells) l.count l.next k) e
+                ∙ sym
+                (ap (λ x. appended_all c.args.settings (records_of x) c.if-marks-axis-eq1.count c.if-marks-axis-eq1.next k left) w.cells-is
+                ∙ ap (λ n. appended_all c.args.settings (records_of l.cells) n c.if-marks-axis-eq1.next k left) w.count-is
+                ∙ ap (λ f. appended_all c.args.settings (records_of l.cells) l.count f k left) w.next-is),
+            λ t. moved w.words-is w.cells-is w.count-is (l.invariant.7 t),
+          )
+    ]
 
 pub returns : goal.returns
 returns c =
     let l = c.loop-axis in
-    let e = passing_end c.args.levels c.args.axes l.axis (omega arith) in
-    let all : l.count ≡ c.args.held + length (marked_axes c.args.axes c.args.levels) = omega (arith, l.invariant.3, ap length e) in
+    let e = passing_end c.args.marks c.args.axes l.axis (omega arith) in
+    let all : l.count ≡ c.args.held + length (marked_axes c.args.axes c.args.marks) = omega (arith, l.invariant.3, ap length e) in
     let done = l.invariant.6 ∙ ap (appended_all c.args.settings (records_of l.cells) l.count l.next c.args.levels) e ∙ all_off c.args.settings (records_of l.cells) l.count l.next c.args.levels in
     record {
       cells_after = (λ i. record { records = sym done i; rest = l.invariant.5 i });

@@ -1,4 +1,5 @@
 -- `promotion::refine` meets its contract: the marked axes are the admitted ones, their counts decide whether it is spent, and the records written are those of the refined entries. Assumes nothing.
+use borrow.Author.Rules.{rules}
 use mathlib.Core.Path.{refl}
 use native.Mathlib.Omega.{arith}
 use lib.ListN.{length}
@@ -82,13 +83,11 @@ append_marked-requires c =
     let v : Counted c.args.job l.result m.result n.result z.result = record { count_is = n.ensures.0; sizes_are = z.ensures.0 } in
     let e = c.set_state in
     let cells = c.args.cells.now in
-    (marks_ask t u, (append_asks t u v (length e.new.1.1.1.0) c.readings_for-first.result e.auto.1.1.1.0 c.readings_for-first.ensures c.if-held-count-gt512.false c.if-most-reserved.false, λ f. state_words cells e.new.1.1.1.0 c.pack_held-packed.new.1.1.0 c.args.job.held c.args.place 2 c.indicator_at-indicator.result e.ensures (c.pack_held-packed.ensures.words f)))
-
-pub overflow_add-after-2 : goal.overflow_add-after-2
-overflow_add-after-2 c = omega (arith, c.if-most-reserved.false, c.requires.place_lt_held.2, c.requires.valid_area.0.sound.settings.budget.1)
-
-pub overflow_cast-after-2 : goal.overflow_cast-after-2
-overflow_cast-after-2 c = omega (arith, c.if-most-reserved.false, c.requires.place_lt_held.2, c.requires.valid_area.0.sound.settings.budget.1)
+    record {
+      axes_bound = marks_ask t u;
+      marks_in_bounds = append_asks t u v (length e.new.cells) c.readings_for-first.result e.auto.cells c.readings_for-first.ensures c.if-held-count-gt512.false c.if-most-reserved.false;
+      packed_if = λ f. state_words cells e.new.cells c.pack_held-packed.new.words c.args.job.held c.args.place 2 c.indicator_at-indicator.result e.ensures (c.pack_held-packed.ensures.words f);
+    }
 
 pub overflow_sub-after : goal.overflow_sub-after
 overflow_sub-after c =
@@ -98,7 +97,7 @@ overflow_sub-after c =
 pub carried_after-requires : goal.carried_after-requires
 carried_after-requires c =
     let l = c.levels_at-levels in
-    carried_asks (refinable c.args.job c.args.cells.now c.args.store.now c.args.place c.args.limit c.requires.valid_area c.requires.place_lt_held) l.ensures (λ n. omega (arith, c.slice_known-1.given n))
+    carried_asks (refinable c.args.job c.args.cells.now c.args.store.now c.args.place c.args.limit c.requires.valid_area c.requires.place_lt_held) l.ensures (search rules)
 
 pub returns : goal.returns
 returns c =
@@ -114,7 +113,7 @@ returns c =
     let i = c.indicator_at-indicator in
     let e = c.set_state in
     let f = c.append_marked in
-    let w : Changed c.args.job c.args.cells.now c.args.place l.result m.result i.result c.readings_for-first.result c.carried_after.result e.new.1.1.1.0 f.new.1.1.1.1.1.1.0 =
+    let w : Changed c.args.job c.args.cells.now c.args.place l.result m.result i.result c.readings_for-first.result c.carried_after.result e.new.cells f.new.cells =
     record { first_is = c.readings_for-first.ensures; indicator_is = i.ensures; carried_is = c.carried_after.ensures; with_state_is = e.ensures; appended_is = f.ensures.cells_after } in
     record {
       is = promoted_is t u v few within w;

@@ -44,18 +44,6 @@ loop-place-init c =
     let short : length es ≤ c.args.held = omega (arith, heads_length c.args.cells.now c.args.held c.requires) in
     (omega arith, best_start es c.args.held (drop_of_length-le es short))
 
-pub overflow_sub-place : goal.overflow_sub-place
-overflow_sub-place c = omega arith
-
-pub state_at-requires : goal.state_at-requires
-state_at-requires c = omega (arith, c.requires)
-
-pub indicator_at-indicator-requires : goal.indicator_at-indicator-requires
-indicator_at-indicator-requires c = omega (arith, c.requires)
-
-pub loop-place-smaller-then-largest-indicator : goal.loop-place-smaller-then-largest-indicator
-loop-place-smaller-then-largest-indicator c = omega arith
-
 pub loop-place-preserved-then-largest-indicator : goal.loop-place-preserved-then-largest-indicator
 loop-place-preserved-then-largest-indicator c =
     let l = c.loop-place in (
@@ -64,9 +52,6 @@ loop-place-preserved-then-largest-indicator c =
           (sym c.state_at.ensures ∙ c.if-state_at-eq-ACTIVE.true) c.indicator_at-indicator.ensures c.if-largest-indicator.true,
     )
 
-pub loop-place-smaller-else-largest-indicator : goal.loop-place-smaller-else-largest-indicator
-loop-place-smaller-else-largest-indicator c = omega arith
-
 pub loop-place-preserved-else-largest-indicator : goal.loop-place-preserved-else-largest-indicator
 loop-place-preserved-else-largest-indicator c =
     let l = c.loop-place in (
@@ -74,9 +59,6 @@ loop-place-preserved-else-largest-indicator c =
       lower c.args.cells.now c.args.held l.place l.best l.largest c.requires l.invariant.0 (omega arith) l.invariant.1 c.indicator_at-indicator.result
           (sym c.state_at.ensures ∙ c.if-state_at-eq-ACTIVE.true) c.indicator_at-indicator.ensures c.if-largest-indicator.false,
     )
-
-pub loop-place-smaller : goal.loop-place-smaller
-loop-place-smaller c = omega arith
 
 pub loop-place-preserved : goal.loop-place-preserved
 loop-place-preserved c =

@@ -1,5 +1,5 @@
 -- `promotion::select` meets its contract: the best of the places passed is kept. Assumes nothing.
-use Prim.Native.Nat.{◌-◌, ◌≤◌}
+use Prim.Native.Nat.{◌≤◌}
 use Rattle.area.specs.Records.{held_in}
 use Rattle.writing.specs.Heads.{heads_of}
 use Rattle.promotion.proofs.Best.{Best}
