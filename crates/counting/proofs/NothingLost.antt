@@ -1,21 +1,19 @@
 -- The report of doubles of a sound state loses nothing.
 -- The idea: all three numbers are below 2^53 in size: at most 512 differences or indicators are summed, and a difference is at most 2^40.
 -- Assumes nothing.
-use mathlib.Core.Path.{◌≡◌, refl, ap, sym, ◌∙◌, subst}
+use mathlib.Core.Path.{◌≡◌, refl, ap, ◌∙◌}
 use mathlib.Core.Bool.{Bool, true, false, cond}
 use mathlib.Core.List.{List, [], ◌∷◌}
-use Prim.Native.Nat.{ℕ, zero, suc, ◌+◌, ◌*◌, ◌^◌, ◌<◌, ◌≤◌}
+use Prim.Native.Nat.{ℕ, zero, suc, ◌+◌, ◌^◌, ◌<◌, ◌≤◌}
 use native.Mathlib.Omega.{arith}
 use borrow.Author.Tests.{eqb-true}
 use lib.Dec.{lit≤, eqb}
 use lib.IntN.{ℤ, pos, negsuc, nat_abs}
 use lib.ListN.{length}
-use lib.Ieee.{Float}
-use Rattle.doubles.specs.declared.Report.{Report}
 use Rattle.doubles.specs.Double.{double, report_of}
 use Rattle.doubles.specs.Exact.{LosesNothing}
 use Rattle.doubles.proofs.Facts.{double-facts}
-use Rattle.area.specs.Entry.{Entry, delivered_of, pending_of}
+use Rattle.area.specs.Entry.{Entry, pending_of}
 use Rattle.area.specs.Log.{Machine}
 use Rattle.area.proofs.Carried.{carried_facts}
 use Rattle.encoding.specs.Entries.{no_entry, entry_at, SoundMachine}

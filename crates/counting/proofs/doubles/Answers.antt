@@ -1,6 +1,6 @@
 -- `counting::doubles` meets its contract: the recorded numbers are the area's, and the largest difference over the cells is that of the entries.
 -- Assumes nothing.
-use borrow.Author.Rules.{sfits_of}
+use borrow.Author.Rules.{rules, sfits_of}
 use mathlib.Core.Path.{ap, ◌∙◌}
 use native.Mathlib.Omega.{arith}
 use lib.IntN.{nat_abs}
@@ -21,7 +21,7 @@ report_of-requires c =
     let mean = mean_small j c.args.cells.now c.args.store.now c.requires in
     let largest = c.largest_difference-largest in (
       omega (arith, ap nat_abs (back_small j.mean (omega (arith, mean))), mean),
-      pending_small j c.args.cells.now c.args.store.now c.requires (λ n. omega (arith, c.shared_slice_known-1.given n)),
+      pending_small j c.args.cells.now c.args.store.now c.requires (search rules),
       omega (arith, ap nat_abs (back largest.result (sfits_of largest.type_inv)), largest.ensures.small),
     )
 

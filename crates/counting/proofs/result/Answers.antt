@@ -1,5 +1,7 @@
 -- `counting::result` meets its contract: each count is that of the entries, and the recorded numbers are the area's. Assumes nothing.
-use borrow.Author.Rules.{sfits_of}
+use borrow.Author.Rules.{rules}
+use mir.Syntax.{w64}
+use mir.Val.{SFits}
 use mathlib.Core.Path.{◌∙◌}
 use Rattle.sums.proofs.Words.{back}
 use Rattle.area.specs.Encoding.{machine_of}
@@ -19,7 +21,7 @@ state_count-wanted-requires c = (held_there c.args.job c.args.cells.now c.args.s
 
 pub ceiling_count-ceiling-requires : goal.ceiling_count-ceiling-requires
 ceiling_count-ceiling-requires c =
-     record {
+    record {
       held_in_bounds = (held_there c.args.job c.args.cells.now c.args.store.now c.requires, held_few c.args.job c.args.cells.now c.args.store.now c.requires, c.requires.sound.settings.axes.1);
       by_index = held_within c.args.job c.args.cells.now c.args.store.now c.requires;
     }
@@ -34,5 +36,6 @@ returns c =
     let active = c.state_count-active.ensures ∙ counted j cells store c.requires 1 in
     let wanted = c.state_count-wanted.ensures ∙ counted j cells store c.requires 0 in
     let ceiling = c.ceiling_count-ceiling.ensures ∙ capped j cells store c.requires j.settings.axes in
-    let mean = back j.mean (sfits_of c.struct_told-1.given.1.1.1.1.1.0.1) in
+    let fits : SFits w64 j.mean = search rules in
+    let mean = back j.mean fits in
     λ i. record { old = old i; active = active i; wanted = wanted i; reserved = c.requires.sound.numbers.reserved i; pending = c.requires.sound.numbers.pending i; carried = c.requires.sound.numbers.carried i; mean = mean i; ceiling = ceiling i }

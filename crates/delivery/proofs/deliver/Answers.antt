@@ -1,5 +1,5 @@
 -- `delivery::deliver` meets its contract: the block is stored, the record given its state, and the difference worked from what is then there. Assumes nothing.
-use borrow.Author.Rules.{sfits_of}
+use borrow.Author.Rules.{rules, sfits_of}
 use mathlib.Core.Path.{◌≡◌, refl, sym, ap, ◌∙◌, subst}
 use mathlib.Core.Bool.{true}
 use mathlib.Core.List.{List}
@@ -10,7 +10,7 @@ use lib.IntN.{ℤ, nat_abs, ◌+ℤ◌}
 use lib.ListN.{length}
 use lib.Seq.{sets}
 use mir.Syntax.{w64}
-use mir.Val.{to_z, of_z}
+use mir.Val.{SFits, to_z, of_z}
 use Rattle.sums.proofs.Words.{sum_fits, sum_is}
 use Rattle.sums.proofs.Sizes.{abs_add}
 use Rattle.grid.specs.Difference.{scaled_difference}
@@ -86,31 +86,34 @@ set_state-requires c = room c.args.job c.args.cells.now c.args.store.now c.args.
 
 pub levels_at-levels-requires : goal.levels_at-levels-requires
 levels_at-levels-requires c =
-    omega (arith, c.set_state.auto.1.1.1.0, room c.args.job c.args.cells.now c.args.store.now c.args.readings.now c.args.indicator c.args.place c.requires.valid_area.0 c.requires.valid_area.1 c.requires.valid_area.2 c.requires.readings_len.0 c.requires.readings_len.1)
+    omega (arith, room c.args.job c.args.cells.now c.args.store.now c.args.readings.now c.args.indicator c.args.place c.requires.valid_area.0 c.requires.valid_area.1 c.requires.valid_area.2 c.requires.readings_len.0 c.requires.readings_len.1)
 
 pub scaled_difference-difference-requires : goal.scaled_difference-difference-requires
 scaled_difference-difference-requires c =
     ready_at c.args.job c.args.cells.now c.args.store.now c.args.readings.now c.args.indicator c.args.place c.requires.valid_area.0 c.requires.valid_area.1 c.requires.valid_area.2 c.requires.readings_len.0 c.requires.readings_len.1
-    c.set_state.new.1.1.1.0 c.put_readings.new.1.1.0 c.first_at-first.result c.first_at-first.ensures c.set_state.ensures c.put_readings.ensures
+    c.set_state.new.cells c.put_readings.new.store c.first_at-first.result c.first_at-first.ensures c.set_state.ensures c.put_readings.ensures
     c.levels_at-levels.result c.levels_at-levels.ensures
 
 pub overflow_add-after : goal.overflow_add-after
 overflow_add-after c =
-    omega (arith, pending_fits c.args.job c.args.cells.now c.args.store.now c.args.readings.now c.args.indicator c.requires.valid_area.0 (omega (arith, c.requires.valid_area.1, c.requires.valid_area.2)) c.requires.readings_len.0 c.requires.readings_len.1 (λ n. omega (arith, c.slice_known-1.given n)) (omega (arith, c.ranges.indicator)))
+    omega (arith, pending_fits c.args.job c.args.cells.now c.args.store.now c.args.readings.now c.args.indicator c.requires.valid_area.0 (omega (arith, c.requires.valid_area.1, c.requires.valid_area.2)) c.requires.readings_len.0 c.requires.readings_len.1 (search rules) (omega (arith, c.ranges.indicator)))
 
 pub overflow_add-after-2 : goal.overflow_add-after-2
 overflow_add-after-2 c =
     let x = c.scaled_difference-difference.result in
     let m = c.args.job.mean in
-    sum_fits m x (m +ℤ x) (sfits_of c.struct_told-1.given.1.1.1.1.1.0.1) (sfits_of c.scaled_difference-difference.type_inv) refl
-    (mean_small c.args.job c.args.cells.now c.args.store.now c.args.readings.now c.args.indicator c.args.place c.requires.valid_area.0 c.requires.valid_area.1 c.requires.valid_area.2 c.requires.readings_len.0 c.requires.readings_len.1 c.set_state.new.1.1.1.0 c.put_readings.new.1.1.0 c.first_at-first.result c.first_at-first.ensures c.set_state.ensures c.put_readings.ensures x c.scaled_difference-difference.ensures.small)
+    let fits : SFits w64 m = search rules in
+    sum_fits m x (m +ℤ x) fits (sfits_of c.scaled_difference-difference.type_inv) refl
+    (mean_small c.args.job c.args.cells.now c.args.store.now c.args.readings.now c.args.indicator c.args.place c.requires.valid_area.0 c.requires.valid_area.1 c.requires.valid_area.2 c.requires.readings_len.0 c.requires.readings_len.1 c.set_state.new.cells c.put_readings.new.store c.first_at-first.result c.first_at-first.ensures c.set_state.ensures c.put_readings.ensures x c.scaled_difference-difference.ensures.small)
 
 pub returns : goal.returns
 returns c =
     let x = c.scaled_difference-difference.result in
     let m = c.args.job.mean in
+    let fits : SFits w64 m = search rules in
     let sum =
-    sum_is m x (m +ℤ x) (sfits_of c.struct_told-1.given.1.1.1.1.1.0.1) (sfits_of c.scaled_difference-difference.type_inv) refl
-    (mean_small c.args.job c.args.cells.now c.args.store.now c.args.readings.now c.args.indicator c.args.place c.requires.valid_area.0 c.requires.valid_area.1 c.requires.valid_area.2 c.requires.readings_len.0 c.requires.readings_len.1 c.set_state.new.1.1.1.0 c.put_readings.new.1.1.0 c.first_at-first.result c.first_at-first.ensures c.set_state.ensures c.put_readings.ensures x c.scaled_difference-difference.ensures.small) in
-    let difference = difference_at_lem c.args.job c.args.cells.now c.args.store.now c.args.readings.now c.args.indicator c.args.place c.requires.valid_area.0 c.requires.valid_area.1 c.requires.valid_area.2 c.requires.readings_len.0 c.requires.readings_len.1 c.set_state.new.1.1.1.0 c.put_readings.new.1.1.0 c.first_at-first.result c.first_at-first.ensures c.set_state.ensures c.put_readings.ensures c.levels_at-levels.result x c.levels_at-levels.ensures c.scaled_difference-difference.ensures.is in
-    area_and_valid c.args.job c.args.cells.now c.args.store.now c.args.readings.now c.args.indicator c.args.place c.requires.valid_area.0 c.requires.valid_area.1 c.requires.valid_area.2 c.requires.readings_len.0 c.requires.readings_len.1 c.set_state.new.1.1.1.0 c.put_readings.new.1.1.0 c.first_at-first.result c.first_at-first.ensures c.set_state.ensures c.put_readings.ensures (to_z w64 (of_z w64 (to_z w64 (of_z w64 m) +ℤ to_z w64 (of_z w64 x)))) (sum ∙ ap (λ d. m +ℤ d) difference)
+    sum_is m x (m +ℤ x) fits (sfits_of c.scaled_difference-difference.type_inv) refl
+    (mean_small c.args.job c.args.cells.now c.args.store.now c.args.readings.now c.args.indicator c.args.place c.requires.valid_area.0 c.requires.valid_area.1 c.requires.valid_area.2 c.requires.readings_len.0 c.requires.readings_len.1 c.set_state.new.cells c.put_readings.new.store c.first_at-first.result c.first_at-first.ensures c.set_state.ensures c.put_readings.ensures x c.scaled_difference-difference.ensures.small) in
+    let difference = difference_at_lem c.args.job c.args.cells.now c.args.store.now c.args.readings.now c.args.indicator c.args.place c.requires.valid_area.0 c.requires.valid_area.1 c.requires.valid_area.2 c.requires.readings_len.0 c.requires.readings_len.1 c.set_state.new.cells c.put_readings.new.store c.first_at-first.result c.first_at-first.ensures c.set_state.ensures c.put_readings.ensures c.levels_at-levels.result x c.levels_at-levels.ensures c.scaled_difference-difference.ensures.is in
+    let w = area_and_valid c.args.job c.args.cells.now c.args.store.now c.args.readings.now c.args.indicator c.args.place c.requires.valid_area.0 c.requires.valid_area.1 c.requires.valid_area.2 c.requires.readings_len.0 c.requires.readings_len.1 c.set_state.new.cells c.put_readings.new.store c.first_at-first.result c.first_at-first.ensures c.set_state.ensures c.put_readings.ensures (to_z w64 (of_z w64 (to_z w64 (of_z w64 m) +ℤ to_z w64 (of_z w64 x)))) (sum ∙ ap (λ d. m +ℤ d) difference) in
+    record { is = w.0; valid = w.1 }

@@ -8,9 +8,6 @@ use borrow.Author.Rules.{rules}
 use Rattle.delivery.proofs.Fronts.{front}
 use Rattle.delivery.proofs.point.Goals as goal
 
-pub point_of-requires : goal.point_of-requires
-point_of-requires c = rw c.levels_at.ensures c.requires.within
-
 pub returns : goal.returns
 returns c =
     let levels = c.levels_at.ensures in

@@ -40,12 +40,6 @@ module _ (d : ℕ) (k : List ℕ) (n size count : ℕ) (buffer : List ℕ) (few 
       front_all buffer (bytes d k n count) (omega (arith, bytes_length d k n few count there, room))
       ∙ ap (λ ps. written_over (positions_of d ps) buffer) (sym fits)
 
-pub block_size-size-requires : goal.block_size-size-requires
-block_size-size-requires c = rw c.levels_at-index.ensures c.requires.within.0
-
-pub overflow_sub-size : goal.overflow_sub-size
-overflow_sub-size c = omega (arith, c.requires.within.1, ap block_size c.levels_at-index.ensures, c.block_size-size.ensures)
-
 pub put_points-requires : goal.put_points-requires
 put_points-requires c =
     let e = c.levels_at-index.ensures in

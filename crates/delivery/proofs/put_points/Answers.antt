@@ -3,9 +3,9 @@
 use borrow.Author.Rules.{rules}
 use mathlib.Core.Path.{◌≡◌, refl, sym, ap, ◌∙◌}
 use mathlib.Core.List.{List}
-use Prim.Native.Nat.{ℕ, ◌+◌, ◌*◌, ◌-◌, ◌<◌, ◌≤◌}
+use Prim.Native.Nat.{ℕ, ◌+◌, ◌*◌, ◌<◌, ◌≤◌}
 use native.Mathlib.Omega.{arith}
-use native.Mathlib.Nat.{zero-add, le_trans, mul-le-mul, mul-le-mul_right}
+use native.Mathlib.Nat.{zero-add}
 use native.Mathlib.Numerals.{add-one}
 use lib.ListN.{length, take}
 use lib.Seq.{sets, length-sets}
@@ -27,10 +27,6 @@ one_more d k n w b few h =
     ∙ sets-append b 0 (bytes d k n w) (take d (point_of k (n + w)))
     ∙ ap (λ m. sets (sets b 0 (bytes d k n w)) m (take d (point_of k (n + w)))) e)
 
--- it has room
-room : (w count d most : ℕ) → w < count → count * d ≤ most → w * d + d ≤ most
-room w count d most h fits = le_trans (omega (arith, mul-le-mul_right d h)) fits
-
 pub loop-written-init : goal.loop-written-init
 unfolding positions_of
 loop-written-init c = (omega arith, refl, refl)
@@ -39,29 +35,6 @@ pub overflow_add-n : goal.overflow_add-n
 overflow_add-n c =
     let small = size_small c.args.levels c.requires.2 in
     omega arith
-
-pub point_of-point-requires : goal.point_of-point-requires
-point_of-point-requires c = (c.requires.2, omega (arith, c.requires.3))
-
-pub overflow_mul-written : goal.overflow_mul-written
-overflow_mul-written c =
-    let small = size_small c.args.levels c.requires.2 in
-    let l = c.loop-written in
-    let room : l.written * c.args.axes ≤ 4096 * 8 = mul-le-mul {n₁ = l.written} {m₁ = c.args.axes} {n₂ = 4096} {m₂ = 8} (omega (arith, small, c.requires.3)) c.requires.0 in
-    omega arith
-
-pub put_point-requires : goal.put_point-requires
-put_point-requires c =
-    let l = c.loop-written in
-    (c.requires.0, room l.written c.args.count c.args.axes (length l.buffer) (omega arith) (omega (arith, c.requires.1)))
-
-pub overflow_add-written : goal.overflow_add-written
-overflow_add-written c =
-    let small = size_small c.args.levels c.requires.2 in
-    omega (arith, c.requires.3)
-
-pub loop-written-smaller : goal.loop-written-smaller
-loop-written-smaller c = omega arith
 
 pub loop-written-preserved : goal.loop-written-preserved
 loop-written-preserved c =
@@ -75,11 +48,3 @@ loop-written-preserved c =
     ∙ one_more c.args.axes c.args.levels c.args.n l.written b (omega (arith, few, c.requires.0)) (omega (arith, c.requires.3))
     in
     (omega arith, ap length is ∙ length-sets b 0 (bytes c.args.axes c.args.levels c.args.n (l.written + 1)), is)
-
-pub shape_of-buffer : goal.shape_of-buffer
-shape_of-buffer c = c.loop-written.invariant.1
-
-pub returns : goal.returns
-returns c =
-    let e : c.loop-written.written ≡ c.args.count = omega arith in
-    rw (← e) c.loop-written.invariant.2
