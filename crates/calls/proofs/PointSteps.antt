@@ -3,12 +3,12 @@
 -- Assumes nothing.
 use mathlib.Core.Path.{◌≡◌, sym, ap, ◌∙◌, subst}
 use mathlib.Core.Bool.{true}
-use mathlib.Core.List.{List, []}
+use mathlib.Core.List.{List}
 use Prim.Native.Nat.{ℕ, suc, ◌-◌, ◌<◌, ◌≤◌}
-use lib.ListN.{length, get_or, take, replicate}
+use lib.ListN.{length, take, replicate}
 use lib.Seq.{take_at}
 use Rattle.grid.specs.Index.{Within, Index, levels_within}
-use Rattle.grid.specs.Block.{block, block_size, point_of}
+use Rattle.grid.specs.Block.{block_size, point_of}
 use Rattle.grid.specs.Terms.{OneStep, pad}
 use Rattle.grid.proofs.Levels.{levels_back, within_levels}
 use Rattle.grid.proofs.Facts.{block-facts, level-one-facts}

@@ -31,7 +31,7 @@ use Rattle.calls.specs.Replies.{counts, doubled, lengths_of}
 use Rattle.calls.specs.Table.{Answer, result, doubles, row, causes_of, effect_of, accepted_answer, refused_answer, refusal}
 use Rattle.calls.specs.Calls.{CallResult, refusal_on, call_on}
 use Rattle.calls.specs.Doubles.{Reports, ReportFacts}
-use Rattle.calls.proofs.Validity.{sound_there, long_there, valid}
+use Rattle.calls.proofs.Validity.{sound_there, long_there}
 use Rattle.calls.proofs.CauseCases.{call_ways}
 use Rattle.calls.proofs.Rows.{result_accepts}
 use Rattle.calls.proofs.Facts.{call_facts, looks_only}

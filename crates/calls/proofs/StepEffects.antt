@@ -20,7 +20,7 @@ use Rattle.encoding.proofs.Places.{entries_length, levels_at_lem}
 use Rattle.encoding.proofs.Facts.{range_facts}
 use Rattle.machine.specs.Log.{first_wanted}
 use Rattle.machine.specs.Promote.{fits, refine}
-use Rattle.machine.specs.Steps.{started, deliver}
+use Rattle.machine.specs.Steps.{started}
 use Rattle.machine.specs.Causes.{first_cause, deliver_causes, promote_causes}
 use Rattle.machine.specs.Areas.{start_on, deliver_on, promote_on}
 use Rattle.writing.specs.ValidArea.{ValidArea}

@@ -1,8 +1,6 @@
 -- `calls::area_cause` meets its contract: the tests in the table's order. Assumes nothing.
 use mathlib.Core.Path.{sym, ◌∙◌}
-use Prim.Native.Nat.{◌-◌}
 use native.Mathlib.Omega.{arith}
-use borrow.Author.Tests.{not-true, not-false}
 use Rattle.area.specs.Encoding.{area_of, machine_of}
 use Rattle.area.proofs.Records.{length-records_of}
 use Rattle.soundness.specs.Clauses.{is_sound}
@@ -28,12 +26,12 @@ pub returns-then-not-check : goal.returns-then-not-check
 unfolding machine_of
 returns-then-not-check c =
     let a = area_of c.args.job c.args.cells.now c.args.store.now in
-    let unsound = sym (checked_sound c.args.job c.args.cells.now c.args.store.now c.if-cells-lt512.false (omega (arith, c.least_store.ensures, c.if-store-least_store.false))) ∙ (sym c.check.ensures ∙ not-true c.check.result c.if-not-check.true) in
+    let unsound = sym (checked_sound c.args.job c.args.cells.now c.args.store.now c.if-cells-lt512.false (omega (arith, c.least_store.ensures, c.if-store-least_store.false))) ∙ (sym c.check.ensures ∙ c.if-not-check.true) in
     sym (common_unsound (lengths_of a) (is_sound a) (machine_of a).log (enough (lengths_of a) c.args.job.settings (omega (arith, length-records_of c.args.cells.now, c.if-cells-lt512.false)) (omega (arith, c.least_store.ensures, c.if-store-least_store.false))) unsound)
 
 pub returns : goal.returns
 unfolding machine_of
 returns c =
     let a = area_of c.args.job c.args.cells.now c.args.store.now in
-    let sound = sym (checked_sound c.args.job c.args.cells.now c.args.store.now c.if-cells-lt512.false (omega (arith, c.least_store.ensures, c.if-store-least_store.false))) ∙ (sym c.check.ensures ∙ not-false c.check.result c.if-not-check.false) in
+    let sound = sym (checked_sound c.args.job c.args.cells.now c.args.store.now c.if-cells-lt512.false (omega (arith, c.least_store.ensures, c.if-store-least_store.false))) ∙ (sym c.check.ensures ∙ c.if-not-check.false) in
     sym (common_none (lengths_of a) (is_sound a) (machine_of a).log (enough (lengths_of a) c.args.job.settings (omega (arith, length-records_of c.args.cells.now, c.if-cells-lt512.false)) (omega (arith, c.least_store.ensures, c.if-store-least_store.false))) sound)

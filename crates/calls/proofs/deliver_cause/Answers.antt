@@ -1,8 +1,6 @@
 -- `calls::deliver_cause` meets its contract: the tests in the table's order. Assumes nothing.
 use mathlib.Core.Path.{sym, ◌∙◌}
-use Prim.Native.Nat.{◌-◌}
 use native.Mathlib.Omega.{arith}
-use borrow.Author.Tests.{not-true, not-false}
 use Rattle.area.specs.Encoding.{area_of, machine_of}
 use Rattle.soundness.specs.Clauses.{is_sound}
 use Rattle.calls.specs.Replies.{lengths_of}
@@ -41,7 +39,7 @@ returns-then-not-in_range c =
     let count = count_is c.args.job c.args.cells.now c.args.store.now c.area_cause-cause.result c.area_cause-cause.ensures c.if-cause-ne0.false c.first_wanted-place.result c.first_wanted-place.ensures c.if-held-place.false c.levels_at.result c.levels_at.ensures c.reading_count-count.result c.reading_count-count.ensures in
     sym
     (deliver_range (lengths_of a) (is_sound a) (machine_of a).log c.args.readings.now (sym c.area_cause-cause.ensures ∙ c.if-cause-ne0.false) (something c.args.job c.args.cells.now c.args.store.now c.area_cause-cause.result c.area_cause-cause.ensures c.if-cause-ne0.false c.first_wanted-place.result c.first_wanted-place.ensures c.if-held-place.false) (c.if-readings-count.false ∙ count)
-    (sym c.in_range.ensures ∙ not-true c.in_range.result c.if-not-in_range.true))
+    (sym c.in_range.ensures ∙ c.if-not-in_range.true))
 
 pub returns : goal.returns
 returns c =
@@ -49,4 +47,4 @@ returns c =
     let count = count_is c.args.job c.args.cells.now c.args.store.now c.area_cause-cause.result c.area_cause-cause.ensures c.if-cause-ne0.false c.first_wanted-place.result c.first_wanted-place.ensures c.if-held-place.false c.levels_at.result c.levels_at.ensures c.reading_count-count.result c.reading_count-count.ensures in
     sym
     (deliver-fits (lengths_of a) (is_sound a) (machine_of a).log c.args.readings.now (sym c.area_cause-cause.ensures ∙ c.if-cause-ne0.false) (something c.args.job c.args.cells.now c.args.store.now c.area_cause-cause.result c.area_cause-cause.ensures c.if-cause-ne0.false c.first_wanted-place.result c.first_wanted-place.ensures c.if-held-place.false) (c.if-readings-count.false ∙ count)
-    (sym c.in_range.ensures ∙ not-false c.in_range.result c.if-not-in_range.false))
+    (sym c.in_range.ensures ∙ c.if-not-in_range.false))

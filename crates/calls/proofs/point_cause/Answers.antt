@@ -1,6 +1,5 @@
 -- `calls::point_cause` meets its contract: the tests in the table's order; the buffer's row has the number of the storage's. Assumes nothing.
 use mathlib.Core.Path.{sym, ◌∙◌}
-use Prim.Native.Nat.{◌-◌}
 use native.Mathlib.Omega.{arith}
 use Rattle.area.specs.Encoding.{area_of, machine_of}
 use Rattle.soundness.specs.Clauses.{is_sound}

@@ -44,7 +44,7 @@ returns c =
     let d = c.args.job.settings.axes in
     let buffer = c.args.buffer.now in
     let all = points_fitting d (record_at (records_of c.args.cells.now) p.result).levels c.args.n (length buffer) in
-    let left = g.new.1.1.1.1.0 in
+    let left = g.new.buffer in
     ap (λ n. record { reply = wrote n g.result.size; buffer = left }) g.ensures.counts.0
     ∙ ap (λ n. record { reply = wrote (length all) n; buffer = left }) g.ensures.counts.1
     ∙ ap (λ x. record { reply = wrote (length all) (block_size (record_at (records_of c.args.cells.now) p.result).levels); buffer = x }) g.ensures.bytes

@@ -18,14 +18,15 @@ returns-then-cause-ne0 c =
 pub refine-promotion-requires : goal.refine-promotion-requires
 refine-promotion-requires c =
     let n = c.promote_cause-cause in
-    refine_asks c.args.job c.args.cells.now c.args.store.now c.args.place n.result n.ensures c.if-cause-ne0.false
+    let w = refine_asks c.args.job c.args.cells.now c.args.store.now c.args.place n.result n.ensures c.if-cause-ne0.false in
+    record { valid_area = w.0; place_lt_held = w.1 }
 
 pub returns : goal.returns
 returns c =
     let a = area_of c.args.job c.args.cells.now c.args.store.now in
     let n = c.promote_cause-cause in
     let is = c.refine-promotion.ensures.is in
-    let after = c.refine-promotion.new.1.1.1.0 in
+    let after = c.refine-promotion.new.cells in
     let reply = c.as_answer.ensures.0 ∙ ap (λ (x : AreaPromotion). promotion x.outcome) is in
     let area = ap (λ (k : JobRecord). area_of k after c.args.store.now) c.as_answer.ensures.1 ∙ ap (λ (x : AreaPromotion). x.area) is in
     (λ i. record { answer = answer (reply i); area = area i }) ∙ promote_accepts a c.args.place n.result n.ensures c.if-cause-ne0.false

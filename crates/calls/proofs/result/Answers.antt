@@ -1,6 +1,5 @@
 -- `calls::result` meets its contract: refused by its cause, or the counts of a valid area. Assumes nothing.
 use mathlib.Core.Path.{sym, ap, ◌∙◌}
-use Prim.Native.Nat.{◌-◌}
 use Rattle.area.specs.Encoding.{area_of}
 use Rattle.calls.specs.Replies.{counts, reply_of_result}
 use Rattle.machine.specs.Counts.{Counts}

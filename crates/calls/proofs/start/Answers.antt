@@ -1,7 +1,7 @@
 -- `calls::start` meets its contract: refused by its cause, or the job record and the root written. Assumes nothing.
 use mathlib.Core.Path.{◌≡◌, sym, ap, ◌∙◌}
 use mathlib.Core.List.{List}
-use Prim.Native.Nat.{ℕ, ◌-◌, ◌/◌, ◌≤◌}
+use Prim.Native.Nat.{ℕ, ◌/◌, ◌≤◌}
 use native.Mathlib.Omega.{arith}
 use lib.ListN.{length}
 use Rattle.area.specs.declared.Settings.{Settings}
@@ -52,6 +52,6 @@ unfolding reply_of
 returns c =
     let a = area_of c.args.job c.args.cells.now c.args.store.now in
     ap (λ (x : Area). record { answer = answer accepted; area = x })
-    (area_is c.args.job c.start-started.result c.args.cells.now c.start-started.new.1.0 c.args.store.now c.args.settings
+    (area_is c.args.job c.start-started.result c.args.cells.now c.start-started.new.cells c.args.store.now c.args.settings
     (room c.args.job c.args.cells.now c.args.store.now c.args.settings c.start_cause-cause.result c.start_cause-cause.ensures c.if-cause-ne0.false) c.start-started.ensures.job c.start-started.ensures.run)
     ∙ start_accepts a c.args.settings c.start_cause-cause.result (cause_is c.args.job c.args.cells.now c.args.store.now c.args.settings c.start_cause-cause.result c.start_cause-cause.ensures) c.if-cause-ne0.false
