@@ -2,10 +2,10 @@
 -- (crate `encoding`, `WellFormed`), whatever they hold. Its indicator has 32 bits. And every record of eight levels and sixteen links, all of
 -- 32 bits, is a value.
 -- Assumes nothing.
-use mathlib.Core.Path.{◌≡◌, refl, ◌∙◌}
+use mathlib.Core.Path.{◌≡◌, refl}
 use mathlib.Core.List.{List, [], ◌∷◌, map}
 use Prim.Native.Nat.{ℕ, ◌^◌, ◌<◌}
-use lib.ListN.{length, length-map}
+use lib.ListN.{length}
 use mir.Syntax.{w32}
 use mir.Val.{Val, vint, vstruct, of_list}
 use denote.Array.{array_val, each}
@@ -37,7 +37,7 @@ abbrev array : List ℕ → Val
 array ns = array_val (words ns)
 
 -- an array field has each element as it is
-each_word : (ns : List ℕ) → AllWords ns → shadow (each ℕ (UInt w32).own_val (map (λ n. n) ns) (words ns))
+each_word : (ns : List ℕ) → AllWords ns → shadow (each ℕ (UInt w32).own_val ns (words ns))
 each_word [] s = tt
 each_word (n ∷ ns) s = ((refl, s.0), each_word ns s.1)
 
@@ -50,14 +50,14 @@ typed_value r eight sixteen levels state indicator first links = (
     (
       refl,
       (
-        (words r.levels, ((refl, length-map r.levels (λ n. n) ∙ eight), each_word r.levels levels)),
+        (words r.levels, ((refl, eight), each_word r.levels levels)),
         (
           (refl, state),
           (
             (refl, indicator),
             (
               (refl, first),
-              ((words r.links, ((refl, length-map r.links (λ n. n) ∙ sixteen), each_word r.links links)), tt),
+              ((words r.links, ((refl, sixteen), each_word r.links links)), tt),
             ),
           ),
         ),

@@ -1,8 +1,7 @@
 -- `records::start` meets its contract: start goes by the number of the records, and what it stores is stored back. Assumes nothing.
-use mathlib.Core.Path.{◌≡◌, sym, ap, ◌∙◌}
+use mathlib.Core.Path.{sym, ap, ◌∙◌}
 use mathlib.Core.List.{List}
 use native.Mathlib.Omega.{arith}
-use lib.ListN.{length}
 use Rattle.area.specs.declared.IndexRecord.{IndexRecord}
 use Rattle.records.specs.Lent.{call_result_on}
 use Rattle.records.proofs.Overs.{min-left, min_right}
