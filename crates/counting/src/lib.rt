@@ -49,7 +49,8 @@ fn ceiling_count(axes: usize, held: usize, cells: &[u32]) -> u32
     let mut count: u32 = 0;
     let mut place: usize = 0;
     while place < held {
-        if area::state_at(cells, place) == area::OLD {
+        let is_old = area::state_at(cells, place) == area::OLD;
+        if is_old {
             count += grid::capped_axes(axes, area::levels_at(cells, place));
         }
         place += 1;

@@ -47,7 +47,8 @@ fn new_links(
     let mut links = [area::NONE; 16];
     let mut axis: usize = 0;
     while axis < 8 {
-        if 1 < levels[axis] {
+        let has_backward = 1 < levels[axis];
+        if has_backward {
             links[8 + axis] = place_of(
                 held,
                 grid::backward_neighbour(levels, axis),

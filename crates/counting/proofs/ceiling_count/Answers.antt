@@ -4,7 +4,7 @@ use native.Mathlib.Omega.{arith}
 use Rattle.grid.specs.Index.{capped_axes}
 use Rattle.quadrature.proofs.Held.{held_record}
 use Rattle.counting.proofs.Tallies.{ceiling_old, ceiling_other, ceiling_end}
-use Rattle.counting.proofs.ceiling_count.Goals.{then-state_at-eq-OLD, else-state_at-eq-OLD}
+use Rattle.counting.proofs.ceiling_count.Goals.{then-is_old, else-is_old}
 use Rattle.counting.proofs.ceiling_count.Goals as goal
 
 pub capped_axes-count-requires : goal.capped_axes-count-requires
@@ -17,18 +17,18 @@ pub loop-place-preserved : goal.loop-place-preserved
 loop-place-preserved c =
     let l = c.loop-place in
     let cells = c.args.cells.now in
-    let state = c.state_at.ensures in
-    elim c.if-state_at-eq-OLD.branch [
-      | then-state_at-eq-OLD w ↦
+    let state = c.state_at-is_old.ensures in
+    elim c.if-is_old.branch [
+      | then-is_old w ↦
           let e = w.capped_axes-count.ensures.0 ∙ ap (capped_axes c.args.axes) w.levels_at.ensures in (
             omega arith,
             omega (arith, w.count-is, w.capped_axes-count.ensures.1),
-            omega (arith, w.count-is, e, l.invariant.2, ceiling_old cells c.args.held l.place (omega arith) c.args.axes (omega arith) (sym state ∙ w.if-state_at-eq-OLD.true)),
+            omega (arith, w.count-is, e, l.invariant.2, ceiling_old cells c.args.held l.place (omega arith) c.args.axes (omega arith) (sym state ∙ w.if-is_old.true)),
           )
-      | else-state_at-eq-OLD w ↦ (
+      | else-is_old w ↦ (
         omega arith,
         omega (arith, w.count-is),
-        omega (arith, w.count-is, l.invariant.2, ceiling_other cells c.args.held l.place (omega arith) c.args.axes (omega arith) (λ e. w.if-state_at-eq-OLD.false (state ∙ e))),
+        omega (arith, w.count-is, l.invariant.2, ceiling_other cells c.args.held l.place (omega arith) c.args.axes (omega arith) (λ e. w.if-is_old.false (state ∙ e))),
       )
     ]
 

@@ -6,7 +6,7 @@ use Rattle.area.specs.Records.{held_in, levels_of}
 use Rattle.area.specs.Encoding.{none, place_of}
 use Rattle.writing.proofs.Linking.{SoFar, so_far_start, so_far_skip, so_far_put, so_far_end, link_along, along_above, along_one, links_are}
 use Rattle.writing.proofs.new_links.Goals as goal
-use Rattle.writing.proofs.new_links.Goals.{then-levels-axis-gt1, else-levels-axis-gt1}
+use Rattle.writing.proofs.new_links.Goals.{then-has_backward, else-has_backward}
 
 pub loop-axis-init : goal.loop-axis-init
 unfolding none
@@ -19,7 +19,7 @@ pub bounds-levels-axis : goal.bounds-levels-axis
 bounds-levels-axis c = omega arith
 
 pub backward_neighbour-requires : goal.backward_neighbour-requires
-backward_neighbour-requires c = (omega arith, c.if-levels-axis-gt1.true)
+backward_neighbour-requires c = (omega arith, c.if-has_backward.true)
 
 pub place_of-requires : goal.place_of-requires
 place_of-requires c = c.requires
@@ -45,14 +45,14 @@ loop-axis-preserved c =
     let k = c.args.levels in
     let ls = levels_of (held_in c.args.cells.now c.args.held) in
     let f = link_along ls k in
-    elim c.if-levels-axis-gt1.branch [
-      | then-levels-axis-gt1 w ↦ (
+    elim c.if-has_backward.branch [
+      | then-has_backward w ↦ (
         omega arith,
         subst (SoFar f (l.axis + 1)) (sym w.links-is)
             (so_far_put f l.axis l.links (omega arith) l.invariant.1 w.place_of.result
-            (w.place_of.ensures ∙ ap (place_of ls) w.backward_neighbour.ensures ∙ sym (along_above ls k l.axis w.if-levels-axis-gt1.true))),
+            (w.place_of.ensures ∙ ap (place_of ls) w.backward_neighbour.ensures ∙ sym (along_above ls k l.axis w.if-has_backward.true))),
       )
-      | else-levels-axis-gt1 w ↦ (omega arith, subst (SoFar f (l.axis + 1)) (sym w.links-is) (so_far_skip f l.axis l.links (omega arith) l.invariant.1 (along_one ls k l.axis w.if-levels-axis-gt1.false)))
+      | else-has_backward w ↦ (omega arith, subst (SoFar f (l.axis + 1)) (sym w.links-is) (so_far_skip f l.axis l.links (omega arith) l.invariant.1 (along_one ls k l.axis w.if-has_backward.false)))
     ]
 
 pub returns : goal.returns
