@@ -1,4 +1,3 @@
--- Laws of two's complement, of words, and of what a refusal leaves.
-pub mod Complement
+-- Laws of words, and of what a refusal leaves.
 pub mod Facts
 pub mod Refusals

@@ -264,12 +264,7 @@ pub fn wihupya_deliver(
 }
 
 // Chooses, and writes 0 met, 3 capped or 4 chosen, and then the place that the rule selects, else 0.
-pub fn wihupya_choose(
-    job: &[u32; 12],
-    choice: &mut [u32; 2],
-    cells: &[u32],
-    store: &[i32],
-) -> u32
+pub fn wihupya_choose(job: &[u32; 12], choice: &mut [u32; 2], cells: &[u32], store: &[i32]) -> u32
     ensures { (result ≡ number_of (call_on (area_of (job_of job.now) cells.now store.now) choose).answer.reply) × (choice.new ≡ answer_words (call_on (area_of (job_of job.now) cells.now store.now) choose).answer.reply choice.old) }
 {
     let answered = calls::choose(job_of(job), cells, store);
@@ -318,12 +313,7 @@ pub fn wihupya_promote(
 }
 
 // The counts of the area.
-pub fn wihupya_result(
-    job: &[u32; 12],
-    counts: &mut [u32; 11],
-    cells: &[u32],
-    store: &[i32],
-) -> u32
+pub fn wihupya_result(job: &[u32; 12], counts: &mut [u32; 11], cells: &[u32], store: &[i32]) -> u32
     ensures { (result ≡ number_of (call_on (area_of (job_of job.now) cells.now store.now) result_call).answer.reply) × (counts.new ≡ answer_words (call_on (area_of (job_of job.now) cells.now store.now) result_call).answer.reply counts.old) }
 {
     let resulted = calls::result(job_of(job), cells, store);
@@ -338,12 +328,7 @@ pub fn wihupya_result(
 
 // The mean, the pending error and the largest delivered difference as doubles. The caller lends three doubles; here they are their bits, since
 // a NaN that was lent has bits of its own, which a refusal leaves.
-pub fn wihupya_doubles(
-    job: &[u32; 12],
-    report: &mut [u64; 3],
-    cells: &[u32],
-    store: &[i32],
-) -> u32
+pub fn wihupya_doubles(job: &[u32; 12], report: &mut [u64; 3], cells: &[u32], store: &[i32]) -> u32
     ensures { (result ≡ number_of (call_on (area_of (job_of job.now) cells.now store.now) doubles).answer.reply) × (report.new ≡ answer_words (call_on (area_of (job_of job.now) cells.now store.now) doubles).answer.reply report.old) }
 {
     let doubled = calls::doubles(job_of(job), cells, store);

@@ -2,11 +2,11 @@
 use mathlib.Core.Path.{ap, ◌∙◌}
 use mathlib.Core.List.{[], ◌∷◌}
 use mir.Syntax.{w64}
-use mir.Val.{of_z}
+use mir.Val.{SFits, of_z}
 use Rattle.sums.proofs.Words.{back}
 use Rattle.wihupya.specs.Words.{low_word, high_word}
 use Rattle.wihupya.specs.Exports.{count_words}
-use borrow.Author.Rules.{sfits_of}
+use borrow.Author.Rules.{rules}
 use Rattle.counting.specs.Answer.{counts_in}
 use Rattle.wihupya.proofs.count_words.Goals as goal
 
@@ -14,5 +14,6 @@ pub returns : goal.returns
 unfolding count_words counts_in
 returns c =
     let n = c.args.counts in
-    let mean = c.bits_of-mean.ensures ∙ ap (of_z w64) (back n.mean (sfits_of c.struct_told-1.given.1.1.1.1.1.1.0.1)) in
+    let fits : SFits w64 c.args.counts.mean = search rules in
+    let mean = c.bits_of-mean.ensures ∙ ap (of_z w64) (back n.mean fits) in
     λ i. c.low_word.ensures i ∷ c.high_word.ensures i ∷ (c.low_word-2.ensures ∙ ap low_word mean) i ∷ (c.high_word-2.ensures ∙ ap high_word mean) i ∷ n.old ∷ n.active ∷ n.wanted ∷ n.reserved ∷ n.ceiling ∷ c.low_word-3.ensures i ∷ c.high_word-3.ensures i ∷ []

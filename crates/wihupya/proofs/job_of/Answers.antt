@@ -4,7 +4,7 @@ use borrow.Author.Rules.{sfits_of}
 use mir.Syntax.{w64}
 use mir.Val.{to_z}
 use Rattle.sums.proofs.Words.{back}
-use Rattle.wihupya.specs.Words.{job_of, wide}
+use Rattle.wihupya.specs.Words.{job_of}
 use Rattle.wihupya.proofs.job_of.Goals as goal
 
 pub returns : goal.returns

@@ -1,33 +1,20 @@
 -- `wihupya::wihupya_deliver` meets its contract: the call on the words' job record, written as words again; a refusal writes none. Assumes nothing.
-use mathlib.Core.Path.{refl, ap, ◌∙◌}
-use Prim.Native.Nat.{◌-◌}
+use mathlib.Core.Path.{ap, ◌∙◌}
 use Rattle.wihupya.specs.Exports.{exported}
-use Rattle.area.specs.declared.JobRecord.{JobRecord}
 use Rattle.area.specs.Records.{run_of}
-use Rattle.area.specs.Encoding.{area_of}
 use Rattle.calls.specs.Table as table
-use Rattle.calls.specs.Calls.{call_on}
 use Rattle.wihupya.proofs.Refusals.{refused_words}
 use Rattle.wihupya.proofs.wihupya_deliver.Goals as goal
 
-pub returns-then-number-ne0 : goal.returns-then-number-ne0
+pub returns-then-number-ne0-clause-is : goal.returns-then-number-ne0-clause-is
 unfolding exported
-returns-then-number-ne0 c =
-    let cells = c.args.cells.now in
-    let store = c.args.store.now in
-    let r = c.deliver-answered.result in
-    let is = c.deliver-answered.ensures ∙ ap (λ (j : JobRecord). call_on (area_of j cells store) (table.deliver c.args.readings.now c.args.indicator)) c.job_in.ensures.0 in record {
-      is = (λ i. record { number = c.number_of-number.ensures i; job = (refused_words c.args.job.now cells store (table.deliver c.args.readings.now c.args.indicator) r c.deliver-answered.new.1.1.1.0 c.deliver-answered.new.1.1.1.1.0 c.number_of-number.result is c.number_of-number.ensures c.if-number-ne0.true c.job_in.ensures.1) i; run = run_of c.deliver-answered.new.1.1.1.0; store = c.deliver-answered.new.1.1.1.1.0 }) ∙ ap exported is;
-      refused = λ n. refl;
-    }
+returns-then-number-ne0-clause-is c =
+    let is = rw c.job_in.ensures.0 at c.deliver-answered.ensures in
+    let job = refused_words c.args.job.now c.args.cells.now c.args.store.now (table.deliver c.args.readings.now c.args.indicator) c.deliver-answered.result c.deliver-answered.new.cells c.deliver-answered.new.store c.number_of-number.result is c.number_of-number.ensures c.if-number-ne0.true c.job_in.ensures.1 in
+    (λ i. record { number = c.number_of-number.ensures i; job = job i; run = run_of c.deliver-answered.new.cells; store = c.deliver-answered.new.store }) ∙ ap exported is
 
-pub returns : goal.returns
+pub returns-clause-is : goal.returns-clause-is
 unfolding exported
-returns c =
-    let cells = c.args.cells.now in
-    let store = c.args.store.now in
-    let r = c.deliver-answered.result in
-    let is = c.deliver-answered.ensures ∙ ap (λ (j : JobRecord). call_on (area_of j cells store) (table.deliver c.args.readings.now c.args.indicator)) c.job_in.ensures.0 in record {
-      is = (λ i. record { number = c.number_of-number.ensures i; job = c.words_of.ensures i; run = run_of c.deliver-answered.new.1.1.1.0; store = c.deliver-answered.new.1.1.1.1.0 }) ∙ ap exported is;
-      refused = λ n. absurd (n c.if-number-ne0.false);
-    }
+returns-clause-is c =
+    let is = rw c.job_in.ensures.0 at c.deliver-answered.ensures in
+    (λ i. record { number = c.number_of-number.ensures i; job = c.words_of.ensures i; run = run_of c.deliver-answered.new.cells; store = c.deliver-answered.new.store }) ∙ ap exported is
