@@ -37,7 +37,7 @@ use Rattle.calls.proofs.Ranges.{readings_range}
 use Rattle.calls.proofs.Tests as tests
 use Rattle.jobfile.specs.Form.{formed, form_of, entry_count}
 use Rattle.jobfile.specs.File.{entry_of}
-use Rattle.reporting.specs.Text.{met, spent, short}
+use Rattle.reporting.specs.Text.{short}
 use Rattle.running.specs.Execution.{own_lengths, refused_at, ended, delivery_byte, delivery_cause, by_outcome, by_choice, execution, step_limit, start_byte, start_cause, result_in, result_of, file_settings}
 use Rattle.running.specs.Facts.{ByStart, ByDelivery, RunInvariant, AllowedResult}
 use Rattle.running.proofs.Counted.{count_most, delivery_old, refined_old}

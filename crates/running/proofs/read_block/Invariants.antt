@@ -1,7 +1,7 @@
 -- `running::read_block` meets its contract: the readings passed are in the block, and what lies past them is as it was. Assumes nothing.
 use mathlib.Core.Path.{◌≡◌}
 use mathlib.Core.List.{◌++◌}
-use Prim.Native.Nat.{◌+◌, ◌-◌, ◌≤◌}
+use Prim.Native.Nat.{◌-◌, ◌≤◌}
 use lib.ListN.{length, drop}
 use Rattle.jobfile.specs.File.{readings_at}
 use Rattle.running.proofs.read_block.Given as goal

@@ -1,5 +1,5 @@
 -- `running::run` meets its contract: the buffer is too short, the form is wrong, or the file is run. Assumes nothing.
-use mathlib.Core.Path.{ap, sym, ◌∙◌}
+use mathlib.Core.Path.{sym}
 use Rattle.jobfile.specs.Form.{header, entry, readings, form_in}
 use Rattle.running.proofs.Whole.{form_refused, too_short_lem, printed}
 use Rattle.running.proofs.run.Goals as goal
@@ -9,7 +9,7 @@ returns-then-report-lt512 c = too_short_lem c.args.bytes.now c.args.report.now c
 
 pub run_formed-requires : goal.run_formed-requires
 unfolding form_in
-run_formed-requires c = (sym c.parse-form.ensures ∙ ap form_in c.enum_told-1.given.1, c.if-report-lt512.false)
+run_formed-requires c = (sym c.in-Formed.ensures, c.if-report-lt512.false)
 
 pub returns-in-Formed : goal.returns-in-Formed
 returns-in-Formed c = printed c.args.bytes.now c.args.report.now _ _ c.if-report-lt512.false c.run_formed.ensures
@@ -18,19 +18,19 @@ pub returns-in-Header : goal.returns-in-Header
 unfolding form_in
 returns-in-Header c =
     printed c.args.bytes.now c.args.report.now _ _ c.if-report-lt512.false
-    (form_refused c.args.bytes.now 0 c.args.report.now _ _ (header _) (sym c.parse-form.ensures ∙ ap form_in c.in-Header.is)
+    (form_refused c.args.bytes.now 0 c.args.report.now _ _ (header _) (sym c.in-Header.ensures)
     (record { bytes = c.put_refusal.ensures.bytes; count = c.put_refusal.ensures.count }))
 
 pub returns-in-Entry : goal.returns-in-Entry
 unfolding form_in
 returns-in-Entry c =
     printed c.args.bytes.now c.args.report.now _ _ c.if-report-lt512.false
-    (form_refused c.args.bytes.now 0 c.args.report.now _ _ (entry _) (sym c.parse-form.ensures ∙ ap form_in c.in-Entry.is)
+    (form_refused c.args.bytes.now 0 c.args.report.now _ _ (entry _) (sym c.in-Entry.ensures)
     (record { bytes = c.put_refusal-in-Entry.ensures.bytes; count = c.put_refusal-in-Entry.ensures.count }))
 
 pub returns-in-Readings : goal.returns-in-Readings
 unfolding form_in
 returns-in-Readings c =
     printed c.args.bytes.now c.args.report.now _ _ c.if-report-lt512.false
-    (form_refused c.args.bytes.now 0 c.args.report.now _ _ (readings _) (sym c.parse-form.ensures ∙ ap form_in c.in-Readings.is)
+    (form_refused c.args.bytes.now 0 c.args.report.now _ _ (readings _) (sym c.in-Readings.ensures)
     (record { bytes = c.put_refusal-in-Readings.ensures.bytes; count = c.put_refusal-in-Readings.ensures.count }))

@@ -7,14 +7,13 @@ use Rattle.running.specs.Code.{Printed}
 use Rattle.running.proofs.Whole.{start_valid, start_state}
 use Rattle.running.proofs.run_started.Goals as goal
 
-pub run_from-requires : goal.run_from-requires
-run_from-requires c =
-     record {
-      valid_area = (start_valid c.args.settings c.requires.0 c.start-job.result _ c.start-job.new.1.0 _ c.start-job.ensures.job c.start-job.ensures.run refl refl, c.requires.1, c.requires.2, omega arith);
-      used_le_entries = (omega arith, c.requires.3);
-    }
+pub run_from-requires-clause-valid_area : goal.run_from-requires-clause-valid_area
+run_from-requires-clause-valid_area c =
+    let s = c.start-job in
+    (start_valid c.args.settings c.requires.0 s.result _ s.new.cells _ s.ensures.job s.ensures.run refl refl, c.requires.1, c.requires.2, omega arith)
 
 pub returns : goal.returns
 returns c =
-    subst (λ m. Printed (text_in c.args.entries (execution c.args.bytes.now 1025 m 0)) c.args.report.now c.run_from.new.1.1.1.1.1.1.1.1.0 c.run_from.result)
-    (start_state c.args.settings c.requires.0 c.start-job.result _ c.start-job.new.1.0 _ c.start-job.ensures.job c.start-job.ensures.run refl refl) c.run_from.ensures
+    let s = c.start-job in
+    subst (λ m. Printed (text_in c.args.entries (execution c.args.bytes.now 1025 m 0)) c.args.report.now c.run_from.new.report c.run_from.result)
+    (start_state c.args.settings c.requires.0 s.result _ s.new.cells _ s.ensures.job s.ensures.run refl refl) c.run_from.ensures
