@@ -12,7 +12,7 @@ use Rattle.area.specs.Log.{Log}
 use Rattle.machine.specs.Log.{any_wanted}
 use Rattle.machine.specs.Choose as choice
 use Rattle.calls.specs.Replies.{refused, chosen}
-use Rattle.calls.specs.Table.{Call, deliver, choose, promote, Answer, answer, row, accepted_answer, refused_answer, answer_of}
+use Rattle.calls.specs.Table.{Call, start, point, points, deliver, choose, promote, result, doubles, cross_total, check, Answer, answer, row, accepted_answer, refused_answer, answer_of}
 use Rattle.history.specs.Logged.{state_of, refusal_by, log_step, answer_by}
 use Rattle.history.specs.Promotions.{AllChosen}
 use Rattle.history.specs.Source.{lend_all}
@@ -107,3 +107,21 @@ turn_chosen l (choose ∷ promote _ ∷ xs) (promotes at w a more) = (
       (unfold lend_all in (inl (λ q e o. (chose own_lent l (choice.place at) a).1 ∙ ap choice.place (let r : at ≡ q = cc in r)), turn_chosen (log_step l (lent (promote at))) xs more)),
 )
 turn_chosen l (choose ∷ []) (ends w n) = (inl (λ q e o. let z : ◌≡◌ {A = ℕ} 0 1 = cc in absurd (omega arith)), tt)
+-- no list of these calls is made in turn
+turn_chosen l (start _ ∷ xs) m = elim m [ ]
+turn_chosen l (point _ _ ∷ xs) m = elim m [ ]
+turn_chosen l (points _ _ ∷ xs) m = elim m [ ]
+turn_chosen l (choose ∷ (start _ ∷ xs)) m = elim m [ ]
+turn_chosen l (choose ∷ (point _ _ ∷ xs)) m = elim m [ ]
+turn_chosen l (choose ∷ (points _ _ ∷ xs)) m = elim m [ ]
+turn_chosen l (choose ∷ (deliver _ _ ∷ xs)) m = elim m [ ]
+turn_chosen l (choose ∷ (choose ∷ xs)) m = elim m [ ]
+turn_chosen l (choose ∷ (result ∷ xs)) m = elim m [ ]
+turn_chosen l (choose ∷ (doubles ∷ xs)) m = elim m [ ]
+turn_chosen l (choose ∷ (cross_total ∷ xs)) m = elim m [ ]
+turn_chosen l (choose ∷ (check ∷ xs)) m = elim m [ ]
+turn_chosen l (promote _ ∷ xs) m = elim m [ ]
+turn_chosen l (result ∷ xs) m = elim m [ ]
+turn_chosen l (doubles ∷ xs) m = elim m [ ]
+turn_chosen l (cross_total ∷ xs) m = elim m [ ]
+turn_chosen l (check ∷ xs) m = elim m [ ]
