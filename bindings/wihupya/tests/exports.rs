@@ -8,12 +8,14 @@ const FUNCTIONS: &str = include_str!("../../../crates/wihupya/src/lib.rt");
 const EXPORTS: &str = include_str!("../../../crates/wihupya_c/src/lib.rt");
 
 /// What stands between name and body of each function that begins so: parameters,
-/// result and clauses, with one space for any layout.
+/// result and clauses, with one space for any layout, and no comma before a
+/// closing bracket.
 fn contracts(text: &str, begin: &str) -> BTreeMap<String, String> {
     let told = text.split(begin).skip(1).map(|rest| {
         let (name, rest) = rest.split_once('(').unwrap();
         let (contract, _) = rest.split_once("\n{").unwrap();
-        (name.to_string(), contract.split_whitespace().collect::<Vec<_>>().join(" "))
+        let words: Vec<_> = contract.split_whitespace().collect();
+        (name.to_string(), words.join(" ").replace(", )", ")"))
     });
     told.collect()
 }

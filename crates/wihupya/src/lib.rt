@@ -1,5 +1,5 @@
 #![tactic(auto)]
-// The calls, exported for C and Rust: the proved functions, with nothing asked of what the storage holds. A job record is twelve words
+// The calls over words, which the crate wihupya_c exports for C and Rust: the proved functions, with nothing asked of what the storage holds. A job record is twelve words
 // (specs/Words.antt). The length of cells counts words, 27 to a record; that of the store counts readings. A call but check returns 0
 // if it was not refused, else the number of the cause. include/wihupya.h says it for C, and bindings/ for Rust.
 ghost use Rattle.std.specs.Prelude.{◌≡◌, ◌+◌, ◌*◌, ◌^◌};
