@@ -19,7 +19,7 @@ pub bounds-levels-axis : goal.bounds-levels-axis
 bounds-levels-axis c = omega arith
 
 pub backward_neighbour-requires : goal.backward_neighbour-requires
-backward_neighbour-requires c = (omega arith, c.if-has_backward.true)
+backward_neighbour-requires c = (omega arith, omega arith)
 
 pub place_of-requires : goal.place_of-requires
 place_of-requires c = c.requires
