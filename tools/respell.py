@@ -7,8 +7,7 @@ usage: tools/respell.py        once, at the top of a checkout in which port.py h
 
 It goes by text: it gathers what the files of specs/ and proofs/ declare, and renames each such word where it stands for that name: not where a
 file takes the word from a library, nor behind a library's module. In README.md and docs/ it turns names in back quotes alone; docs/changes stays.
-The proofs of functions (proofs/F/Proof.antt) are turned by tools/answers.py, which also knows the names that Rattle makes; here their use lines and
-what they cite are turned, and the names that they declare for their needs stay."""
+In the proofs of functions (proofs/F/Proof.antt) what they cite is turned; the names that they declare for what is asked of them stay."""
 
 import os
 import re
