@@ -73,7 +73,8 @@ fn in_range(readings: &[i32]) -> bool
 pub fn start_cause(settings: area::Settings, records: usize, readings: usize) -> u32
     ensures { result ≡ first_cause (start_causes (record { records = records; readings = readings }) settings) }
 {
-    if settings.axes < 1 {
+    let no_axes = settings.axes < 1;
+    if no_axes {
         return 1;
     }
     if 8 < settings.axes {
@@ -98,7 +99,8 @@ pub fn start_cause(settings: area::Settings, records: usize, readings: usize) ->
 fn area_cause(job: area::JobRecord, cells: &[u32], store: &[i32]) -> u32
     ensures { result ≡ area_cause (area_of job cells.now store.now) }
 {
-    if cells.len() / 27 < 512 {
+    let few_records = cells.len() / 27 < 512;
+    if few_records {
         return 3;
     }
     let settings = job.settings;
@@ -150,7 +152,8 @@ fn deliver_cause(job: area::JobRecord, readings: &[i32], cells: &[u32], store: &
     }
     let settings = job.settings;
     let count = area::reading_count(settings, area::levels_at(cells, place));
-    if readings.len() != count {
+    let miscounted = readings.len() != count;
+    if miscounted {
         return 7;
     }
     if !in_range(readings) {
@@ -168,7 +171,9 @@ fn choose_cause(job: area::JobRecord, cells: &[u32], store: &[i32]) -> u32
         return cause;
     }
     let held = job.held as usize;
-    if delivery::first_wanted(held, cells) < held {
+    let place = delivery::first_wanted(held, cells);
+    let is_wanted = place < held;
+    if is_wanted {
         return 6;
     }
     0

@@ -183,7 +183,8 @@ fn axis_complete(axes: usize, place: usize, axis: usize, cells: &[u32]) -> bool
     if area::link_at(cells, place, axis) != area::NONE {
         return true;
     }
-    if 8 <= area::level_at(cells, place, axis) {
+    let is_highest = 8 <= area::level_at(cells, place, axis);
+    if is_highest {
         return true;
     }
     barred(axes, place, axis, cells)

@@ -98,7 +98,8 @@ fn number_visited(rank: usize, count: usize, q: usize) -> usize
     requires { q < count }
     ensures { (result ≡ turned rank count q) × (result < count) }
 {
-    if rank % 2 == 0 { q } else { count - 1 - q }
+    let rises = rank % 2 == 0;
+    if rises { q } else { count - 1 - q }
 }
 
 // The positions of the n-th point of a block, from 0, in reflected order: axis 1 slowest and rising, and each later axis rising or falling

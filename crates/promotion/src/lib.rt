@@ -233,7 +233,8 @@ pub fn refine(
             job,
         };
     }
-    if most < reserved + sizes {
+    let is_over = most < reserved + sizes;
+    if is_over {
         return Promotion {
             outcome: Outcome::Spent,
             job,

@@ -246,7 +246,8 @@ fn subset_term(axes: usize, held: usize, place: usize, mask: u8, cells: &[u32]) 
 {
     match raised_place(axes, held, place, mask, cells) {
         area::LookupResult::At(at) => {
-            if area::state_at(cells, at) == area::WANTED {
+            let is_wanted = area::state_at(cells, at) == area::WANTED;
+            if is_wanted {
                 0
             } else {
                 grid::subset_sign(mask)

@@ -10,28 +10,28 @@ use Rattle.calls.proofs.Causes.{common_short, common_unsound, common_none}
 use Rattle.calls.proofs.Validity.{checked_sound}
 use Rattle.calls.proofs.area_cause.Goals as goal
 
-pub returns-then-cells-lt512 : goal.returns-then-cells-lt512
+pub returns-then-few_records : goal.returns-then-few_records
 unfolding machine_of
-returns-then-cells-lt512 c =
+returns-then-few_records c =
     let a = area_of c.args.job c.args.cells.now c.args.store.now in
-    sym (common_short (lengths_of a) (is_sound a) (machine_of a).log (few_records (lengths_of a) c.args.job.settings (omega (arith, length-records_of c.args.cells.now, c.if-cells-lt512.true))))
+    sym (common_short (lengths_of a) (is_sound a) (machine_of a).log (few_records (lengths_of a) c.args.job.settings (omega (arith, length-records_of c.args.cells.now, c.if-few_records.true))))
 
 pub returns-then-store-least_store : goal.returns-then-store-least_store
 unfolding machine_of
 returns-then-store-least_store c =
     let a = area_of c.args.job c.args.cells.now c.args.store.now in
-    sym (common_short (lengths_of a) (is_sound a) (machine_of a).log (few_readings_lem (lengths_of a) c.args.job.settings (omega (arith, length-records_of c.args.cells.now, c.if-cells-lt512.false)) (omega (arith, c.least_store.ensures, c.if-store-least_store.true))))
+    sym (common_short (lengths_of a) (is_sound a) (machine_of a).log (few_readings_lem (lengths_of a) c.args.job.settings (omega (arith, length-records_of c.args.cells.now, c.if-few_records.false)) (omega (arith, c.least_store.ensures, c.if-store-least_store.true))))
 
 pub returns-then-not-check : goal.returns-then-not-check
 unfolding machine_of
 returns-then-not-check c =
     let a = area_of c.args.job c.args.cells.now c.args.store.now in
-    let unsound = sym (checked_sound c.args.job c.args.cells.now c.args.store.now c.if-cells-lt512.false (omega (arith, c.least_store.ensures, c.if-store-least_store.false))) ∙ (sym c.check.ensures ∙ c.if-not-check.true) in
-    sym (common_unsound (lengths_of a) (is_sound a) (machine_of a).log (enough (lengths_of a) c.args.job.settings (omega (arith, length-records_of c.args.cells.now, c.if-cells-lt512.false)) (omega (arith, c.least_store.ensures, c.if-store-least_store.false))) unsound)
+    let unsound = sym (checked_sound c.args.job c.args.cells.now c.args.store.now c.if-few_records.false (omega (arith, c.least_store.ensures, c.if-store-least_store.false))) ∙ (sym c.check.ensures ∙ c.if-not-check.true) in
+    sym (common_unsound (lengths_of a) (is_sound a) (machine_of a).log (enough (lengths_of a) c.args.job.settings (omega (arith, length-records_of c.args.cells.now, c.if-few_records.false)) (omega (arith, c.least_store.ensures, c.if-store-least_store.false))) unsound)
 
 pub returns : goal.returns
 unfolding machine_of
 returns c =
     let a = area_of c.args.job c.args.cells.now c.args.store.now in
-    let sound = sym (checked_sound c.args.job c.args.cells.now c.args.store.now c.if-cells-lt512.false (omega (arith, c.least_store.ensures, c.if-store-least_store.false))) ∙ (sym c.check.ensures ∙ c.if-not-check.false) in
-    sym (common_none (lengths_of a) (is_sound a) (machine_of a).log (enough (lengths_of a) c.args.job.settings (omega (arith, length-records_of c.args.cells.now, c.if-cells-lt512.false)) (omega (arith, c.least_store.ensures, c.if-store-least_store.false))) sound)
+    let sound = sym (checked_sound c.args.job c.args.cells.now c.args.store.now c.if-few_records.false (omega (arith, c.least_store.ensures, c.if-store-least_store.false))) ∙ (sym c.check.ensures ∙ c.if-not-check.false) in
+    sym (common_none (lengths_of a) (is_sound a) (machine_of a).log (enough (lengths_of a) c.args.job.settings (omega (arith, length-records_of c.args.cells.now, c.if-few_records.false)) (omega (arith, c.least_store.ensures, c.if-store-least_store.false))) sound)

@@ -12,15 +12,15 @@ returns-then-cause-ne0 c =
     let a = area_of c.args.job c.args.cells.now c.args.store.now in
     c.area_cause-cause.ensures ∙ sym (choose_common (lengths_of a) (is_sound a) (machine_of a).log (λ e. c.if-cause-ne0.true (c.area_cause-cause.ensures ∙ e)))
 
-pub first_wanted-requires : goal.first_wanted-requires
-first_wanted-requires c = held_there c.args.job c.args.cells.now c.args.store.now (st c.args.job c.args.cells.now c.args.store.now c.area_cause-cause.result c.area_cause-cause.ensures c.if-cause-ne0.false)
+pub first_wanted-place-requires : goal.first_wanted-place-requires
+first_wanted-place-requires c = held_there c.args.job c.args.cells.now c.args.store.now (st c.args.job c.args.cells.now c.args.store.now c.area_cause-cause.result c.area_cause-cause.ensures c.if-cause-ne0.false)
 
-pub returns-then-first_wanted-held : goal.returns-then-first_wanted-held
-returns-then-first_wanted-held c =
+pub returns-then-is_wanted : goal.returns-then-is_wanted
+returns-then-is_wanted c =
     let a = area_of c.args.job c.args.cells.now c.args.store.now in
-    sym (choose_wanted (lengths_of a) (is_sound a) (machine_of a).log (sym c.area_cause-cause.ensures ∙ c.if-cause-ne0.false) (something c.args.job c.args.cells.now c.args.store.now c.area_cause-cause.result c.area_cause-cause.ensures c.if-cause-ne0.false c.first_wanted.result c.first_wanted.ensures c.if-first_wanted-held.true))
+    sym (choose_wanted (lengths_of a) (is_sound a) (machine_of a).log (sym c.area_cause-cause.ensures ∙ c.if-cause-ne0.false) (something c.args.job c.args.cells.now c.args.store.now c.area_cause-cause.result c.area_cause-cause.ensures c.if-cause-ne0.false c.first_wanted-place.result c.first_wanted-place.ensures c.if-is_wanted.true))
 
 pub returns : goal.returns
 returns c =
     let a = area_of c.args.job c.args.cells.now c.args.store.now in
-    sym (choose_free (lengths_of a) (is_sound a) (machine_of a).log (sym c.area_cause-cause.ensures ∙ c.if-cause-ne0.false) (nothing c.args.job c.args.cells.now c.args.store.now c.area_cause-cause.result c.area_cause-cause.ensures c.if-cause-ne0.false c.first_wanted.result c.first_wanted.ensures c.if-first_wanted-held.false))
+    sym (choose_free (lengths_of a) (is_sound a) (machine_of a).log (sym c.area_cause-cause.ensures ∙ c.if-cause-ne0.false) (nothing c.args.job c.args.cells.now c.args.store.now c.area_cause-cause.result c.area_cause-cause.ensures c.if-cause-ne0.false c.first_wanted-place.result c.first_wanted-place.ensures c.if-is_wanted.false))

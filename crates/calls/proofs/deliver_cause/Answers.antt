@@ -27,18 +27,18 @@ levels_at-requires c = omega (arith, held_there c.args.job c.args.cells.now c.ar
 pub reading_count-count-requires : goal.reading_count-count-requires
 reading_count-count-requires c = within c.args.job c.args.cells.now c.args.store.now c.area_cause-cause.result c.area_cause-cause.ensures c.if-cause-ne0.false c.first_wanted-place.result c.first_wanted-place.ensures c.if-held-place.false c.levels_at.result c.levels_at.ensures
 
-pub returns-then-readings-count : goal.returns-then-readings-count
-returns-then-readings-count c =
+pub returns-then-miscounted : goal.returns-then-miscounted
+returns-then-miscounted c =
     let a = area_of c.args.job c.args.cells.now c.args.store.now in
     let count = count_is c.args.job c.args.cells.now c.args.store.now c.area_cause-cause.result c.area_cause-cause.ensures c.if-cause-ne0.false c.first_wanted-place.result c.first_wanted-place.ensures c.if-held-place.false c.levels_at.result c.levels_at.ensures c.reading_count-count.result c.reading_count-count.ensures in
-    sym (deliver_count (lengths_of a) (is_sound a) (machine_of a).log c.args.readings.now (sym c.area_cause-cause.ensures ∙ c.if-cause-ne0.false) (something c.args.job c.args.cells.now c.args.store.now c.area_cause-cause.result c.area_cause-cause.ensures c.if-cause-ne0.false c.first_wanted-place.result c.first_wanted-place.ensures c.if-held-place.false) (λ e. c.if-readings-count.true (e ∙ sym count)))
+    sym (deliver_count (lengths_of a) (is_sound a) (machine_of a).log c.args.readings.now (sym c.area_cause-cause.ensures ∙ c.if-cause-ne0.false) (something c.args.job c.args.cells.now c.args.store.now c.area_cause-cause.result c.area_cause-cause.ensures c.if-cause-ne0.false c.first_wanted-place.result c.first_wanted-place.ensures c.if-held-place.false) (λ e. c.if-miscounted.true (e ∙ sym count)))
 
 pub returns-then-not-in_range : goal.returns-then-not-in_range
 returns-then-not-in_range c =
     let a = area_of c.args.job c.args.cells.now c.args.store.now in
     let count = count_is c.args.job c.args.cells.now c.args.store.now c.area_cause-cause.result c.area_cause-cause.ensures c.if-cause-ne0.false c.first_wanted-place.result c.first_wanted-place.ensures c.if-held-place.false c.levels_at.result c.levels_at.ensures c.reading_count-count.result c.reading_count-count.ensures in
     sym
-    (deliver_range (lengths_of a) (is_sound a) (machine_of a).log c.args.readings.now (sym c.area_cause-cause.ensures ∙ c.if-cause-ne0.false) (something c.args.job c.args.cells.now c.args.store.now c.area_cause-cause.result c.area_cause-cause.ensures c.if-cause-ne0.false c.first_wanted-place.result c.first_wanted-place.ensures c.if-held-place.false) (c.if-readings-count.false ∙ count)
+    (deliver_range (lengths_of a) (is_sound a) (machine_of a).log c.args.readings.now (sym c.area_cause-cause.ensures ∙ c.if-cause-ne0.false) (something c.args.job c.args.cells.now c.args.store.now c.area_cause-cause.result c.area_cause-cause.ensures c.if-cause-ne0.false c.first_wanted-place.result c.first_wanted-place.ensures c.if-held-place.false) (c.if-miscounted.false ∙ count)
     (sym c.in_range.ensures ∙ c.if-not-in_range.true))
 
 pub returns : goal.returns
@@ -46,5 +46,5 @@ returns c =
     let a = area_of c.args.job c.args.cells.now c.args.store.now in
     let count = count_is c.args.job c.args.cells.now c.args.store.now c.area_cause-cause.result c.area_cause-cause.ensures c.if-cause-ne0.false c.first_wanted-place.result c.first_wanted-place.ensures c.if-held-place.false c.levels_at.result c.levels_at.ensures c.reading_count-count.result c.reading_count-count.ensures in
     sym
-    (deliver-fits (lengths_of a) (is_sound a) (machine_of a).log c.args.readings.now (sym c.area_cause-cause.ensures ∙ c.if-cause-ne0.false) (something c.args.job c.args.cells.now c.args.store.now c.area_cause-cause.result c.area_cause-cause.ensures c.if-cause-ne0.false c.first_wanted-place.result c.first_wanted-place.ensures c.if-held-place.false) (c.if-readings-count.false ∙ count)
+    (deliver-fits (lengths_of a) (is_sound a) (machine_of a).log c.args.readings.now (sym c.area_cause-cause.ensures ∙ c.if-cause-ne0.false) (something c.args.job c.args.cells.now c.args.store.now c.area_cause-cause.result c.area_cause-cause.ensures c.if-cause-ne0.false c.first_wanted-place.result c.first_wanted-place.ensures c.if-held-place.false) (c.if-miscounted.false ∙ count)
     (sym c.in_range.ensures ∙ c.if-not-in_range.false))

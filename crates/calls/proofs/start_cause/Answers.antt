@@ -6,18 +6,18 @@ use Rattle.calls.proofs.Tests.{axes_out, budget_out, few_records, few_readings_l
 use Rattle.calls.proofs.Causes.{start_axes, start_budget, start_short, start_fits}
 use Rattle.calls.proofs.start_cause.Goals as goal
 
-pub returns-then-settings-lt1 : goal.returns-then-settings-lt1
-returns-then-settings-lt1 c =
-    sym (start_axes (record { records = c.args.records; readings = c.args.readings }) c.args.settings (axes_out c.args.settings (λ low high. omega (arith, c.if-settings-lt1.true))))
+pub returns-then-no_axes : goal.returns-then-no_axes
+returns-then-no_axes c =
+    sym (start_axes (record { records = c.args.records; readings = c.args.readings }) c.args.settings (axes_out c.args.settings (λ low high. omega (arith, c.if-no_axes.true))))
 
 pub returns-then-settings-gt8 : goal.returns-then-settings-gt8
 returns-then-settings-gt8 c =
     sym (start_axes (record { records = c.args.records; readings = c.args.readings }) c.args.settings (axes_out c.args.settings (λ low high. omega (arith, c.if-settings-gt8.true))))
 
-pub returns-then-settings-lt1-2 : goal.returns-then-settings-lt1-2
-returns-then-settings-lt1-2 c =
+pub returns-then-settings-lt1 : goal.returns-then-settings-lt1
+returns-then-settings-lt1 c =
     let g = c.args.settings in
-    sym (start_budget (record { records = c.args.records; readings = c.args.readings }) g ((reads_axes g).back (omega arith, omega arith)) (budget_out g (λ low high. omega (arith, c.if-settings-lt1-2.true))))
+    sym (start_budget (record { records = c.args.records; readings = c.args.readings }) g ((reads_axes g).back (omega arith, omega arith)) (budget_out g (λ low high. omega (arith, c.if-settings-lt1.true))))
 
 pub returns-then-settings-gt8192 : goal.returns-then-settings-gt8192
 returns-then-settings-gt8192 c =

@@ -15,15 +15,15 @@ unfolding none
 returns-then-link_at c =
     sym (open_held c.args.axes (records_of c.args.cells.now) c.args.place c.args.axis (λ e. c.if-link_at.true (c.link_at.ensures ∙ e)))
 
-pub level_at-requires : goal.level_at-requires
-level_at-requires c = (in_cells_lem c.args.cells.now c.args.place (omega arith), omega arith)
+pub level_at-is_highest-requires : goal.level_at-is_highest-requires
+level_at-is_highest-requires c = (in_cells_lem c.args.cells.now c.args.place (omega arith), omega arith)
 
-pub returns-then-level_at-ge8 : goal.returns-then-level_at-ge8
+pub returns-then-is_highest : goal.returns-then-is_highest
 unfolding none
-returns-then-level_at-ge8 c =
+returns-then-is_highest c =
     sym
     (open_high c.args.axes (records_of c.args.cells.now) c.args.place c.args.axis (sym c.link_at.ensures ∙ c.if-link_at.false)
-    (omega (arith, c.level_at.ensures, c.if-level_at-ge8.true)))
+    (omega (arith, c.level_at-is_highest.ensures, c.if-is_highest.true)))
 
 pub returns : goal.returns
 unfolding none
@@ -31,4 +31,4 @@ returns c =
     c.barred.ensures
     ∙ sym
     (open_barred c.args.axes (records_of c.args.cells.now) c.args.place c.args.axis (sym c.link_at.ensures ∙ c.if-link_at.false)
-    (omega (arith, c.level_at.ensures, c.if-level_at-ge8.false)))
+    (omega (arith, c.level_at-is_highest.ensures, c.if-is_highest.false)))

@@ -5,8 +5,8 @@ use mathlib.Core.Path.{sym}
 use Rattle.grid.proofs.Turns.{turned_even, turned-odd}
 use Rattle.grid.proofs.number_visited.Goals as goal
 
-pub returns-then-rank-eq0 : goal.returns-then-rank-eq0
-returns-then-rank-eq0 c = (sym (turned_even c.args.rank c.args.count c.args.q (search rules)), search rules)
+pub returns-then-rises : goal.returns-then-rises
+returns-then-rises c = (sym (turned_even c.args.rank c.args.count c.args.q (search rules)), search rules)
 
-pub returns-else-rank-eq0 : goal.returns-else-rank-eq0
-returns-else-rank-eq0 c = (sym (turned-odd c.args.rank c.args.count c.args.q (omega arith)), omega arith)
+pub returns-else-rises : goal.returns-else-rises
+returns-else-rises c = (sym (turned-odd c.args.rank c.args.count c.args.q (omega arith)), omega arith)

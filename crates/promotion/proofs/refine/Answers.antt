@@ -50,8 +50,8 @@ returns-then-held-count-gt512 c =
       valid = c.requires.valid_area.0;
     }
 
-pub returns-then-most-reserved : goal.returns-then-most-reserved
-returns-then-most-reserved c =
+pub returns-then-is_over : goal.returns-then-is_over
+returns-then-is_over c =
     let t = refinable c.args.job c.args.cells.now c.args.store.now c.args.place c.args.limit c.requires.valid_area c.requires.place_lt_held in
     let l = c.levels_at-levels in
     let m = c.admitted-marks in
@@ -60,7 +60,7 @@ returns-then-most-reserved c =
     let z = c.marked_sizes-sizes in
     let v : Counted c.args.job l.result m.result n.result z.result = record { count_is = n.ensures.0; sizes_are = z.ensures.0 } in
     record {
-      is = too_large t u v c.if-held-count-gt512.false c.if-most-reserved.true;
+      is = too_large t u v c.if-held-count-gt512.false c.if-is_over.true;
       valid = c.requires.valid_area.0;
     }
 
@@ -85,7 +85,7 @@ append_marked-requires c =
     let cells = c.args.cells.now in
     record {
       axes_bound = marks_ask t u;
-      marks_in_bounds = append_asks t u v (length e.new.cells) c.readings_for-first.result e.auto.cells c.readings_for-first.ensures c.if-held-count-gt512.false c.if-most-reserved.false;
+      marks_in_bounds = append_asks t u v (length e.new.cells) c.readings_for-first.result e.auto.cells c.readings_for-first.ensures c.if-held-count-gt512.false c.if-is_over.false;
       packed_if = λ f. state_words cells e.new.cells c.pack_held-packed.new.words c.args.job.held c.args.place 2 c.indicator_at-indicator.result e.ensures (c.pack_held-packed.ensures.words f);
     }
 
@@ -109,7 +109,7 @@ returns c =
     let z = c.marked_sizes-sizes in
     let v : Counted c.args.job l.result m.result n.result z.result = record { count_is = n.ensures.0; sizes_are = z.ensures.0 } in
     let few = c.if-held-count-gt512.false in
-    let within = c.if-most-reserved.false in
+    let within = c.if-is_over.false in
     let i = c.indicator_at-indicator in
     let e = c.set_state in
     let f = c.append_marked in

@@ -52,28 +52,28 @@ module _ (axes : ℕ) (cells : List ℕ) (held place mask : ℕ) (linked : Linke
   unfolding subset_term
   absent_term e = rw (out_absent linked raised (found_none rs raised linked.few e))
 
-pub state_at-requires : goal.state_at-requires
-state_at-requires c =
+pub state_at-is_wanted-requires : goal.state_at-is_wanted-requires
+state_at-is_wanted-requires c =
     omega (
       arith,
       at_held c.args.axes c.args.cells.now c.args.held c.args.place c.args.mask c.requires.0 c.requires.1 c.in-At.at
           (sym c.in-At.ensures),
     )
 
-pub returns-then-state_at-eq-WANTED : goal.returns-then-state_at-eq-WANTED
-returns-then-state_at-eq-WANTED c =
+pub returns-then-is_wanted : goal.returns-then-is_wanted
+returns-then-is_wanted c =
     let q = c.in-At.at in
     sym (wanted_term c.args.axes c.args.cells.now c.args.held c.args.place c.args.mask c.requires.0 c.requires.1 q
     (sym c.in-At.ensures)
-    (sym c.state_at.ensures ∙ c.if-state_at-eq-WANTED.true))
+    (sym c.state_at-is_wanted.ensures ∙ c.if-is_wanted.true))
 
-pub returns-else-state_at-eq-WANTED : goal.returns-else-state_at-eq-WANTED
-returns-else-state_at-eq-WANTED c =
+pub returns-else-is_wanted : goal.returns-else-is_wanted
+returns-else-is_wanted c =
     let q = c.in-At.at in
     back c.subset_sign.result (sfits_of c.subset_sign.type_inv) ∙ c.subset_sign.ensures
     ∙ sym (delivered_term c.args.axes c.args.cells.now c.args.held c.args.place c.args.mask c.requires.0 c.requires.1 q
     (sym c.in-At.ensures)
-    (omega (arith, c.state_at.ensures, c.if-state_at-eq-WANTED.false)))
+    (omega (arith, c.state_at-is_wanted.ensures, c.if-is_wanted.false)))
 
 pub returns-in-NotFound : goal.returns-in-NotFound
 returns-in-NotFound c =
