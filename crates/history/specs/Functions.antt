@@ -1,4 +1,5 @@
--- The contracts of OnExports.antt are the exported functions' own. What a caller of a function learns when it returns is generated from the
+-- The contracts of OnExports.antt are those of the functions of `wihupya`, which `wihupya_c` exports; that they are the exports' own as well is proved
+-- there, field by field the same (`export_contracts`, its proofs/Functions.antt). What a caller of a function learns when it returns is generated from the
 -- `ensures` in `wihupya`'s src/lib.rt, as `Learnt`; it is the contract. `a` are the arguments in the order of the signature, `r` is what is
 -- returned, `s` are the arguments at the return, and `now` is what an array lent holds. What is lent by `&` stays.
 use Rattle.std.specs.Prelude.{[], Bool, cond, ℕ}

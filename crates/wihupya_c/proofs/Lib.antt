@@ -1,0 +1,2 @@
+-- What a caller of an export learns.
+pub mod Functions
