@@ -87,7 +87,7 @@ impl Lists {
     }
 
     /// Each call once, on 511, 512 and 513 records in turn, from storage full of
-    /// zeros: few steps, for the interpreter.
+    /// zeros: few steps.
     pub fn each_call(&mut self) {
         let calls = [
             (Call::Start { axes: 1, threshold: 0, budget: 3 }, HELD_LIMIT),
