@@ -7,5 +7,7 @@ pub mod Lookups
 pub mod LookupPlaces
 pub mod Packs
 pub mod PackedRuns
+pub mod Views
 pub mod Carried
 pub mod Facts
+pub mod Rules

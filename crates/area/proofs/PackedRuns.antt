@@ -16,12 +16,11 @@ use lib.Seq.{drop-cons, get_or-take, get_or_at, get_or-set_same, get_or-set_othe
 use Rattle.grid.specs.Coefficient.{same_levels}
 use Rattle.grid.proofs.Members.{same_or, same_refl}
 use Rattle.area.specs.declared.IndexRecord.{IndexRecord}
-use Rattle.area.specs.declared.LookupResult.{LookupResult}
-use Rattle.area.specs.declared.LookupResult.TheVariants.{At, NotFound}
+use Rattle.std.specs.Prelude.{Option, Some, None, option_map}
 use Rattle.area.specs.Records.{records_of, blank, held_in, levels_of}
 use Rattle.area.specs.Lookup.{lookup_from, lookup_in}
-use Rattle.area.specs.Packed.{packed, FitsByte, fits_byte, all_fit_byte, words_with, PackedRun, word_from}
-use Rattle.area.proofs.Records.{length-records_of, eight_levels}
+use Rattle.area.specs.Packed.{packed, FitsByte, fits_byte, all_fit_byte, words_with, PackedRun, PackedWords, word_from}
+use Rattle.area.proofs.Records.{length-records_of}
 use Rattle.area.proofs.Packs.{pack_facts}
 
 -- ---- the search
@@ -42,7 +41,7 @@ found_words p (v ∷ ws) [] k h f u = refl
 found_words p [] (r ∷ rs) k h f u = absurd (omega (arith, h))
 found_words p (v ∷ ws) (r ∷ rs) k h f u =
     let t = u 0 (omega arith) in
-    ap₂ (λ (t : Bool) (x : LookupResult). cond t (At p) x)
+    ap₂ (λ (t : Bool) (x : Option ℕ). cond t (Some p) x)
     (same_words r.levels k t.0 t.1 f ∙ ap (λ n. eqb n (packed k)) (sym t.2))
     (found_words (p + 1) ws rs k (omega (arith, h)) f (λ q l. u (suc q) (omega (arith, l))))
 
@@ -51,26 +50,24 @@ module _ (c : List ℕ) (n : ℕ) (room : n * 27 ≤ length c) where
   unfolding held_in
   held_count = length-take-le n (records_of c) (omega (arith, length-records_of c, room))
 
-  held_there : (p : ℕ) → p < n → get_or (held_in c n) p blank ≡ get_or (records_of c) p blank
+  pub held_there : (p : ℕ) → p < n → get_or (held_in c n) p blank ≡ get_or (records_of c) p blank
   unfolding held_in
   held_there p h = get_or-take n (records_of c) p blank h
 
-  pub found_packed : (ws k : List ℕ) → length k ≡ 8 → PackedRun ws (held_in c n) → FitsByte k → lookup_in (held_in c n) k ≡ word_from 0 (take n ws) (packed k)
-  unfolding lookup_in
-  found_packed ws k e u f =
-      found_words 0 ws (held_in c n) k (omega (arith, u.room, u.few)) f
-      (λ q l. (ap (λ (r : IndexRecord). length r.levels) (held_there q (omega (arith, l, held_count))) ∙ eight_levels c q (omega (arith, l, held_count, room)) ∙ sym e, u.fit q l, u.word q l))
-      ∙ ap (λ m. word_from 0 (take m ws) (packed k)) held_count
+pub found_packed : (ws : List ℕ) (rs : List IndexRecord) (k : List ℕ) → length k ≡ 8 → ((p : ℕ) → p < length rs → length (get_or rs p blank).levels ≡ 8) → PackedRun ws rs → FitsByte k
+    → lookup_in rs k ≡ word_from 0 (take (length rs) ws) (packed k)
+unfolding lookup_in
+found_packed ws rs k e eight u f = found_words 0 ws rs k (omega (arith, u.room, u.few)) f (λ q l. (eight q l ∙ sym e, u.fit q l, u.word q l))
 
--- one word of the first n
-module _ (ws : List ℕ) (n p w : ℕ) (room : n ≤ length ws) where
-  pub word_head : p < n → word_from p (drop p (take n ws)) w ≡ cond (eqb (get_or ws p 0) w) (At p) (word_from (p + 1) (drop (p + 1) (take n ws)) w)
+-- the words left to search from a place on
+module _ (ws : List ℕ) (p w : ℕ) where
+  pub word_head : p < length ws → word_from p (drop p ws) w ≡ cond (eqb (get_or ws p 0) w) (Some p) (word_from (p + 1) (drop (p + 1) ws) w)
   unfolding word_from
-  word_head h = rw (drop-cons (take n ws) p 0 (omega (arith, length-take-le n ws room)), get_or-take n ws p 0 h, add-one p)
+  word_head h = rw (drop-cons ws p 0 h, add-one p)
 
-  pub word_end : n ≤ p → word_from p (drop p (take n ws)) w ≡ NotFound
+  pub word_end : length ws ≤ p → word_from p (drop p ws) w ≡ None
   unfolding word_from
-  word_end h = let q : length (take n ws) ≤ p = omega (arith, length-take-le n ws room) in rw (drop_of_length-le (take n ws) q)
+  word_end h = rw (drop_of_length-le ws h)
 
 -- ---- one record more
 
@@ -149,31 +146,34 @@ module _ (ws : List ℕ) (rs qs : List IndexRecord) (k : List ℕ) (e : levels_o
       rw ((pack_facts.tested k).1 f)
       (subst (λ m. PackedRun (set ws m (packed k)) qs) h (packed_more (omega (arith, h, few)) u f))
 
--- ---- the held records in turn
+-- the words that are held, changed where there are any
+pub packed_map : (w : Option (List ℕ)) (f : List ℕ → List ℕ) {rs qs : List IndexRecord} → ((ws : List ℕ) → PackedRun ws rs → PackedRun (f ws) qs)
+    → PackedWords w rs → PackedWords (option_map f w) qs
+packed_map None f g u = tt
+packed_map (Some ws) f g u = g ws u
 
-module _ (c : List ℕ) (n p : ℕ) (room : n * 27 ≤ length c) where
-  pub fit_head : p < n → all_fit_byte (drop p (held_in c n)) ≡ (fits_byte (get_or (records_of c) p blank).levels && all_fit_byte (drop (p + 1) (held_in c n)))
-  unfolding all_fit_byte held_in
-  fit_head h =
-      let hl : length (take n (records_of c)) ≡ n = length-take-le n (records_of c) (rw (length-records_of c) (omega arith)) in
-      rw (drop-cons (take n (records_of c)) p blank (omega arith), get_or-take n (records_of c) p blank h, add-one p)
+-- ---- the records in turn
 
-  pub fit_end : n ≤ p → all_fit_byte (drop p (held_in c n)) ≡ true
+module _ (rs : List IndexRecord) (p : ℕ) where
+  pub fit_head : p < length rs → all_fit_byte (drop p rs) ≡ (fits_byte (get_or rs p blank).levels && all_fit_byte (drop (p + 1) rs))
   unfolding all_fit_byte
-  fit_end h = let q : length (held_in c n) ≤ p = omega (arith, held_count c n room, h) in rw (drop_of_length-le (held_in c n) q)
+  fit_head h = rw (drop-cons rs p blank h, add-one p)
 
--- no record, and one held place more
-pub packed_none : (ws c : List ℕ) → length ws ≡ 512 → PackedRun ws (held_in c 0)
-unfolding held_in
-packed_none ws c e = record { few = omega arith; room = e; fit = λ p h. absurd (omega (arith, h)); word = λ p h. absurd (omega (arith, h)) }
+  pub fit_end : length rs ≤ p → all_fit_byte (drop p rs) ≡ true
+  unfolding all_fit_byte
+  fit_end h = rw (drop_of_length-le rs h)
 
-pub packed-place : (ws c : List ℕ) (p : ℕ) → p * 27 + 27 ≤ length c → p < 512 → PackedRun ws (held_in c p) → FitsByte (get_or (records_of c) p blank).levels
-    → PackedRun (words_with ws p (get_or (records_of c) p blank).levels) (held_in c (p + 1))
-unfolding held_in levels_of
-packed-place ws c p room few u f =
-    packed_next ws (held_in c p) (held_in c (p + 1)) (get_or (records_of c) p blank).levels next p (held_count c p (omega (arith, room))) few u f
+-- no record, and one place more
+pub packed_none : (ws : List ℕ) (rs : List IndexRecord) → length ws ≡ 512 → PackedRun ws (take 0 rs)
+packed_none ws rs e = record { few = omega arith; room = e; fit = λ p h. absurd (omega (arith, h)); word = λ p h. absurd (omega (arith, h)) }
+
+pub packed-place : (ws : List ℕ) (rs : List IndexRecord) (p : ℕ) → p < length rs → p < 512 → PackedRun ws (take p rs) → FitsByte (get_or rs p blank).levels
+    → PackedRun (words_with ws p (get_or rs p blank).levels) (take (p + 1) rs)
+unfolding levels_of
+packed-place ws rs p room few u f =
+    packed_next ws (take p rs) (take (p + 1) rs) (get_or rs p blank).levels next p (length-take-le p rs (omega (arith, room))) few u f
   where
-    next : levels_of (held_in c (p + 1)) ≡ levels_of (held_in c p) ++ ((get_or (records_of c) p blank).levels ∷ [])
+    next : levels_of (take (p + 1) rs) ≡ levels_of (take p rs) ++ ((get_or rs p blank).levels ∷ [])
     next =
-        ap (λ m. levels_of (take m (records_of c))) (add-one p) ∙ ap levels_of (take-suc (records_of c) p blank (omega (arith, length-records_of c, room)))
-        ∙ map-append (λ (r : IndexRecord). r.levels) (take p (records_of c)) (get_or (records_of c) p blank ∷ [])
+        ap (λ m. levels_of (take m rs)) (add-one p) ∙ ap levels_of (take-suc rs p blank room)
+        ∙ map-append (λ (r : IndexRecord). r.levels) (take p rs) (get_or rs p blank ∷ [])

@@ -10,15 +10,16 @@ use native.Mathlib.Numerals.{add-one, one-add}
 use native.Mathlib.Omega.{arith}
 use borrow.Author.Tests.{ltb-true, lt-ltb}
 use lib.Dec.{ltb}
-use lib.ListN.{length, drop, length-drop, drop_of_length-le}
+use lib.ListN.{length, set, drop, length-drop, drop_of_length-le}
 use lib.Seq.{drop-cons}
 use Rattle.sums.specs.Sums.{nat_sum_to}
 use Rattle.sums.proofs.Sizes.{nat_sum_to-append, nat_sum_to_cong, nat_sum_to_mul}
 use Rattle.grid.specs.Index.{level}
 use Rattle.grid.proofs.Levels.{and_left, and_right, and_both}
 use Rattle.area.specs.declared.IndexRecord.{IndexRecord}
-use Rattle.area.specs.declared.Packed.TheVariants.{Word, Larger}
-use Rattle.area.specs.Packed.{packed, FitsByte, AllFitByte, fits_byte, all_fit_byte, packing_of}
+use Rattle.std.specs.Prelude.{Some, None}
+use Rattle.std.proofs.lemmas.Option.{cond_some}
+use Rattle.area.specs.Packed.{packed, FitsByte, AllFitByte, fits_byte, all_fit_byte, packing_of, words_with}
 use Rattle.area.specs.Facts.{PackFacts}
 
 -- ---- one level more
@@ -129,21 +130,26 @@ larger-not k a h l = step (fits_byte k) refl
 -- ---- what packing answers
 
 module _ (k : List ℕ) where
-  pub told_word : (w : ℕ) → packing_of k ≡ Word w → (fits_byte k ≡ true) × (packed k ≡ w)
+  pub told_word : (w : ℕ) → packing_of k ≡ Some w → (fits_byte k ≡ true) × (packed k ≡ w)
   unfolding packing_of
-  told_word w e = step (fits_byte k) e
-    where
-      step : (t : Bool) → cond t (Word (packed k)) Larger ≡ Word w → (t ≡ true) × (packed k ≡ w)
-      step true e = (refl, cc)
-      step false e = absurd (let z : ◌≡◌ {A = ℕ} 0 1 = cc in omega arith)
+  told_word w e = cond_some (fits_byte k) (packed k) w e
 
-  pub told_larger : packing_of k ≡ Larger → fits_byte k ≡ false
+  pub told_larger : packing_of k ≡ None → fits_byte k ≡ false
   unfolding packing_of
   told_larger e = step (fits_byte k) e
     where
-      step : (t : Bool) → cond t (Word (packed k)) Larger ≡ Larger → t ≡ false
+      step : (t : Bool) → cond t (Some (packed k)) None ≡ None → t ≡ false
       step true e = absurd (let z : ◌≡◌ {A = ℕ} 0 1 = cc in omega arith)
       step false e = refl
+
+  -- the word that it answers is the one written, and where it answers none, none is written
+  pub put_is : (ws : List ℕ) (p w : ℕ) → packing_of k ≡ Some w → words_with ws p k ≡ set ws p w
+  unfolding words_with
+  put_is ws p w e = let t = told_word w e in rw (t.0, t.1) refl
+
+  pub put_none : (ws : List ℕ) (p : ℕ) → packing_of k ≡ None → words_with ws p k ≡ ws
+  unfolding words_with
+  put_none ws p e = rw (told_larger e) refl
 
 -- ---- from the last axis down
 

@@ -2,10 +2,11 @@
 -- The idea: a record at place p is read from the cells past 27·p; 27 words written there replace that record and no other.
 -- Assumes nothing.
 use mathlib.Core.Path.{◌≡◌, refl, ap, sym, ◌∙◌}
-use mathlib.Core.List.{List, [], ◌∷◌, ◌++◌, append_assoc}
+use mathlib.Core.List.{List, ◌∷◌, ◌++◌, append_assoc}
 use Prim.Native.Nat.{ℕ, zero, suc, ◌+◌, ◌≤◌, ◌<◌, ◌-◌, ◌*◌, ◌/◌, ◌^◌}
 use native.Mathlib.Nat.{add_assoc}
 use native.Mathlib.Omega.{arith}
+use Rattle.std.proofs.lemmas.List.{get_or_default}
 use lib.ListN.{length, get_or, take, drop, set, length-take, length-drop, length-append, take-append-drop, get_or-append}
 use lib.Seq.{take_all, drop-append-add, drop-cons, length-take-le, get_or-drop, get_or-take, sets, sets-eq, length-sets, take-add, drop-drop, take_at, drop_at, take-append-le, drop-append-le, get_or-append-add}
 use Rattle.area.specs.Encoding.{none}
@@ -24,12 +25,6 @@ length-records (suc n) c = ap suc (length-records n (drop 27 c))
 pub length-records_of : (c : List ℕ) → length (records_of c) ≡ length c / 27
 unfolding records_of
 length-records_of c = length-records (length c / 27) c
-
--- an element that is there does not depend on what would stand for a missing one
-pub there_same : (xs : List ℕ) (i d e : ℕ) → i < length xs → get_or xs i d ≡ get_or xs i e
-there_same [] i d e h = absurd (omega (arith, h))
-there_same (x ∷ xs) zero d e h = refl
-there_same (x ∷ xs) (suc i) d e h = there_same xs i d e (omega (arith, h))
 
 get_d_records : (n : ℕ) (c : List ℕ) (p : ℕ) (d : IndexRecord) → p < n → get_or (records n c) p d ≡ record_of (drop (p * 27) c)
 unfolding records
@@ -72,13 +67,13 @@ module _ (c : List ℕ) (p : ℕ) (h : p * 27 + 27 ≤ length c) where
 
   -- a record put together from its parts
   pub load_is : record {
-    levels = take 8 (drop (p * 27) c);
+    levels = (get_or (records_of c) p blank).levels;
     state = get_or c (p * 27 + 8) 0;
     indicator = get_or c (p * 27 + 9) 0;
     first = get_or c (p * 27 + 10) 0;
     links = take 16 (drop (p * 27 + 11) c);
   } ≡ get_or (records_of c) p blank
-  load_is = rw (levels_in, state_in, indicator_in, first_in, links_in)
+  load_is = rw (state_in, indicator_in, first_in, links_in)
 
   -- every record has eight levels and sixteen links
   pub eight_levels : length (get_or (records_of c) p blank).levels ≡ 8
@@ -95,7 +90,7 @@ module _ (c : List ℕ) (p : ℕ) (h : p * 27 + 27 ≤ length c) where
       (sym (get_or-take 16 (drop 11 (drop (p * 27) c)) i 0 b ∙ get_or-drop 11 (drop (p * 27) c) i 0 ∙ get_or-drop (p * 27) c (11 + i) 0 ∙ ap (λ n. get_or c n 0) (sym (add_assoc (p * 27) 11 i))))
 
   pub link_in : (i : ℕ) → i < 16 → get_or c (p * 27 + 11 + i) 0 ≡ get_or (get_or (records_of c) p blank).links i none
-  link_in i b = link_zero i b ∙ there_same (get_or (records_of c) p blank).links i 0 none (omega (arith, sixteen_links, b))
+  link_in i b = link_zero i b ∙ get_or_default (get_or (records_of c) p blank).links i 0 none (omega (arith, sixteen_links, b))
 
 -- cells are 32-bit numbers in the code, and so are then the indicators of the first n records
 pub indicators_small : (c : List ℕ) (n : ℕ) → ((i : ℕ) → get_or c i 0 < 2 ^ 32) → (p : ℕ) → p < length (take n (records_of c))

@@ -1,25 +1,16 @@
 -- Lists that are read and written one element after the other.
 -- The idea: what is read so far is a prefix, and what is written so far is a list laid over another from a place on.
 -- Assumes nothing.
-use mathlib.Core.Path.{◌≡◌, refl, ◌∙◌}
+use mathlib.Core.Path.{◌≡◌, refl, sym, ◌∙◌}
+use borrow.Rule.Slice.PartMut.{put_mid}
 use mathlib.Core.List.{List, [], ◌∷◌, ◌++◌, append_assoc}
-use Prim.Native.Nat.{ℕ, suc, ◌+◌, ◌≤◌, ◌<◌}
-use native.Mathlib.Nat.{le_of_lt, add-suc, suc-add, add_assoc}
-use native.Mathlib.Numerals.{add-one}
+use Prim.Native.Nat.{ℕ, suc, ◌+◌, ◌≤◌}
+use native.Mathlib.Nat.{add-suc, suc-add, add_assoc}
 use native.Mathlib.Omega.{arith}
-use lib.ListN.{length, get_or, take, drop, set, length-drop}
-use lib.Seq.{drop-cons, set_at, take-suc, append_snoc, length-take-le, get_or-drop, drop-set-lt, sets, sets-eq, take-add, drop-drop}
+use lib.ListN.{length, take, drop, set, length-drop}
+use lib.Seq.{drop-set-lt, sets, sets-eq, take-add, drop-drop}
 
 module _ {A : Type 0} where
-  -- one more element is read
-  pub gather_suc : (z s : List A) (b i : ℕ) (d : A) → i < length z → b + i < length s
-      → set (take i (drop b s) ++ drop i z) i (get_or s (b + i) d) ≡ take (i + 1) (drop b s) ++ drop (i + 1) z
-  gather_suc z s b i d hz hs =
-      let h : i < length (drop b s) = simp length-drop (omega arith) in
-      let hl : length (take i (drop b s)) ≡ i = length-take-le i (drop b s) (le_of_lt h) in
-      rw (← get_or-drop b s i d, drop-cons z i d hz, set_at (take i (drop b s)) _ _ _ i hl, add-one i, take-suc (drop b s) i d h)
-      (rw append_snoc)
-
   -- what is written past the first n elements
   pub sets_past : (n : ℕ) (l : List A) (i : ℕ) (vs : List A) → n + (i + length vs) ≤ length l
       → sets l (n + i) vs ≡ take n l ++ sets (drop n l) i vs
@@ -34,3 +25,7 @@ module _ {A : Type 0} where
   drop-sets n l i (a ∷ vs) h =
       let k : suc i + length vs ≤ n = simp (suc-add, ← add-suc) h in
       drop-sets n (set l i a) (suc i) vs k ∙ drop-set-lt n l i a (omega arith)
+
+  -- a run of elements copied over others
+  pub put_mid-sets : (l : List A) (i k : ℕ) (vs : List A) → k ≡ length vs → i + length vs ≤ length l → put_mid i k l vs ≡ sets l i vs
+  put_mid-sets l i k vs e h = rw (e, drop-drop) (sym (append_assoc (take i l) vs (drop (i + length vs) l))) ∙ sym (sets-eq vs l i h)

@@ -1,9 +1,8 @@
 -- What is said of storage besides the functions' contracts.
-use Rattle.std.specs.Prelude.{◌≡◌, true, false, cond, List, [], ◌∷◌, ◌++◌, ℕ, ◌+◌, ◌/◌, ◌%◌, ◌^◌, ◌<◌, ◌≤◌, leb, length, get_or, set}
+use Rattle.std.specs.Prelude.{◌≡◌, true, false, cond, List, [], ◌∷◌, ◌++◌, ℕ, ◌+◌, ◌/◌, ◌%◌, ◌^◌, ◌<◌, ◌≤◌, leb, length, get_or, set, Some, None}
 use Rattle.grid.specs.Index.{level, at_ceiling}
 use Rattle.grid.specs.Boundary.{pair}
 use Rattle.area.specs.declared.IndexRecord.{IndexRecord}
-use Rattle.area.specs.declared.LookupResult.TheVariants.{At, NotFound}
 use Rattle.area.specs.Records.{Run, run_of, cells_of, blank, levels_of}
 use Rattle.area.specs.Lookup.{lookup_in}
 use Rattle.area.specs.Packed.{packed, FitsByte, AllFitByte, fits_byte, all_fit_byte}
@@ -20,7 +19,7 @@ pub record RunFacts : Type 0 where
       → length u.rest < 27 → run_of (cells_of u) ≡ u
   -- the lookup as an answer and as a place are one: it finds the place, or nothing where the place is none
   pub found : (rs : List IndexRecord) (k : List ℕ) → length rs ≤ none
-      → lookup_in rs k ≡ cond (leb none (place_of (levels_of rs) k)) NotFound (At (place_of (levels_of rs) k))
+      → lookup_in rs k ≡ cond (leb none (place_of (levels_of rs) k)) None (Some (place_of (levels_of rs) k))
 
 -- ---- levels packed into a word
 

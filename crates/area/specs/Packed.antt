@@ -1,12 +1,8 @@
 -- Eight levels as one 64-bit word, a byte for each, and the words of a run of records.
-use Rattle.std.specs.Prelude.{◌≡◌, Bool, true, cond, ◌&&◌, List, [], ◌∷◌, ℕ, ◌+◌, ◌*◌, ◌^◌, ◌<◌, ◌≤◌, ltb, eqb, length, get_or, set}
+use Rattle.std.specs.Prelude.{◌≡◌, Bool, true, cond, ◌&&◌, List, [], ◌∷◌, ℕ, ◌+◌, ◌*◌, ◌^◌, ◌<◌, ◌≤◌, ltb, eqb, length, get_or, set, Option, Some, None, IfSome}
 use Rattle.sums.specs.Sums.{nat_sum_to}
 use Rattle.grid.specs.Index.{level}
 use Rattle.area.specs.declared.IndexRecord.{IndexRecord}
-use Rattle.area.specs.declared.LookupResult.{LookupResult}
-use Rattle.area.specs.declared.LookupResult.TheVariants.{At, NotFound}
-use Rattle.area.specs.declared.Packed.{Packed}
-use Rattle.area.specs.declared.Packed.TheVariants.{Word, Larger}
 use Rattle.area.specs.Records.{blank}
 
 -- The *word* of a level list: the sum of the levels, each times 256 to the power (axis − 1). Axis 1, at place 0 of the list, is the
@@ -30,9 +26,9 @@ unfoldable pub all_fit_byte : List IndexRecord → Bool
 all_fit_byte [] = true
 all_fit_byte (r ∷ rs) = fits_byte r.levels && all_fit_byte rs
 
--- What packing answers: the word, or that a level is larger than a byte.
-unfoldable pub packing_of : List ℕ → Packed
-packing_of k = cond (fits_byte k) (Word (packed k)) Larger
+-- What packing answers: the word, or none where a level is larger than a byte.
+unfoldable pub packing_of : List ℕ → Option ℕ
+packing_of k = cond (fits_byte k) (Some (packed k)) None
 
 -- The words with that of a level list at a place; as they were where a level is larger.
 unfoldable pub words_with : List ℕ → ℕ → List ℕ → List ℕ
@@ -46,11 +42,11 @@ pub record PackedRun (ws : List ℕ) (rs : List IndexRecord) : Type 0 where
   pub fit : AllFitByte rs
   pub word : (p : ℕ) → p < length rs → get_or ws p 0 ≡ packed (get_or rs p blank).levels
 
--- The same where an answer says so; where it says no, nothing is known of the words.
-abbrev pub PackedIf : Bool → List ℕ → List IndexRecord → Type 0
-PackedIf t ws rs = t ≡ true → PackedRun ws rs
+-- The same of the words that are held; where none are, it says nothing.
+abbrev pub PackedWords : Option (List ℕ) → List IndexRecord → Type 0
+PackedWords w rs = IfSome w (λ ws. PackedRun ws rs)
 
 -- The first place with this word, places counted from p.
-unfoldable pub word_from : ℕ → List ℕ → ℕ → LookupResult
-word_from p [] w = NotFound
-word_from p (v ∷ vs) w = cond (eqb v w) (At p) (word_from (p + 1) vs w)
+unfoldable pub word_from : ℕ → List ℕ → ℕ → Option ℕ
+word_from p [] w = None
+word_from p (v ∷ vs) w = cond (eqb v w) (Some p) (word_from (p + 1) vs w)

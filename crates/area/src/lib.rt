@@ -1,18 +1,25 @@
-#![tactic(auto)]
+#![tactic(auto, using(crate::proofs::Rules::closing), unfolding(crate::specs::Lookup::lookup_in, crate::specs::Settings::readings_for, crate::specs::Settings::reading_count, crate::specs::Settings::least_store))]
 // Storage: what a job is started with and how many readings its points have; the job record by value, and index records in one lent
-// slice of cells, 27 words to a record. Only the functions of this file touch a cell; their contracts speak of the records that the
-// cells hold. For a search the levels of records can be packed, eight to a word of 64 bits, in an array beside the cells.
-ghost use Rattle.std.specs.Prelude.{◌≡◌, ◌+◌, ◌*◌, ◌<◌, ◌≤◌, length, get_or, take, drop};
+// slice of cells, 27 words to a record. Only this crate touches a cell: `IndexRecords` reads, `store` writes, and their contracts speak of
+// the records that the cells hold. For a search the levels of records can be packed, eight to a word of 64 bits, beside the cells.
+ghost use Rattle.std.specs.Prelude.{◌≡◌, ◌+◌, ◌*◌, ◌<◌, ◌≤◌, List, ℕ, length, get_or, take, drop, Option, is_some, option_map, IfSome};
 ghost use Rattle.std.proofs.lemmas.List.Edits.{sets};
 ghost use Rattle.area.specs.Encoding.{none};
 ghost use Rattle.grid.specs.Index.{level, Within};
 ghost use Rattle.grid.specs.Coefficient.{same_levels};
 ghost use Rattle.area.specs.Settings.{readings_for, reading_count, least_store};
-ghost use Rattle.area.specs.Records.{records_of, run_of, stored, blank, held_in};
+ghost use Rattle.area.specs.Records.{run_of, stored};
 ghost use Rattle.area.specs.Lookup.{lookup_in};
-ghost use Rattle.area.specs.Packed.{fits_byte, all_fit_byte, packing_of, words_with, word_from, PackedIf};
+ghost use Rattle.area.specs.Packed.{fits_byte, all_fit_byte, packing_of, words_with, word_from, PackedRun, PackedWords};
 
-// The link to a neighbour that is not held.
+use std::marker::Model;
+
+mod index_records;
+
+pub use index_records::IndexRecords;
+
+// The link to a neighbour that is not held. It and the states stay numbers: they are words of records that a C caller lends (`record_of`),
+// where any number may stand, and are compared as they are.
 pub const NONE: u32 = 4294967295;
 
 pub const WANTED: u32 = 0;
@@ -49,18 +56,18 @@ pub struct IndexRecord {
     pub links: [u32; 16],
 }
 
-// Where a level list is held.
-#[derive(Clone, Copy)]
-pub enum LookupResult {
-    At(usize),
-    NotFound,
+// The levels of the held records, packed eight to a word: none where one of them is larger than a byte. An array, since the library has no heap. Whose words they are
+// is a clause (`PackedWords`) and no invariant: they outlive the loan of the cells, which an append writes.
+#[derive(Drop)]
+pub struct HeldWords {
+    words: Option<[u64; 512]>,
 }
 
-// Eight levels as one word, or that one of them is larger than a byte.
-#[derive(Clone, Copy)]
-pub enum Packed {
-    Word(u64),
-    Larger,
+// Contracts see the words as they are, or none.
+impl Model for HeldWords {
+    ghost Value = { Option (List ℕ) };
+
+    ghost view = { λ w. w.words };
 }
 
 // How many readings so many points have.
@@ -85,266 +92,84 @@ pub fn least_store(settings: Settings) -> usize
     readings_for(settings, settings.budget as usize)
 }
 
-// Eight cells in a row.
-fn eight_at(cells: &[u32], at: usize) -> [u32; 8]
-    requires { at + 8 ≤ length cells.now }
-    ensures { result ≡ take 8 (drop at cells.now) }
-{
-    let mut list = [0u32; 8];
-    let mut i = 0;
-    while i < 8 {
-        list[i] = cells[at + i];
-        i += 1;
-    }
-    list
-}
-
-// Sixteen cells in a row.
-fn sixteen_at(cells: &[u32], at: usize) -> [u32; 16]
-    requires { at + 16 ≤ length cells.now }
-    ensures { result ≡ take 16 (drop at cells.now) }
-{
-    let mut list = [0u32; 16];
-    let mut i = 0;
-    while i < 16 {
-        list[i] = cells[at + i];
-        i += 1;
-    }
-    list
-}
-
-// The record at a place.
-pub fn load(cells: &[u32], place: usize) -> IndexRecord
-    requires { place * 27 + 27 ≤ length cells.now }
-    ensures { result ≡ get_or (records_of cells.now) place blank }
-{
-    let at = place * 27;
-    let levels = eight_at(cells, at);
-    let links = sixteen_at(cells, at + 11);
-    IndexRecord {
-        levels,
-        state: cells[at + 8],
-        indicator: cells[at + 9],
-        first: cells[at + 10],
-        links,
-    }
-}
-
-// The levels of the record at a place.
-pub fn levels_at(cells: &[u32], place: usize) -> [u32; 8]
-    requires { place * 27 + 27 ≤ length cells.now }
-    ensures { result ≡ (get_or (records_of cells.now) place blank).levels }
-{
-    eight_at(cells, place * 27)
-}
-
-// One level of the record at a place. It is counted from the record's first cell, and a link from the record's first link: a loop over
-// the axes then moves one number, and the compiler can unroll it.
-pub fn level_at(cells: &[u32], place: usize, axis: usize) -> u32
-    requires { (place * 27 + 27 ≤ length cells.now) × (axis < 8) }
-    ensures { result ≡ level (get_or (records_of cells.now) place blank).levels axis }
-{
-    let levels = &cells[place * 27..];
-    levels[axis]
-}
-
-pub fn state_at(cells: &[u32], place: usize) -> u32
-    requires { place * 27 + 27 ≤ length cells.now }
-    ensures { result ≡ (get_or (records_of cells.now) place blank).state }
-{
-    cells[place * 27 + 8]
-}
-
-pub fn indicator_at(cells: &[u32], place: usize) -> u32
-    requires { place * 27 + 27 ≤ length cells.now }
-    ensures { result ≡ (get_or (records_of cells.now) place blank).indicator }
-{
-    cells[place * 27 + 9]
-}
-
-// The first reading of the record at a place.
-pub fn first_at(cells: &[u32], place: usize) -> u32
-    requires { place * 27 + 27 ≤ length cells.now }
-    ensures { result ≡ (get_or (records_of cells.now) place blank).first }
-{
-    cells[place * 27 + 10]
-}
-
-// One link of the record at a place.
-pub fn link_at(cells: &[u32], place: usize, which: usize) -> u32
-    requires { (place * 27 + 27 ≤ length cells.now) × (which < 16) }
-    ensures { result ≡ get_or (get_or (records_of cells.now) place blank).links which none }
-{
-    let links = &cells[place * 27 + 11..];
-    links[which]
-}
-
-// Whether the record at a place has these levels.
-pub fn levels_are(cells: &[u32], place: usize, levels: [u32; 8]) -> bool
-    requires { place * 27 + 27 ≤ length cells.now }
-    ensures { result ≡ same_levels (get_or (records_of cells.now) place blank).levels levels }
-{
-    let at = place * 27;
-    let mut i = 0;
-    while i < 8 {
-        if cells[at + i] != levels[i] {
-            return false;
-        }
-        i += 1;
-    }
-    true
-}
-
-// The same, without leaving at the first level that differs: a search asks it of record after record, and there a comparison without
-// a branch is quicker.
-fn levels_match(cells: &[u32], place: usize, levels: [u32; 8]) -> bool
-    requires { place * 27 + 27 ≤ length cells.now }
-    ensures { result ≡ same_levels (get_or (records_of cells.now) place blank).levels levels }
-{
-    let at = place * 27;
-    let mut same = true;
-    let mut i = 0;
-    while i < 8 {
-        if cells[at + i] != levels[i] {
-            same = false;
-        }
-        i += 1;
-    }
-    same
-}
-
-// The first held place that has these levels.
-pub fn lookup(cells: &[u32], held: usize, levels: [u32; 8]) -> LookupResult
-    requires { held * 27 ≤ length cells.now }
-    ensures { result ≡ lookup_in (held_in cells.now held) levels }
-{
-    let mut place = 0;
-    while place < held {
-        if levels_match(cells, place, levels) {
-            return LookupResult::At(place);
-        }
-        place += 1;
-    }
-    LookupResult::NotFound
-}
-
 // The levels as one word, a byte for each, axis 1 lowest. It begins with the last axis: what is packed is moved up a byte, and the next level
 // put below it.
-pub fn pack(levels: [u32; 8]) -> Packed
+pub fn pack(levels: [u32; 8]) -> Option<u64>
     ensures { result ≡ packing_of levels }
 {
-    let mut word: u64 = 0;
-    let mut axis: usize = 8;
-    while 0 < axis {
-        axis -= 1;
-        let level = levels[axis];
-        if 255 < level {
-            return Packed::Larger;
-        }
-        word = word * 256 + level as u64;
+    let mut word = 0;
+    for axis in (0..8).rev() {
+        let byte = u8::try_from(levels[axis]).ok()?;
+        // Packed as it is tested: the library's conversion takes eight bytes that are there already.
+        word = word * 256 + u64::from(byte);
     }
-    Packed::Word(word)
+    Some(word)
 }
 
-// Writes the word of these levels at a place, and answers whether they fit; where they do not, no word changes.
-pub fn put_word(place: usize, levels: [u32; 8], words: &mut [u64; 512]) -> bool
-    requires { place < 512 }
-    ensures answer { result ≡ fits_byte levels }
-    ensures words { words.new ≡ words_with words.old place levels }
+// The first place that has this word. It looks at two places in each pass, since most searches pass many: the library's `position` looks at one,
+// and the program on the job with the most held then misses its limit (docs/PERFORMANCE.md).
+fn lookup_word(words: &[u64], word: u64) -> Option<usize>
+    ensures { result ≡ word_from 0 words.now word }
 {
-    match pack(levels) {
-        Packed::Word(word) => {
+    let pairs = words.len() / 2;
+    for pair in 0..pairs {
+        let first = 2 * pair;
+        if words[first] == word {
+            return Some(first);
+        }
+        let second = first + 1;
+        if words[second] == word {
+            return Some(second);
+        }
+    }
+    let last = 2 * pairs;
+    if last < words.len() && words[last] == word {
+        return Some(last);
+    }
+    None
+}
+
+impl HeldWords {
+    // Packs the held records.
+    pub fn pack(held: &IndexRecords) -> HeldWords
+        requires { length held.now ≤ 512 }
+        ensures packs { is_some result ≡ all_fit_byte held.now }
+        ensures words { PackedWords result held.now }
+    {
+        let mut words = [0; 512];
+        for place in 0..held.len() {
+            let Some(word) = pack(held.levels(place)) else {
+                return HeldWords { words: None };
+            };
             words[place] = word;
-            true
         }
-        Packed::Larger => false,
+        HeldWords { words: Some(words) }
     }
-}
 
-// Packs the held records: yes exactly if every held level fits a byte, and then the words are those of the held run. (That the array behind the reference has
-// its 512 words is known to the caller that made it.)
-pub fn pack_held(cells: &[u32], held: usize, words: &mut [u64; 512]) -> bool
-    requires { (held * 27 ≤ length cells.now) × (held ≤ 512) × (length words.old ≡ 512) }
-    ensures answer { result ≡ all_fit_byte (held_in cells.now held) }
-    ensures words { PackedIf result words.new (held_in cells.now held) }
-{
-    let mut place: usize = 0;
-    while place < held {
-        if !put_word(place, levels_at(cells, place), words) {
-            return false;
-        }
-        place += 1;
-    }
-    true
-}
-
-// The first of the held places that has this word. It looks at two places in each pass, since most searches pass many.
-fn lookup_word(words: &[u64; 512], held: usize, word: u64) -> LookupResult
-    requires { (held ≤ 512) × (length words.now ≡ 512) }
-    ensures { result ≡ word_from 0 (take held words.now) word }
-{
-    let mut place: usize = 0;
-    while place + 1 < held {
-        if words[place] == word {
-            return LookupResult::At(place);
-        }
-        let next = place + 1;
-        if words[next] == word {
-            return LookupResult::At(next);
-        }
-        place += 2;
-    }
-    if place < held {
-        if words[place] == word {
-            return LookupResult::At(place);
+    // Writes the word of these levels at a place, where they fit; else no word changes.
+    pub fn put(&mut self, place: usize, levels: [u32; 8])
+        requires { place < 512 }
+        ensures { self.new ≡ option_map (λ ws. words_with ws place levels) self.old }
+    {
+        if let Some(words) = &mut self.words {
+            if let Some(word) = pack(levels) {
+                words[place] = word;
+            }
         }
     }
-    LookupResult::NotFound
-}
 
-// The lookup again, a word at a time where the held records are packed and the levels sought fit a byte. `packed` is what `pack_held` answered. Where
-// a level is larger, held or sought, levels are compared unpacked, by `lookup`.
-pub fn lookup_packed(
-    cells: &[u32],
-    held: usize,
-    levels: [u32; 8],
-    words: &[u64; 512],
-    packed: bool,
-) -> LookupResult
-    requires held_in_bounds { held * 27 ≤ length cells.now }
-    requires packed_if { PackedIf packed words.now (held_in cells.now held) }
-    ensures { result ≡ lookup_in (held_in cells.now held) levels }
-{
-    if !packed {
-        return lookup(cells, held, levels);
-    }
-    match pack(levels) {
-        Packed::Word(word) => lookup_word(words, held, word),
-        Packed::Larger => lookup(cells, held, levels),
-    }
-}
-
-// Writes eight cells in a row; the others stay.
-fn put_eight(cells: &mut [u32], at: usize, list: [u32; 8])
-    requires { at + 8 ≤ length cells.old }
-    ensures { cells.new ≡ sets cells.old at list }
-{
-    let mut i = 0;
-    while i < 8 {
-        cells[at + i] = list[i];
-        i += 1;
-    }
-}
-
-// Writes sixteen cells in a row; the others stay.
-fn put_sixteen(cells: &mut [u32], at: usize, list: [u32; 16])
-    requires { at + 16 ≤ length cells.old }
-    ensures { cells.new ≡ sets cells.old at list }
-{
-    let mut i = 0;
-    while i < 16 {
-        cells[at + i] = list[i];
-        i += 1;
+    // The lookup again, a word at a time where the held records are packed and the levels sought fit a byte. Where a level is larger,
+    // held or sought, levels are compared unpacked, by `lookup`.
+    pub fn lookup(&self, held: &IndexRecords, levels: [u32; 8]) -> Option<usize>
+        requires { PackedWords self.now held.now }
+        ensures { result ≡ lookup_in held.now levels }
+    {
+        if let Some(words) = &self.words
+            && let Some(word) = pack(levels)
+        {
+            return lookup_word(&words[..held.count], word);
+        }
+        held.lookup(levels)
     }
 }
 
@@ -354,11 +179,9 @@ pub fn store(cells: &mut [u32], place: usize, index: IndexRecord)
     ensures { run_of cells.new ≡ stored (run_of cells.old) place index }
 {
     let at = place * 27;
-    let levels = index.levels;
-    let links = index.links;
-    put_eight(cells, at, levels);
+    cells[at..at + 8].copy_from_slice(&index.levels);
     cells[at + 8] = index.state;
     cells[at + 9] = index.indicator;
     cells[at + 10] = index.first;
-    put_sixteen(cells, at + 11, links);
+    cells[at + 11..at + 27].copy_from_slice(&index.links);
 }

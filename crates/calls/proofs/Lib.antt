@@ -1,6 +1,7 @@
 -- Laws of the causes and of what no cause leaves, and what holds of every call, lowest first.
 pub mod Tests
 pub mod Causes
+pub mod Found
 pub mod Validity
 pub mod Accepted
 pub mod PromotedPlace

@@ -9,26 +9,31 @@ use borrow.Author.Tests.{not-false, le-leb}
 use lib.Dec.{leb}
 use lib.IntN.{ℤ}
 use lib.ListN.{length}
+use Rattle.std.specs.Prelude.{Option, None, Some, IfSome, unwrap_or, is_some}
 use Rattle.area.specs.Settings.{least_store, reading_count}
 use Rattle.grid.specs.Index.{Within}
 use Rattle.grid.specs.Block.{block_size}
 use Rattle.area.specs.declared.JobRecord.{JobRecord}
-use Rattle.area.specs.Records.{records_of, held_in}
+use Rattle.area.specs.declared.IndexRecord.{IndexRecord}
+use Rattle.area.specs.Records.{held_in}
 use Rattle.area.specs.Encoding.{Area, area_of, entries_of, machine_of}
 use Rattle.area.proofs.Records.{length-records_of}
+use Rattle.area.proofs.PackedRuns.{held_count}
 use Rattle.quadrature.specs.Readings.{record_at}
 use Rattle.soundness.specs.Sound.{Sound, LongEnough}
 use Rattle.soundness.specs.Clauses.{is_sound, checked}
 use Rattle.soundness.proofs.Exactly.{reads_and, reads_le}
 use Rattle.soundness.proofs.Clauses.{clause_facts}
+use Rattle.encoding.proofs.Places.{levels_at_lem}
 use Rattle.encoding.proofs.Facts.{encoding_facts}
 use Rattle.machine.specs.Log.{first_wanted, any_wanted, wanted_index}
 use Rattle.machine.specs.Causes.{short, first_cause, result_causes}
 use Rattle.writing.specs.Heads.{heads_of}
 use Rattle.writing.specs.ValidArea.{ValidArea}
 use Rattle.writing.proofs.Unread.{heads_are, alike_wanted}
-use Rattle.writing.proofs.Areas.{clauses, held_is, levels_is}
+use Rattle.writing.proofs.Areas.{clauses, held_is}
 use Rattle.calls.specs.Replies.{lengths_of}
+use Rattle.calls.specs.Calls.{area_cause}
 use Rattle.calls.proofs.Causes.{common_clear, wanted-yes, wanted_no}
 
 module _ (a : Area) (none : first_cause (result_causes (lengths_of a) (is_sound a) (machine_of a).log) ≡ 0) where
@@ -64,48 +69,61 @@ module _ (j : JobRecord) (c : List ℕ) (s : List ℤ) where
     pub wanted-place : first_wanted (heads_of (held_in c j.held)) ≡ first_wanted (entries_of a)
     wanted-place = alike_wanted (heads_of (held_in c j.held)) (entries_of a) (heads_are j c s)
 
-    module _ (p : ℕ) (is : p ≡ first_wanted (entries_of a)) (wanted : p < j.held) where
-      there : first_wanted (entries_of a) < length (entries_of a)
-      there = omega (arith, entries_count, is, wanted)
+    module _ (p : ℕ) (is : p ≡ first_wanted (entries_of a)) where
+      pub wanted_levels_lem : (record_at (held_in c j.held) p).levels ≡ wanted_index (entries_of a)
+      unfolding held_in entries_of
+      wanted_levels_lem = ap (λ q. (record_at (held_in c j.held) q).levels) is ∙ sym (levels_at_lem j.settings s (held_in c j.held) (first_wanted (entries_of a)))
 
-      pub wanted_levels_lem : (record_at (records_of c) p).levels ≡ wanted_index (entries_of a)
-      wanted_levels_lem = ap (λ q. (record_at (records_of c) q).levels) is ∙ sym (levels_is a st (first_wanted (entries_of a)) there)
-
-      pub wanted-within : Within (record_at (records_of c) p).levels
+      pub wanted-within : p < j.held → Within (record_at (held_in c j.held) p).levels
       unfolding machine_of
-      wanted-within = subst Within (sym wanted_levels_lem) ((clauses a st).index (first_wanted (entries_of a)) there).ceilings
+      wanted-within h = subst Within (sym wanted_levels_lem) ((clauses a st).index (first_wanted (entries_of a)) (omega (arith, entries_count, is, h))).ceilings
 
--- ---- where storage and area do not refuse: what the scan for the first wanted place tells
-module _ (j : JobRecord) (cells : List ℕ) (store : List ℤ) (n : ℕ)
-    (is : n ≡ first_cause (result_causes (lengths_of (area_of j cells store)) (is_sound (area_of j cells store)) (machine_of (area_of j cells store)).log)) (none : n ≡ 0) where
+-- ---- where storage and area do not refuse: what the scan of the held records for the first wanted place tells
+module _ (j : JobRecord) (cells : List ℕ) (store : List ℤ) (none : 0 ≡ area_cause (area_of j cells store)) where
   pub st : ValidArea (area_of j cells store)
-  st = valid j cells store (sym is ∙ none)
+  st = valid j cells store (sym none)
 
-  module _ (p : ℕ) (e : p ≡ first_wanted (heads_of (held_in cells j.held))) where
-    log_wanted : p ≡ first_wanted (entries_of (area_of j cells store))
-    log_wanted = e ∙ wanted-place j cells store st
+  pub held_room : j.held * 27 ≤ length cells
+  held_room = held_there j cells store st
 
-    pub nothing : j.held ≤ p → any_wanted (machine_of (area_of j cells store)).log.entries ≡ false
+  module _ (rs : List IndexRecord) (are : rs ≡ held_in cells j.held) where
+    first : first_wanted (heads_of rs) ≡ first_wanted (entries_of (area_of j cells store))
+    first = rw are (wanted-place j cells store st)
+
+    count : length rs ≡ length (entries_of (area_of j cells store))
+    count = omega (arith, ap length are, held_count cells j.held held_room, entries_count j cells store st)
+
+    pub nothing : length rs ≡ first_wanted (heads_of rs) → any_wanted (machine_of (area_of j cells store)).log.entries ≡ false
     unfolding machine_of
-    nothing h = wanted_no (machine_of (area_of j cells store)).log (omega (arith, log_wanted, entries_count j cells store st, h))
+    nothing e = wanted_no (machine_of (area_of j cells store)).log (omega (arith, first, count, e))
 
-    module _ (h : p < j.held) where
-      pub something : any_wanted (machine_of (area_of j cells store)).log.entries ≡ true
-      unfolding machine_of
-      something = wanted-yes (machine_of (area_of j cells store)).log (omega (arith, log_wanted, entries_count j cells store st, h))
+    module _ (p : ℕ) (e : p ≡ first_wanted (heads_of rs)) where
+      pub at_first : p ≡ first_wanted (entries_of (area_of j cells store))
+      at_first = e ∙ first
 
-      module _ (k : List ℕ) (l : k ≡ (record_at (records_of cells) p).levels) where
-        pub within : Within k
-        within = subst Within (sym l) (wanted-within j cells store st p log_wanted h)
-
-        levels_are : k ≡ wanted_index (machine_of (area_of j cells store)).log.entries
+      module _ (h : p < length rs) where
+        pub something : any_wanted (machine_of (area_of j cells store)).log.entries ≡ true
         unfolding machine_of
-        levels_are = l ∙ wanted_levels_lem j cells store st p log_wanted h
+        something = wanted-yes (machine_of (area_of j cells store)).log (omega (arith, at_first, count, h))
 
-        pub size_is : (x : ℕ) → x ≡ block_size k → x ≡ block_size (wanted_index (machine_of (area_of j cells store)).log.entries)
-        size_is x f = f ∙ ap block_size levels_are
+        module _ (k : List ℕ) (l : k ≡ (record_at rs p).levels) where
+          levels_are : k ≡ wanted_index (machine_of (area_of j cells store)).log.entries
+          unfolding machine_of
+          levels_are = (rw are at l) ∙ wanted_levels_lem j cells store st p at_first
 
-        pub count_is : (x : ℕ) → x ≡ reading_count j.settings k
-            → x ≡ reading_count (machine_of (area_of j cells store)).log.settings (wanted_index (machine_of (area_of j cells store)).log.entries)
-        unfolding machine_of
-        count_is x f = f ∙ ap (reading_count j.settings) levels_are
+          pub within : Within k
+          within = subst Within (sym (rw are at l)) (wanted-within j cells store st p at_first (omega (arith, h, count, entries_count j cells store st)))
+
+          pub size_is : (x : ℕ) → x ≡ block_size k → x ≡ block_size (wanted_index (machine_of (area_of j cells store)).log.entries)
+          size_is x f = f ∙ ap block_size levels_are
+
+          pub count_is : (x : ℕ) → x ≡ reading_count j.settings k
+              → x ≡ reading_count (machine_of (area_of j cells store)).log.settings (wanted_index (machine_of (area_of j cells store)).log.entries)
+          unfolding machine_of
+          count_is x f = f ∙ ap (reading_count j.settings) levels_are
+
+    -- whether the scan finds one
+    pub is_wanted : (r : Option ℕ) → unwrap_or r (length rs) ≡ first_wanted (heads_of rs) → IfSome r (λ p. p < length rs)
+        → is_some r ≡ any_wanted (machine_of (area_of j cells store)).log.entries
+    is_wanted None e h = sym (nothing e)
+    is_wanted (Some p) e h = sym (something p e h)

@@ -2,11 +2,11 @@
 -- `soundness`, specs/Clauses.antt), and the state that the area holds. A refused call changes nothing; an accepted one leaves the area
 -- itself or the next state written into it.
 use Rattle.std.specs.Prelude.{cond, List, ℕ, eqb, ℤ}
+use Rattle.area.specs.declared.JobRecord.{JobRecord}
 use Rattle.area.specs.Encoding.{Area, area_of, machine_of, written}
 use Rattle.soundness.specs.Clauses.{is_sound}
 use Rattle.machine.specs.Causes.{first_cause, point_causes, deliver_causes, choose_causes, promote_causes, result_causes}
-use Rattle.calls.specs.declared.CallOutput.{CallOutput}
-use Rattle.calls.specs.Replies.{reply_of, lengths_of}
+use Rattle.calls.specs.Replies.{Reply, lengths_of}
 use Rattle.calls.specs.Table.{Call, Effect, unchanged, becomes, Answer, answer, row, effect_of, refusal, answer_of}
 
 -- What a call leaves: its answer, with the buffer, and the area.
@@ -30,9 +30,9 @@ call_on a c =
       area = cond (eqb (refusal_on a c) 0) (area_after a (effect_of (machine_of a) (row c))) a;
     }
 
--- What start, deliver and promote leave, as the code hands it back: the answer with the job record, the cells and the store.
-abbrev pub call_result_of : CallOutput → List ℕ → List ℤ → CallResult
-call_result_of r c s = record { answer = answer (reply_of r.answer); area = area_of r.job c s }
+-- What start, deliver and promote leave: the answer, and the area in the job record, the cells and the store.
+abbrev pub call_result_of : Reply → JobRecord → List ℕ → List ℤ → CallResult
+call_result_of r j c s = record { answer = answer r; area = area_of j c s }
 
 -- ---- for the functions that look for a cause: the same numbers, from what each function is handed
 

@@ -1,4 +1,5 @@
 -- The calls: what each answers and leaves, for every area and all arguments.
+pub mod Cause
 pub mod Replies
 pub mod Table
 pub mod Calls

@@ -1,24 +1,19 @@
--- What a call answers, and the scope document's number and values for each case of the code's enums.
-use Rattle.std.specs.Prelude.{Bool, ℕ, ℤ, length}
+-- What a call answers, and the scope document's number and values for each result of the code.
+use Rattle.std.specs.Prelude.{Bool, ⊤, ℕ, ℤ, Result, Ok, Err, length}
 use Rattle.doubles.specs.declared.Report.{Report}
 use Rattle.area.specs.Encoding.{Area}
 use Rattle.machine.specs.Choose as choice
-use Rattle.machine.specs.Promote.{Outcome, spent, promoted}
+use Rattle.machine.specs.Promote.{Outcome}
 use Rattle.machine.specs.Causes.{Lengths}
 use Rattle.machine.specs.Counts.{Counts}
+use Rattle.delivery.specs.declared.PointCounts.{PointCounts}
+use Rattle.promotion.specs.declared.Choice as selecting
+use Rattle.promotion.specs.declared.Outcome as refining
+use Rattle.promotion.specs.Outcomes.{choice_of, outcome_of}
+use Rattle.counting.specs.declared.Counts as counting
 use Rattle.counting.specs.Answer.{counts_in}
-use Rattle.calls.specs.declared.Answer as code
-use Rattle.calls.specs.declared.Answer.TheVariants as answers
-use Rattle.calls.specs.declared.PointsAnswer as pointed
-use Rattle.calls.specs.declared.PointsAnswer.TheVariants as pointeds
-use Rattle.calls.specs.declared.ChooseAnswer as chose
-use Rattle.calls.specs.declared.ChooseAnswer.TheVariants as choices
-use Rattle.calls.specs.declared.ResultAnswer as coded
-use Rattle.calls.specs.declared.ResultAnswer.TheVariants as results
-use Rattle.calls.specs.declared.Doubled as reported
-use Rattle.calls.specs.declared.Doubled.TheVariants as reports
-use Rattle.calls.specs.declared.TotalAnswer as summed
-use Rattle.calls.specs.declared.TotalAnswer.TheVariants as totals
+use Rattle.calls.specs.declared.cause.Cause.{Cause}
+use Rattle.calls.specs.Cause.{number_of_cause}
 
 -- A refusal has the number of its cause. Start, point and deliver are otherwise accepted; points says how many it wrote and how many the block
 -- has; choose has its choice, promote its outcome, result its counts, doubles its report, cross total its total; check says yes or no.
@@ -33,33 +28,32 @@ pub data Reply : Type 0 where
   total : ℤ → Reply
   verdict : Bool → Reply
 
-unfoldable pub reply_of : code.Answer → Reply
-reply_of (answers.Refused n) = refused n
-reply_of answers.Accepted = accepted
-reply_of answers.Spent = promotion spent
-reply_of answers.Promoted = promotion promoted
+-- The answer of a call that gives a value unless it is refused.
+abbrev pub reply_by : {A : Type 0} → (A → Reply) → Result A Cause → Reply
+reply_by f (Ok x) = f x
+reply_by f (Err c) = refused (number_of_cause c)
 
-unfoldable pub reply_of_points : pointed.PointsAnswer → Reply
-reply_of_points (pointeds.Refused n) = refused n
-reply_of_points (pointeds.Wrote c) = wrote c.written c.size
+-- Of start, point and deliver.
+abbrev pub reply_of : Result ⊤ Cause → Reply
+reply_of = reply_by (λ u. accepted)
 
-unfoldable pub reply_of_choose : chose.ChooseAnswer → Reply
-reply_of_choose (choices.Refused n) = refused n
-reply_of_choose choices.Met = chosen choice.met
-reply_of_choose choices.Capped = chosen choice.capped
-reply_of_choose (choices.Chosen p) = chosen (choice.place p)
+abbrev pub reply_of_points : Result PointCounts Cause → Reply
+reply_of_points = reply_by (λ (c : PointCounts). wrote c.written c.size)
 
-unfoldable pub reply_of_result : coded.ResultAnswer → Reply
-reply_of_result (results.Refused n) = refused n
-reply_of_result (results.Counted c) = counts (counts_in c)
+abbrev pub reply_of_choose : Result selecting.Choice Cause → Reply
+reply_of_choose = reply_by (λ c. chosen (choice_of c))
 
-unfoldable pub reply_of_doubles : reported.Doubled → Reply
-reply_of_doubles (reports.Refused n) = refused n
-reply_of_doubles (reports.Reported r) = doubled r
+abbrev pub reply_of_promote : Result refining.Outcome Cause → Reply
+reply_of_promote = reply_by (λ o. promotion (outcome_of o))
 
-unfoldable pub reply_of_total : summed.TotalAnswer → Reply
-reply_of_total (totals.Refused n) = refused n
-reply_of_total (totals.Total z) = total z
+abbrev pub reply_of_result : Result counting.Counts Cause → Reply
+reply_of_result = reply_by (λ c. counts (counts_in c))
+
+abbrev pub reply_of_doubles : Result Report Cause → Reply
+reply_of_doubles = reply_by doubled
+
+abbrev pub reply_of_total : Result ℤ Cause → Reply
+reply_of_total = reply_by total
 
 -- The lengths of the storage that an area lies in.
 abbrev pub lengths_of : Area → Lengths

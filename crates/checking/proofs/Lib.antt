@@ -1,7 +1,7 @@
--- Laws of the tests, lowest first.
-pub mod Cells
-pub mod Links
+-- What the functions' answers share, lowest first.
+pub mod Each
+pub mod Sums
 pub mod Passes
-pub mod Bounds
+pub mod Ceilings
 pub mod Blocks
 pub mod Whole

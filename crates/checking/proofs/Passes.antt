@@ -1,114 +1,67 @@
--- The tests of one place in both passes, case by case, as the code asks them, and what the first pass gives the second.
+-- The root is the one index without excess, and what the first pass gives the second.
 -- Assumes nothing.
-use mathlib.Core.Path.{◌≡◌}
+use mathlib.Core.Path.{◌≡◌, refl, ap, ap₂, ◌∙◌}
 use mathlib.Core.Logic.{◌≢◌}
-use mathlib.Core.Bool.{true, false, not}
-use mathlib.Core.List.{List}
-use Prim.Native.Nat.{ℕ, ◌-◌, ◌<◌, ◌≤◌}
+use mathlib.Core.Bool.{true}
+use mathlib.Core.List.{List, [], ◌∷◌}
+use Prim.Native.Nat.{ℕ, suc, ◌-◌, ◌<◌, ◌≤◌}
 use native.Mathlib.Omega.{arith}
-use lib.Dec.{eqb}
-use lib.ListN.{length}
-use borrow.Author.Tests.{eq-eqb, ne_eqb, lt-ltb, le-ltb, le-leb, lt-leb}
-use Rattle.grid.specs.Index.{level, excess, Within, within, Index}
-use Rattle.grid.proofs.Levels.{within_sure, and_left}
+use lib.Dec.{leb, eqb}
+use lib.ListN.{length, replicate}
+use Rattle.grid.specs.Index.{level, excess, Within, within, root}
+use Rattle.grid.specs.Coefficient.{same_levels}
+use Rattle.grid.proofs.Levels.{within_sure, and_left, and_right}
+use Rattle.grid.proofs.Neighbours.{root_excess}
 use Rattle.area.specs.declared.IndexRecord.{IndexRecord}
-use Rattle.area.specs.Records.{records_of}
 use Rattle.area.specs.Encoding.{none}
 use Rattle.soundness.specs.Held.{levels_at, state_at, forward_link, backward_link}
-use Rattle.soundness.specs.Test.{all_from, any_from, index_test, root_test, axis_test, place_test, places_test, bars_test, axis_complete_test, place_complete_test}
-use Rattle.soundness.proofs.Tests.{Place, reads_places, back_held, ahead_held}
-use Rattle.checking.proofs.Cells.{formed}
+use Rattle.soundness.specs.Test.{index_test, root_test, backward_neighbour_test, backward_link_test, forward_link_test, axis_test, place_test, places_test}
+use Rattle.soundness.proofs.Exactly.{same, reads_eq, reads_same, reads_eq_true, reads_all, reads_all_from}
+use Rattle.std.proofs.lemmas.Bool.Decides.{nat_tests}
 
--- ---- an index
-module _ (d : ℕ) (k : List ℕ) where
-  pub index_above : within k ≡ false → index_test d k ≡ false
-  unfolding index_test
-  index_above e = rw e
+-- levels from 1 up without excess are 1 throughout
+all_ones : (k : List ℕ) → ((a : ℕ) → a < length k → 1 ≤ level k a) → excess k ≡ 0 → k ≡ replicate (length k) 1
+unfolding excess
+all_ones [] low e = refl
+all_ones (l ∷ ls) low e = ap₂ ◌∷◌ (omega (arith, low 0 (omega arith))) (all_ones ls (λ a h. low (suc a) (omega arith)) (omega arith))
 
-  pub index_beyond : within k ≡ true → index_test d k ≡ all_from (8 - d) d (λ a. eqb (level k a) 1)
-  unfolding index_test
-  index_beyond e = rw e
+-- the root is the one index without excess
+pub root_by_excess : (k : List ℕ) → length k ≡ 8 → Within k → eqb (excess k) 0 ≡ same_levels k root
+unfolding root
+root_by_excess k eight w =
+    same (eqb (excess k) 0) (same_levels k root) (reads_eq (excess k) 0) (reads_same k root) (λ e. all_ones k w.low e ∙ ap (λ n. replicate n 1) eight) (λ e. ap excess e ∙ root_excess)
 
-  pub index_within : index_test d k ≡ true → Within k
-  unfolding index_test
-  index_within e = within_sure k (and_left (within k) _ e)
+pub index_within : (d : ℕ) (k : List ℕ) → index_test d k ≡ true → Within k
+unfolding index_test
+index_within d k e = within_sure k (and_left (within k) _ e)
 
 -- ---- the first pass
-module _ (d : ℕ) (rs : List IndexRecord) (p : ℕ) where
-  pub place_no_index : index_test d (levels_at rs p) ≡ false → place_test d rs p ≡ false
+module _ (d : ℕ) (rs : List IndexRecord) (passed : places_test d rs ≡ true) where
+  tested : (p : ℕ) → p < length rs → place_test d rs p ≡ true
+  unfolding places_test
+  tested = (reads_all (place_test d rs) (λ p. place_test d rs p ≡ true) (length rs) (λ p h. reads_eq_true (place_test d rs p))).sure passed
+
+  pub place_within : (p : ℕ) → p < length rs → Within (levels_at rs p)
   unfolding place_test
-  place_no_index e = rw e
+  place_within p h = index_within d (levels_at rs p) (and_left (index_test d (levels_at rs p)) _ (tested p h))
 
-  pub place_no_state : index_test d (levels_at rs p) ≡ true → 2 < state_at rs p → place_test d rs p ≡ false
+  pub place_beyond : d ≤ 8 → (p : ℕ) → p < length rs → (a : ℕ) → d ≤ a → a < 8 → level (levels_at rs p) a ≡ 1
+  unfolding place_test index_test
+  place_beyond few p h a b l =
+      let k = levels_at rs p in
+      let ones = and_right (within k) _ (and_left (index_test d k) _ (tested p h)) in
+      (reads_all_from (λ a. eqb (level k a) 1) (λ a. level k a ≡ 1) (8 - d) d (λ a l. reads_eq (level k a) 1)).sure ones a b (omega (arith, few, l))
+
+  axis_tested : (p a : ℕ) → p < length rs → a < 8 → axis_test rs p a ≡ true
   unfolding place_test
-  place_no_state e h = rw (e, lt-leb (state_at rs p) 2 h)
+  axis_tested p a h b =
+      let links = and_right (root_test rs p) _ (and_right (leb (state_at rs p) 2) _ (and_right (index_test d (levels_at rs p)) _ (tested p h))) in
+      (reads_all (axis_test rs p) (λ a. axis_test rs p a ≡ true) 8 (λ a h. reads_eq_true (axis_test rs p a))).sure links a b
 
-  pub place_no_root : index_test d (levels_at rs p) ≡ true → state_at rs p ≤ 2 → root_test rs p ≡ false → place_test d rs p ≡ false
-  unfolding place_test
-  place_no_root e h f = rw (e, le-leb (state_at rs p) 2 h, f)
+  pub behind-place : (p a : ℕ) → p < length rs → a < 8 → 1 < level (levels_at rs p) a → backward_link rs p a < length rs
+  unfolding axis_test backward_link_test backward_neighbour_test
+  behind-place p a h b l = grind (arith, nat_tests, axis_tested p a h b, l)
 
-  pub place_links : index_test d (levels_at rs p) ≡ true → state_at rs p ≤ 2 → root_test rs p ≡ true → place_test d rs p ≡ all_from 8 0 (axis_test rs p)
-  unfolding place_test
-  place_links e h f = rw (e, le-leb (state_at rs p) 2 h, f)
-
--- what it gives
-module _ (d : ℕ) (c : List ℕ) (few : d ≤ 8) (passed : places_test d (records_of c) ≡ true) where
-  abbrev held : List IndexRecord
-  held = records_of c
-
-  pub placed : (p : ℕ) → p < length held → Place d held p
-  placed = (reads_places d held few (formed c)).sure passed
-
-  pub place_index : (p : ℕ) → p < length held → Index d (levels_at held p)
-  place_index p h = (placed p h).index
-
-  pub behind-place : (p a : ℕ) → p < length held → a < d → 1 < level (levels_at held p) a → backward_link held p a < length held
-  behind-place p a h b l = back_held d held placed p a h (omega arith) l
-
-  pub ahead_place : (p a : ℕ) → p < length held → a < d → forward_link held p a ≢ none → forward_link held p a < length held
-  ahead_place p a h b n = ahead_held d held placed p a h (omega arith) n
-
--- ---- the second pass
-module _ (rs : List IndexRecord) (p a c : ℕ) where
-  pub bars_same : c ≡ a → bars_test rs p a c ≡ false
-  unfolding bars_test
-  bars_same e = rw (eq-eqb c a e)
-
-  pub bars_low : c ≢ a → level (levels_at rs p) c ≤ 1 → bars_test rs p a c ≡ false
-  unfolding bars_test
-  bars_low n h = rw (ne_eqb c a n, le-ltb 1 (level (levels_at rs p) c) h)
-
-  pub bars_none : c ≢ a → 1 < level (levels_at rs p) c → forward_link rs (backward_link rs p c) a ≡ none → bars_test rs p a c ≡ true
-  unfolding bars_test
-  bars_none n h e = rw (ne_eqb c a n, lt-ltb 1 (level (levels_at rs p) c) h, eq-eqb (forward_link rs (backward_link rs p c) a) none e)
-
-  pub bars_state : c ≢ a → 1 < level (levels_at rs p) c → forward_link rs (backward_link rs p c) a ≢ none
-      → bars_test rs p a c ≡ not (eqb (state_at rs (forward_link rs (backward_link rs p c) a)) 2)
-  unfolding bars_test
-  bars_state n h e = rw (ne_eqb c a n, lt-ltb 1 (level (levels_at rs p) c) h, ne_eqb (forward_link rs (backward_link rs p c) a) none e)
-
-module _ (d : ℕ) (rs : List IndexRecord) (p : ℕ) where
-  module _ (a : ℕ) where
-    pub open_held : forward_link rs p a ≢ none → axis_complete_test d rs p a ≡ true
-    unfolding axis_complete_test
-    open_held n = rw (ne_eqb (forward_link rs p a) none n)
-
-    pub open_high : forward_link rs p a ≡ none → 8 ≤ level (levels_at rs p) a → axis_complete_test d rs p a ≡ true
-    unfolding axis_complete_test
-    open_high e h = rw (eq-eqb (forward_link rs p a) none e, le-ltb (level (levels_at rs p) a) 8 h)
-
-    pub open_barred : forward_link rs p a ≡ none → level (levels_at rs p) a < 8 → axis_complete_test d rs p a ≡ any_from d 0 (bars_test rs p a)
-    unfolding axis_complete_test
-    open_barred e h = rw (eq-eqb (forward_link rs p a) none e, lt-ltb (level (levels_at rs p) a) 8 h)
-
-  pub complete_not_old : state_at rs p ≢ 2 → place_complete_test d rs p ≡ true
-  unfolding place_complete_test
-  complete_not_old n = rw (ne_eqb (state_at rs p) 2 n)
-
-  pub complete_full : state_at rs p ≡ 2 → 12 ≤ excess (levels_at rs p) → place_complete_test d rs p ≡ true
-  unfolding place_complete_test
-  complete_full e h = rw (eq-eqb (state_at rs p) 2 e, le-ltb (excess (levels_at rs p)) 12 h)
-
-  pub complete_axes : state_at rs p ≡ 2 → excess (levels_at rs p) < 12 → place_complete_test d rs p ≡ all_from d 0 (axis_complete_test d rs p)
-  unfolding place_complete_test
-  complete_axes e h = rw (eq-eqb (state_at rs p) 2 e, lt-ltb (excess (levels_at rs p)) 12 h)
+  pub ahead_place : (p a : ℕ) → p < length rs → a < 8 → forward_link rs p a ≢ none → forward_link rs p a < length rs
+  unfolding axis_test forward_link_test
+  ahead_place p a h b n = grind (arith, nat_tests, axis_tested p a h b, n)

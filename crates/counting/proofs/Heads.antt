@@ -6,11 +6,10 @@ use Prim.Native.Nat.{ℕ, ◌*◌, ◌<◌, ◌≤◌}
 use native.Mathlib.Omega.{arith}
 use lib.IntN.{ℤ}
 use lib.ListN.{length}
-use lib.Seq.{length-take-le}
 use Rattle.grid.specs.Index.{Within}
 use Rattle.area.specs.declared.JobRecord.{JobRecord}
-use Rattle.area.specs.Records.{records_of, held_in}
-use Rattle.area.specs.Encoding.{area_of, held_of, entries_of}
+use Rattle.area.specs.Records.{held_in}
+use Rattle.area.specs.Encoding.{area_of, entries_of}
 use Rattle.area.proofs.Records.{length-records_of}
 use Rattle.quadrature.specs.Readings.{record_at}
 use Rattle.machine.specs.Counts.{count_of, ceiling_count}
@@ -19,18 +18,16 @@ use Rattle.writing.specs.ValidArea.{ValidArea}
 use Rattle.writing.proofs.Unread.{heads_are, alike_count, alike_ceiling}
 
 module _ (j : JobRecord) (c : List ℕ) (s : List ℤ) (valid : ValidArea (area_of j c s)) where
-  held_count : length (held_of (area_of j c s)) ≡ j.held
-  held_count = length-take-le j.held (records_of c) valid.sound.held_lent
-
   pub held_there : j.held * 27 ≤ length c
   held_there = omega (arith, valid.sound.held_lent, length-records_of c)
 
-  pub held_few : j.held ≤ 512
-  held_few = omega (arith, held_count, valid.sound.structure.count.1)
-
-  pub held_within : (p : ℕ) → p < j.held → Within (record_at (held_in c j.held) p).levels
+  pub held_few : length (held_in c j.held) ≤ 512
   unfolding held_in
-  held_within p h = (valid.sound.structure.index p (omega (arith, held_count))).ceilings
+  held_few = valid.sound.structure.count.1
+
+  pub held_within : (p : ℕ) → p < length (held_in c j.held) → Within (record_at (held_in c j.held) p).levels
+  unfolding held_in
+  held_within p h = (valid.sound.structure.index p h).ceilings
 
   pub counted : (t : ℕ) → count_of t (heads_of (held_in c j.held)) ≡ count_of t (entries_of (area_of j c s))
   counted t = alike_count (heads_of (held_in c j.held)) (entries_of (area_of j c s)) (heads_are j c s) t

@@ -6,7 +6,7 @@ use mathlib.Core.List.{List}
 use Prim.Native.Nat.{ℕ, ◌^◌, ◌<◌}
 use native.Mathlib.Omega.{arith}
 use lib.IntN.{ℤ, nat_abs}
-use lib.ListN.{get_or}
+use lib.ListN.{get_or, take}
 use Rattle.grid.specs.Largest.{largest_difference}
 use Rattle.area.specs.declared.JobRecord.{JobRecord}
 use Rattle.area.specs.Records.{records_of, held_in}
@@ -21,7 +21,7 @@ use Rattle.machine.specs.Largest.{largest_of}
 use Rattle.writing.specs.ValidArea.{ValidArea}
 
 module _ (j : JobRecord) (c : List ℕ) (s : List ℤ) (valid : ValidArea (area_of j c s)) where
-  pub largest_is : largest_difference (delivered_in (held_in c j.held)) (stored_reading (records_of c) s) ≡ largest_of (entries_of (area_of j c s))
+  pub largest_is : largest_difference (delivered_in (take j.held (records_of c))) (stored_reading (records_of c) s) ≡ largest_of (entries_of (area_of j c s))
   unfolding held_in largest_of
   largest_is = (entry-facts j c s).largest j.settings.axes (sound_facts.ready (area_of j c s) valid.sound valid.lent.store)
 

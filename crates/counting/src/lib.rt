@@ -1,8 +1,7 @@
 #![tactic(auto)]
 // Result, doubles and cross total on an area that is known to be sound. The public calls are those of the crate `calls`.
-ghost use Rattle.std.specs.Prelude.{◌≡◌, ℕ, ◌*◌, ◌<◌, ◌≤◌, length};
+ghost use Rattle.std.specs.Prelude.{◌≡◌, ℕ, ◌<◌, ◌≤◌, length};
 ghost use Rattle.grid.specs.Index.{Within};
-ghost use Rattle.area.specs.Records.{held_in};
 ghost use Rattle.quadrature.specs.Readings.{record_at};
 ghost use Rattle.area.specs.Encoding.{area_of, entries_of, machine_of};
 ghost use Rattle.machine.specs.Counts.{count_of, ceiling_count, counts_of};
@@ -25,35 +24,27 @@ pub struct Counts {
 }
 
 // How many held records have a state.
-fn state_count(held: usize, state: u32, cells: &[u32]) -> u32
-    requires { (held * 27 ≤ length cells.now) × (held ≤ 512) }
-    ensures { result ≡ count_of state (heads_of (held_in cells.now held)) }
+fn state_count(held: &area::IndexRecords, state: u32) -> u32
+    requires { length held.now ≤ 512 }
+    ensures { result ≡ count_of state (heads_of held.now) }
 {
-    let mut count: u32 = 0;
-    let mut place: usize = 0;
-    while place < held {
-        if area::state_at(cells, place) == state {
-            count += 1;
-        }
-        place += 1;
-    }
-    count
+    (0..held.len())
+        .filter(|&place| held.state(place) == state)
+        .count() as u32
 }
 
 // The number of pairs of an old index and an axis whose forward neighbour passes a ceiling.
-fn ceiling_count(axes: usize, held: usize, cells: &[u32]) -> u32
-    requires held_in_bounds { (held * 27 ≤ length cells.now) × (held ≤ 512) × (axes ≤ 8) }
-    requires by_index { (p : ℕ) → p < held → Within (record_at (held_in cells.now held) p).levels }
-    ensures { result ≡ ceiling_count axes (heads_of (held_in cells.now held)) }
+fn ceiling_count(axes: usize, held: &area::IndexRecords) -> u32
+    requires held_len { (length held.now ≤ 512) × (axes ≤ 8) }
+    requires by_index { (p : ℕ) → p < length held.now → Within (record_at held.now p).levels }
+    ensures { result ≡ ceiling_count axes (heads_of held.now) }
 {
     let mut count: u32 = 0;
-    let mut place: usize = 0;
-    while place < held {
-        let is_old = area::state_at(cells, place) == area::OLD;
+    for place in 0..held.len() {
+        let is_old = held.state(place) == area::OLD;
         if is_old {
-            count += grid::capped_axes(axes, area::levels_at(cells, place));
+            count += grid::capped_axes(axes, held.levels(place));
         }
-        place += 1;
     }
     count
 }
@@ -64,11 +55,11 @@ pub fn result(job: area::JobRecord, cells: &[u32], store: &[i32]) -> Counts
     ensures { counts_in result ≡ counts_of (machine_of (area_of job cells.now store.now)) }
 {
     let axes = job.settings.axes as usize;
-    let held = job.held as usize;
-    let old = state_count(held, area::OLD, cells);
-    let active = state_count(held, area::ACTIVE, cells);
-    let wanted = state_count(held, area::WANTED, cells);
-    let ceiling = ceiling_count(axes, held, cells);
+    let held = area::IndexRecords::first(cells, job.held as usize);
+    let old = state_count(&held, area::OLD);
+    let active = state_count(&held, area::ACTIVE);
+    let wanted = state_count(&held, area::WANTED);
+    let ceiling = ceiling_count(axes, &held);
     Counts {
         old,
         active,
@@ -88,7 +79,8 @@ pub fn doubles(job: area::JobRecord, cells: &[u32], store: &[i32]) -> doubles::R
 {
     let axes = job.settings.axes as usize;
     let held = job.held as usize;
-    let largest = quadrature::largest_difference(axes, held, cells, store);
+    let records = area::IndexRecords::all(cells);
+    let largest = quadrature::largest_difference(axes, held, &records, store);
     doubles::report_of(job.mean, job.pending, largest)
 }
 
@@ -97,5 +89,8 @@ pub fn cross_total(job: area::JobRecord, cells: &[u32], store: &[i32]) -> i64
     requires { ValidArea (area_of job cells.now store.now) }
     ensures { result ≡ cross_of (entries_of (area_of job cells.now store.now)) }
 {
-    quadrature::combination_sum(job.settings.axes as usize, job.held as usize, cells, store)
+    let axes = job.settings.axes as usize;
+    let held = job.held as usize;
+    let records = area::IndexRecords::all(cells);
+    quadrature::combination_sum(axes, held, &records, store)
 }

@@ -3,16 +3,21 @@
 -- Assumes nothing.
 use mathlib.Core.Path.{◌≡◌, refl, sym, ap, ◌∙◌}
 use mathlib.Core.Logic.{◌⊎◌, inl, inr}
-use mathlib.Core.Bool.{Bool, true, false, cond}
+use mathlib.Core.Bool.{Bool, true, false, cond, ◌||◌}
 use mathlib.Core.List.{List}
 use Prim.Native.Nat.{ℕ, zero, suc, ◌+◌, ◌<◌, ◌≤◌}
 use native.Mathlib.Decide.{ℕ_discrete, dec_lt}
 use native.Mathlib.Nat.{add-zero}
 use native.Mathlib.Numerals.{add-one}
 use native.Mathlib.Omega.{arith}
-use borrow.Author.Tests.{lt-ltb}
+use borrow.Author.Tests.{lt-ltb, lt-leb, le-leb}
 use lib.Dec.{ltb}
-use lib.ListN.{length}
+use lib.ListN.{length, take}
+use Rattle.std.specs.List.{count_by, list_any}
+use lib.Seq.{take_all}
+use Rattle.std.proofs.lemmas.List.Folds.{list_any_more}
+use Rattle.std.proofs.lemmas.List.Sums.{count_by_more_no, count_by_more_yes}
+use Rattle.std.proofs.Common.{nat_le}
 use Rattle.grid.specs.Index.{level, excess, Within, within, Index, forward, capped_axes, at_ceiling}
 use Rattle.grid.specs.Facts.{CeilingFacts}
 use Rattle.grid.proofs.Facts.{index_facts}
@@ -76,6 +81,22 @@ module _ (k : List ℕ) (eight : length k ≡ 8) (w : Within k) where
   capped_all f (suc n) h =
       one_more (capped_all f n (omega arith)) (rw (← add-one n) (capped_more k n (full_excess n (omega arith) f)))
 
+  -- below an excess of 12 it is the axes at level 8
+  pub capped_count : excess k < 12 → (n : ℕ) → n ≤ 8 → count_by (λ l. nat_le 8 l) (take n k) ≡ capped_axes n k
+  capped_count e zero h = unfold capped_axes in refl
+  capped_count e (suc n) h = step (dec_lt (level k n) 8) (capped_count e n (omega arith))
+    where
+      inside : n < length k
+      inside = omega (arith, eight)
+
+      step : Dec (level k n < 8) → count_by (λ l. nat_le 8 l) (take n k) ≡ capped_axes n k → count_by (λ l. nat_le 8 l) (take (suc n) k) ≡ capped_axes (suc n) k
+      step (yes l) ih =
+          rw (← (add-one n))
+          (count_by_more_no (λ l. nat_le 8 l) k n 0 inside (lt-leb 8 (level k n) l) ∙ ih ∙ sym (capped_same k n (not_full n (omega arith) e l)))
+      step (no l) ih =
+          rw (← (add-one n))
+          (count_by_more_yes (λ l. nat_le 8 l) k n 0 inside (le-leb 8 (level k n) (omega arith)) ∙ ap (λ x. x + 1) ih ∙ sym (capped_more k n (full_level n (omega arith) (omega arith))))
+
 -- ---- at a ceiling: along some axis
 
 ceiling_sure : (d : ℕ) (k : List ℕ) → at_ceiling d k ≡ true → (a : ℕ) × (a < d) × (Within (forward k a) → ⊥)
@@ -101,15 +122,29 @@ ceiling_back (suc n) k a h f = step (ℕ_discrete a n) (λ l. ceiling_back n k a
     step (yes q) ih = rw (← q, f)
     step (no q) ih = either (within (forward k n)) (ih (omega (arith, q, h)))
 
--- one more axis
-module _ (k : List ℕ) (a : ℕ) where
-  pub ceiling_more : within (forward k a) ≡ false → at_ceiling (a + 1) k ≡ true
+-- below an excess of 12 it is so where some level is 8
+module _ (k : List ℕ) (eight : length k ≡ 8) (w : Within k) (e : excess k < 12) where
+  any_below : (n : ℕ) → n ≤ 8 → list_any (λ l. nat_le 8 l) (take n k) ≡ at_ceiling n k
   unfolding at_ceiling
-  ceiling_more e = rw (add-one a, e)
+  any_below zero h = refl
+  any_below (suc n) h =
+      ap (λ m. list_any (λ l. nat_le 8 l) (take m k)) (sym (add-one n)) ∙ list_any_more (λ l. nat_le 8 l) k n 0 (omega (arith, eight))
+      ∙ ap (λ t. t || nat_le 8 (level k n)) (any_below n (omega arith)) ∙ step (dec_lt (level k n) 8)
+    where
+      or-true : (t : Bool) → (t || true) ≡ true
+      or-true true = refl
+      or-true false = refl
 
-  pub ceiling_kept : within (forward k a) ≡ true → at_ceiling (a + 1) k ≡ at_ceiling a k
-  unfolding at_ceiling
-  ceiling_kept e = rw (add-one a, e)
+      or-false : (t : Bool) → (t || false) ≡ t
+      or-false true = refl
+      or-false false = refl
+
+      step : Dec (level k n < 8) → (at_ceiling n k || nat_le 8 (level k n)) ≡ cond (within (forward k n)) (at_ceiling n k) true
+      step (yes l) = rw (lt-leb 8 (level k n) l, not_full k eight w n (omega arith) e l) (or-false (at_ceiling n k))
+      step (no l) = rw (le-leb 8 (level k n) (omega arith), full_level k eight w n (omega arith) (omega arith)) (or-true (at_ceiling n k))
+
+  pub ceiling_any : list_any (λ l. nat_le 8 l) k ≡ at_ceiling 8 k
+  ceiling_any = ap (list_any (λ l. nat_le 8 l)) (sym (take_all 8 k (omega (arith, eight)))) ∙ any_below 8 (omega arith)
 
 counted : (d : ℕ) (k : List ℕ) → at_ceiling d k ≡ ltb 0 (capped_axes d k)
 unfolding at_ceiling capped_axes

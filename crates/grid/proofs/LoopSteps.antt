@@ -9,7 +9,7 @@ use native.Mathlib.Nat as NatL
 use native.Mathlib.Nat.{le_trans, le_of_eq, mul-le-mul, mul-div_cancel_left}
 use native.Mathlib.Numerals.{add-one}
 use native.Mathlib.Omega.{arith}
-use borrow.Author.Tests.{eq-eqb, ne_eqb, le-leb, lt-leb}
+use borrow.Author.Tests.{eq-eqb, ne_eqb, le-leb, leb-true}
 use lib.Bits.{bit_and, and_mask}
 use lib.Dec.{leb, eqb}
 use lib.IntN.{ℤ, pos, neg_ℤ, neg_ℤ-neg_ℤ}
@@ -35,17 +35,14 @@ pub levels_step : (k : List ℕ) (a : ℕ) → a < length k → 1 ≤ level k a 
 unfolding levels_within
 levels_step k a h p q = rw (axis_left k a h, le-leb 1 (level k a) p, le-leb (level k a) 8 q)
 
-pub levels_low : (k : List ℕ) (a : ℕ) → a < length k → level k a < 1 → levels_within (drop a k) ≡ false
+pub levels_outside : (k : List ℕ) (a : ℕ) → a < length k → ((1 ≤ level k a) × (level k a ≤ 8) → ⊥) → levels_within (drop a k) ≡ false
 unfolding levels_within
-levels_low k a h p = rw (axis_left k a h, lt-leb 1 (level k a) p)
-
-and-false : (b : Bool) → (b && false) ≡ false
-and-false true = refl
-and-false false = refl
-
-pub levels_high : (k : List ℕ) (a : ℕ) → a < length k → 8 < level k a → levels_within (drop a k) ≡ false
-unfolding levels_within
-levels_high k a h p = rw (axis_left k a h, lt-leb (level k a) 8 p, and-false (leb 1 (level k a)))
+levels_outside k a h f = rw (axis_left k a h) (by (leb 1 (level k a)) (leb (level k a) 8) refl refl)
+  where
+    by : (p q : Bool) → leb 1 (level k a) ≡ p → leb (level k a) 8 ≡ q → (p && q && levels_within (drop (a + 1) k)) ≡ false
+    by false q d e = refl
+    by true false d e = refl
+    by true true d e = absurd (f (leb-true 1 (level k a) d, leb-true (level k a) 8 e))
 
 pub excess_step : (k : List ℕ) (a : ℕ) → a < length k → excess (drop a k) ≡ (level k a - 1) + excess (drop (a + 1) k)
 unfolding excess
@@ -120,6 +117,15 @@ size-left-pos k a w = size-pos 8 (drop a k) (levels_drop 8 k a (within_levels k 
 -- a factor of a number is no more than the number
 pub factor_le : (a b n : ℕ) → 1 ≤ b → n ≡ a * b → a ≤ n
 factor_le a b n h e = le_trans (le_of_eq (sym (NatL.mul-one a))) (le_trans (mul-le-mul (NatL.le_refl a) h) (le_of_eq (sym e)))
+
+-- the size so far times that of the axes left is the whole: one axis more
+pub size_next : (k : List ℕ) (a s n : ℕ) → a < length k → n ≡ new_count (level k a) → block_size k ≡ s * block_size (drop a k)
+    → block_size k ≡ s * n * block_size (drop (a + 1) k)
+size_next k a s n h p e =
+    e ∙ ap (λ x. s * x) (size_step k a h ∙ ap (λ c. c * block_size (drop (a + 1) k)) (sym p)) ∙ sym (NatL.mul_assoc s n (block_size (drop (a + 1) k)))
+
+pub size_part : (k : List ℕ) (a s : ℕ) → Within k → block_size k ≡ s * block_size (drop a k) → s ≤ 4096
+size_part k a s w e = le_trans (factor_le s (block_size (drop a k)) (block_size k) (size-left-pos k a w) e) (size_small k w)
 
 -- ---- points
 

@@ -1,5 +1,8 @@
 #![tactic(auto)]
 // Indices by value: ceilings, neighbours, blocks and their points, subsets of the axes as masks.
+// An index is its eight levels and no type of its own, since a forward neighbour may pass a ceiling and is asked all the same; an axis and a number of axes are
+// plain numbers. So `Within levels`, `axis < 8` and `axes ≤ 8` are clauses: each caller has them at hand, and a type would be made for one call. So is that a point's
+// number is below its block's size.
 ghost use Rattle.std.specs.Prelude.{◌≡◌, ◌≤◌, ◌<◌};
 ghost use Rattle.grid.specs.Index.{level, excess, Within, within, forward, backward, capped_axes, at_ceiling};
 ghost use Rattle.grid.specs.Block.{turned, block_size, point_of};
@@ -11,10 +14,8 @@ pub fn excess_of(levels: [u32; 8]) -> u32
     ensures { result ≡ excess levels }
 {
     let mut sum: u32 = 0;
-    let mut axis: usize = 0;
-    while axis < 8 {
-        sum += levels[axis] - 1;
-        axis += 1;
+    for level in levels {
+        sum += level - 1;
     }
     sum
 }
@@ -24,17 +25,11 @@ pub fn within_ceilings(levels: [u32; 8]) -> bool
     ensures { result ≡ within levels }
 {
     let mut excess: u32 = 0;
-    let mut axis: usize = 0;
-    while axis < 8 {
-        let level = levels[axis];
-        if level < 1 {
-            return false;
-        }
-        if 8 < level {
+    for level in levels {
+        if !(1..=8).contains(&level) {
             return false;
         }
         excess += level - 1;
-        axis += 1;
     }
     excess <= 12
 }
@@ -47,35 +42,15 @@ pub fn capped_axes(axes: usize, levels: [u32; 8]) -> u32
     if 12 <= excess_of(levels) {
         return axes as u32;
     }
-    let mut count: u32 = 0;
-    let mut axis: usize = 0;
-    while axis < axes {
-        if 8 <= levels[axis] {
-            count += 1;
-        }
-        axis += 1;
-    }
-    count
+    levels[..axes].iter().filter(|level| 8 <= **level).count() as u32
 }
 
-// Whether an index is at a ceiling. An index of fewer axes is asked as one of eight, which comes to the same. All levels are looked at, since a
-// loop of fixed length that never leaves early takes several at a time.
+// Whether an index is at a ceiling. An index of fewer axes is asked as one of eight, which comes to the same.
 pub fn at_ceiling(levels: [u32; 8]) -> bool
     requires { Within levels }
     ensures { result ≡ at_ceiling 8 levels }
 {
-    if 12 <= excess_of(levels) {
-        return true;
-    }
-    let mut highest = false;
-    let mut axis: usize = 0;
-    while axis < 8 {
-        if 8 <= levels[axis] {
-            highest = true;
-        }
-        axis += 1;
-    }
-    highest
+    12 <= excess_of(levels) || levels.iter().any(|level| 8 <= *level)
 }
 
 // How many points the block of an index has.
@@ -84,10 +59,8 @@ pub fn block_size(levels: [u32; 8]) -> usize
     ensures { result ≡ block_size levels }
 {
     let mut size: usize = 1;
-    let mut axis: usize = 0;
-    while axis < 8 {
-        size *= rule::new_count(levels[axis]);
-        axis += 1;
+    for level in levels {
+        size *= rule::new_count(level);
     }
     size
 }
@@ -112,16 +85,13 @@ pub fn point_of(levels: [u32; 8], n: usize) -> [u8; 8]
     let mut left = n;
     let mut size = block_size(levels);
     let mut rank: usize = 0;
-    let mut axis: usize = 0;
-    while axis < 8 {
-        let level = levels[axis];
+    for (axis, &level) in levels.iter().enumerate() {
         let count = rule::new_count(level);
         size /= count;
         let q = left / size;
         point[axis] = rule::new_point(level, number_visited(rank, count, q));
         rank = rank * count + q;
         left %= size;
-        axis += 1;
     }
     point
 }
@@ -146,17 +116,15 @@ pub fn backward_neighbour(levels: [u32; 8], axis: usize) -> [u32; 8]
     neighbour
 }
 
-// +1 for an even and -1 for an odd subset; bit a of the mask marks axis a + 1.
+// +1 for an even and -1 for an odd subset; bit a of the mask marks axis a + 1. Shifts and masks test each axis, as the scope document has it, and no count of ones.
 pub fn subset_sign(mask: u8) -> i64
     ensures { result ≡ sign (marks 8 mask) }
 {
     let mut odd = false;
-    let mut axis: u8 = 0;
-    while axis < 8 {
+    for axis in 0u8..8 {
         if (mask >> axis) & 1 == 1 {
             odd = !odd;
         }
-        axis += 1;
     }
     if odd { -1 } else { 1 }
 }

@@ -22,7 +22,7 @@ use Rattle.calls.specs.Facts.{PastUnchanged}
 use Rattle.calls.proofs.CauseCases.{call_ways}
 use Rattle.calls.proofs.Next.{Allowed, allowed_there, next_valid}
 use Rattle.calls.proofs.Written.{written_past, written_lengths}
-use Rattle.records.proofs.Orders.{less_or}
+use Rattle.std.proofs.lemmas.Bool.{cases_lt}
 use Rattle.records.proofs.WellFormed.{FormedAt, at_same, well_formed_take}
 
 -- ---- what a call leaves
@@ -34,7 +34,7 @@ pub record Leaves (a b : Area) : Type 0 where
 
 -- the held records of a valid area, and the others as they were
 valid_well_formed : (a b : Area) → WellFormed a.run.records → ValidArea b → PastUnchanged a b → lengths_of b ≡ lengths_of a → WellFormed b.run.records
-valid_well_formed a b f s past e p h = elim (less_or p b.job.held) [ inl l ↦ front l | inr l ↦ behind l ]
+valid_well_formed a b f s past e p h = elim (cases_lt p b.job.held) [ inl l ↦ front l | inr l ↦ behind l ]
   where
     front : p < b.job.held → FormedAt b.run.records p
     front l =

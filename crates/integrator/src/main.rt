@@ -36,14 +36,7 @@ impl fmt::Debug for JobError {
 
 impl Error for JobError {}
 
-fn min_of(a: usize, b: usize) -> usize
-    ensures bounds { (result ≤ a) × (result ≤ b) }
-    ensures value { result ≡ min a b }
-{
-    if a < b { a } else { b }
-}
-
-// Puts the first bytes of a chunk into the file from `at` on.
+// Puts the first bytes of a chunk into the file from `at` on. The count stands by itself since two edits change it (must-fail/bytes_lost, chunks_at_the_front).
 fn put_chunk(chunk: &[u8], count: usize, at: usize, file: &mut [u8])
     requires { (count ≤ length chunk.now) × (at + count ≤ length file.old) }
     ensures { file.new ≡ paste file.old at chunk.now count }
@@ -63,7 +56,7 @@ fn read_more<R: io::Read>(
     ensures within { Fits (length chunk.new) result }
     ensures bytes { TakesChunk (min (length file.old - at) (length chunk.old)) chunk.new (R.remaining input.old) (R.remaining input.new) result }
 {
-    let room = min_of(file.len() - at, chunk.len());
+    let room = (file.len() - at).min(chunk.len());
     let count = input.read(&mut chunk[..room])?;
     put_chunk(chunk, count, at, file);
     Ok(count)
@@ -76,6 +69,7 @@ fn read_file<R: io::Read>(input: &mut R, file: &mut [u8]) -> io::Result<usize>
 {
     let mut chunk = [0u8; 4096];
     let mut at: usize = 0;
+    // No index is counted: the place moves by what came. read_exact refuses an input that ends first, and io::copy reads on after an interruption.
     while at < file.len() {
         let count = read_more(input, at, &mut chunk, file)?;
         if count == 0 {
@@ -86,15 +80,12 @@ fn read_file<R: io::Read>(input: &mut R, file: &mut [u8]) -> io::Result<usize>
     Ok(at)
 }
 
-// Runs the job and writes what it gives. 512 bytes are never too short for it.
+// Runs the job and writes what it gives.
 fn print_report<W: io::Write>(output: &mut W, bytes: &[u8]) -> io::Result<()>
     ensures { OnOk result (Appends (W.contents output.old) (W.contents output.new) (text_of bytes.now)) }
 {
     let mut report = [0u8; 512];
-    match running::run(bytes, &mut report) {
-        running::RunStatus::TooShort => Ok(()),
-        running::RunStatus::Written(count) => output.write_all(&report[..count]),
-    }
+    output.write_all(running::text(bytes, &mut report))
 }
 
 // Reads one byte more than the longest file of the right form has: what would come after it cannot change the answer.

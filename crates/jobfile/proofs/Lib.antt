@@ -13,4 +13,4 @@ pub mod Places
 pub mod Named
 pub mod OneByte
 pub mod Facts
-pub mod Complement
+pub mod Bytes

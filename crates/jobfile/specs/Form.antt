@@ -1,10 +1,8 @@
 -- The form of a job file ("Job file and report"), tested field by field in byte order. A field that is cut off names the file's length; a
 -- field that breaks a rule names its first byte; the first byte too many names itself. `c` is the list of the file's bytes.
-use Rattle.std.specs.Prelude.{Bool, true, cond, ◌&&◌, List, ℕ, zero, suc, ◌+◌, ◌*◌, leb, ltb, eqb, length}
-use Rattle.jobfile.specs.declared.Form as code
-use Rattle.jobfile.specs.declared.Form.TheVariants as forms
-use Rattle.jobfile.specs.declared.Table as code-table
-use Rattle.jobfile.specs.declared.Table.TheVariants as tables
+use Rattle.std.specs.Prelude.{Bool, true, cond, ◌&&◌, List, ℕ, zero, suc, ◌+◌, ◌*◌, leb, ltb, eqb, length, Result, Ok, Err}
+use Rattle.jobfile.specs.declared.FormError.{FormError}
+use Rattle.jobfile.specs.declared.FormError.TheVariants as errors
 use Rattle.jobfile.specs.Bytes.{four}
 
 -- What a malformed file is refused by: the number of the cause, which tells the part of the file at fault, and the byte named.
@@ -74,13 +72,13 @@ form_of c = header_form c (table_form c (entry_count c) 0 0 (λ total. readings_
 
 -- The code's answer, case by case: the number of the part at fault, 10 for the header, 12 for the entry table and 13 for the readings, and
 -- the byte that the case holds. A file of the right form has no number.
-unfoldable pub form_in : code.Form → Form
-form_in forms.Formed = formed
-form_in (forms.Header b) = broken (record { number = 10; byte = b })
-form_in (forms.Entry b) = broken (record { number = 12; byte = b })
-form_in (forms.Readings b) = broken (record { number = 13; byte = b })
+unfoldable pub form_in : Result (Unit {0}) FormError → Form
+form_in (Ok _) = formed
+form_in (Err (errors.Header b)) = broken (record { number = 10; byte = b })
+form_in (Err (errors.Entry b)) = broken (record { number = 12; byte = b })
+form_in (Err (errors.Readings b)) = broken (record { number = 13; byte = b })
 
--- The code's answer on the table, before what comes next.
-unfoldable pub table_in : code-table.Table → (ℕ → Form) → Form
-table_in (tables.Formed total) next = next total
-table_in (tables.Broken b) next = broken (entry b)
+-- The code's answer on the table, before what comes next: how many readings its entries count.
+unfoldable pub table_in : Result ℕ FormError → (ℕ → Form) → Form
+table_in (Ok total) next = next total
+table_in (Err e) next = form_in (Err e)

@@ -6,18 +6,18 @@ use mathlib.Core.Bool.{Bool, true, false, cond}
 use mathlib.Core.List.{List, [], ◌∷◌, ◌++◌}
 use Prim.Native.Nat.{ℕ, ◌+◌, ◌-◌, ◌≤◌}
 use native.Mathlib.Omega.{arith}
-use borrow.Author.Tests.{eqb-true}
+use borrow.Author.Tests.{eqb-true, eqb-false}
 use lib.Dec.{eqb}
 use lib.ListN.{length, get_or, length-append, get_or-append}
 use lib.Seq.{get_or-append-add}
 use Rattle.area.specs.Log.{Machine}
-use Rattle.machine.specs.Steps.{started}
 use Rattle.jobfile.specs.Form.{Form, formed, broken, form_of}
 use Rattle.reporting.specs.Decimal.{decimal, signed_decimal}
 use Rattle.reporting.specs.Text.{space, feed, line, axes_word, old_word, active_word, wanted_word, reserved_word, pending_word, carried_word, ceiling_word, scaled_word, unused_word, end_word, refused_word, at_word, Ending, met, capped, spent, short, ending_word, ReportValues, report_text, refusal_text}
 use Rattle.reporting.proofs.Facts.{text_facts}
-use Rattle.running.specs.Execution.{Result, refused_at, ended, unfinished, execution, step_limit, start_byte, start_cause, result_in, result_of, file_settings}
+use Rattle.running.specs.Execution.{Result, refused_at, ended, unfinished, start_byte, start_cause, result_of}
 use Rattle.running.specs.Report.{report_values_of, text_in}
+use Rattle.running.proofs.Whole.{refused_start}
 use Rattle.running.proofs.Facts.{execution-facts}
 
 -- There are k bytes, and the k-th from the end is v.
@@ -156,12 +156,6 @@ only_ended e n unfinished before q = absurd (omega (arith, (subst (EndsIn 2 (sec
 
 -- ---- a file that start refuses
 
-pub refused_start : (c : List ℕ) → form_of c ≡ formed → eqb (start_cause c) 0 ≡ false → result_of c ≡ refused_at (start_cause c) (start_byte (start_cause c))
-unfolding result_of result_in
-refused_start c right e =
-    ap (λ x. result_in x c) right
-    ∙ ap (λ t. cond t (execution c step_limit (started (file_settings c)) 0) (refused_at (start_cause c) (start_byte (start_cause c)))) e
-
 -- ---- a file whose execution ends
 
 module _ (c : List ℕ) (e : Ending) (m : Machine) (used : ℕ) (is : result_of c ≡ ended e m used) where
@@ -182,4 +176,4 @@ module _ (c : List ℕ) (e : Ending) (m : Machine) (used : ℕ) (is : result_of 
     where
       by : (t : Bool) → eqb (start_cause c) 0 ≡ t → start_cause c ≡ 0
       by true q = eqb-true (start_cause c) 0 q
-      by false q = absurd (apart (start_cause c) (start_byte (start_cause c)) (sym (refused_start c right_form q) ∙ is))
+      by false q = absurd (apart (start_cause c) (start_byte (start_cause c)) (sym (refused_start c right_form (eqb-false (start_cause c) 0 q)) ∙ is))

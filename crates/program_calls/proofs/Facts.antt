@@ -3,12 +3,10 @@
 -- Assumes nothing.
 use mathlib.Core.Path.{◌≡◌, refl, ap, sym, ◌∙◌, subst}
 use mathlib.Core.Logic.{◌⊎◌, inl, inr}
-use mathlib.Core.Bool.{false, cond}
+use mathlib.Core.Bool.{false}
 use mathlib.Core.List.{List, [], ◌∷◌, ◌++◌}
 use Prim.Native.Nat.{ℕ, ◌-◌}
 use native.Mathlib.Omega.{arith}
-use borrow.Author.Tests.{ne_eqb}
-use lib.Dec.{eqb}
 use Rattle.area.specs.declared.Settings.{Settings}
 use Rattle.area.specs.Settings.{SettingsFit}
 use Rattle.area.specs.Log.{Log, Machine}
@@ -42,16 +40,17 @@ use Rattle.history.proofs.Published.{mean_follows}
 use Rattle.history.proofs.Moments.{after_course, steps_of, after_rule, rule_of}
 use Rattle.jobfile.specs.Form.{formed, form_of, entry_count}
 use Rattle.reporting.specs.Text.{line, end_word, Ending, met, capped, spent, short, ending_word, report_text, refusal_text}
-use Rattle.running.specs.Execution.{own_lengths, refused_at, ended, execution, step_limit, start_byte, start_cause, result_in, result_of, file_settings}
+use Rattle.running.specs.Execution.{own_lengths, refused_at, ended, execution, step_limit, start_byte, start_cause, result_of, file_settings}
 use Rattle.running.specs.Report.{report_values_of, text_in, text_of}
 use Rattle.running.specs.Facts.{AllowedResult}
+use Rattle.running.proofs.Whole.{refused_start, executed}
 use Rattle.running.proofs.Facts.{execution-facts}
 use Rattle.program_calls.specs.Calls.{own_part, lent, start_call, InTurn, later_calls, program_log, program_promotions}
 use Rattle.program_calls.specs.Facts.{EndingAnswers, EndsBy, RefusedBy, ResultBy, LoopEnded, Posed, ProgramIsCalls, PrintedEnd, EndMet, EndCapped, EndSpent, EndShort, ProgramFacts}
 use Rattle.program_calls.proofs.Answers.{start_taken, start_refused}
 use Rattle.program_calls.proofs.Places.{in_turn, turn_chosen}
 use Rattle.program_calls.proofs.Steps.{agrees}
-use Rattle.program_calls.proofs.Endings.{only_ended, refused_start, right_form, start_accepts_it}
+use Rattle.program_calls.proofs.Endings.{only_ended, right_form, start_accepts_it}
 use Rattle.program_calls.proofs.Loops.{state_is, loop_ended, ended_problem, met_within, capped_above, loop_spent, spent_problem, still_wanted, loop_short, short_problem}
 
 all_lent : (w : Storage) → Lent w own_part → (xs : List Call) → AllLent w (lend_all own_part xs)
@@ -74,14 +73,8 @@ module _ (c : List ℕ) (right : form_of c ≡ formed) (none : start_cause c ≡
 
   -- ---- what it comes to
 
-  result_is : result_of c ≡ execution c step_limit (steps.started (file_settings c)) 0
-  unfolding result_of result_in
-  result_is =
-      ap (λ x. result_in x c) right
-      ∙ ap (λ k. cond (eqb k 0) (execution c step_limit (steps.started (file_settings c)) 0) (refused_at k (start_byte k))) none
-
   by_calls : ResultBy c (steps.start_log (file_settings c)) 0 (later_calls c) (result_of c)
-  by_calls = subst (ResultBy c (steps.start_log (file_settings c)) 0 (later_calls c)) (sym result_is) agree
+  by_calls = subst (ResultBy c (steps.start_log (file_settings c)) 0 (later_calls c)) (sym (executed c right none)) agree
     where
       agree : ResultBy c (steps.start_log (file_settings c)) 0 (later_calls c) (execution c step_limit (steps.started (file_settings c)) 0)
       agree = unfold later_calls steps.started in agrees c step_limit (steps.started (file_settings c)) 0 begun (unfold steps.started in refl)
@@ -188,7 +181,7 @@ module _ (c : List ℕ) (right : form_of c ≡ formed) (none : start_cause c ≡
 
 refused_text : (c : List ℕ) → form_of c ≡ formed → (start_cause c ≡ 0 → ⊥) → text_of c ≡ refusal_text (start_cause c) (start_byte (start_cause c))
 unfolding text_of
-refused_text c right f = ap (text_in (entry_count c)) (refused_start c right (ne_eqb (start_cause c) 0 f)) ∙ unfold text_in in refl
+refused_text c right f = ap (text_in (entry_count c)) (refused_start c right f) ∙ unfold text_in in refl
 
 -- ---- the last line
 

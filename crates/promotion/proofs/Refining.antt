@@ -3,14 +3,15 @@
 -- decide as the refined entries do, and the records written are theirs.
 -- Assumes nothing.
 use mathlib.Core.Path.{◌≡◌, sym, ap, ap₂, ◌∙◌, subst}
-use mathlib.Core.Bool.{Bool, true, false, cond}
+use mathlib.Core.Bool.{true, false, cond}
 use mathlib.Core.List.{List}
 use Prim.Native.Nat.{ℕ, ◌+◌, ◌*◌, ◌-◌, ◌^◌, ◌<◌, ◌≤◌}
 use native.Mathlib.Omega.{arith}
 use borrow.Author.Tests.{le-leb, lt-leb}
 use lib.IntN.{ℤ}
+use Rattle.std.specs.Prelude.{Option}
 use lib.ListN.{length, get_or, set}
-use Rattle.grid.specs.Index.{level, Within, Index, forward, at_ceiling}
+use Rattle.grid.specs.Index.{level, Within, Index, at_ceiling}
 use Rattle.grid.proofs.Ceilings.{ceiling_facts}
 use Rattle.area.specs.declared.JobRecord.{JobRecord}
 use Rattle.area.specs.declared.IndexRecord.{IndexRecord}
@@ -20,17 +21,17 @@ use Rattle.area.proofs.Readings.{reading_facts}
 use Rattle.area.specs.Records.{Run, records_of, run_of, stored, held_in}
 use Rattle.area.specs.Entry.{Entry, reserved_by}
 use Rattle.area.specs.Log.{Machine, machine_with_entries}
+use Rattle.area.specs.Packed.{PackedWords}
 use Rattle.area.specs.Encoding.{Area, area_of, entries_of, machine_of, written}
 use Rattle.area.proofs.Records.{length-records_of, indicators_small}
 use Rattle.quadrature.specs.Readings.{record_at}
 use Rattle.quadrature.proofs.Held.{held_length, held_record}
 use Rattle.soundness.specs.Held.{levels_at, state_at}
 use Rattle.machine.specs.Log.{first_wanted}
-use Rattle.machine.specs.Promote.{make_old, admits, admitted_axes, refine, fits, spent, promoted, promote_within}
+use Rattle.machine.specs.Promote.{make_old, admitted_axes, refine, fits, spent, promoted, promote_within}
 use Rattle.machine.specs.Areas.{changed_by, refine_on}
 use Rattle.encoding.specs.Entries.{SoundMachine}
 use Rattle.encoding.proofs.Facts.{range_facts}
-use Rattle.machine.proofs.Old.{reads_admits}
 use Rattle.machine.proofs.Facts.{step_facts}
 use Rattle.writing.specs.Changes.{with_state, appended_all, sizes_of}
 use Rattle.writing.specs.Heads.{heads_of}
@@ -40,16 +41,11 @@ use Rattle.writing.proofs.Areas.{held_is, state_is}
 use Rattle.writing.proofs.Refine.{refined_held, refined_reserved, indicator_within}
 use Rattle.writing.proofs.Facts.{write_facts}
 use Rattle.writing.proofs.After.{machine_sound, written_valid}
-use Rattle.promotion.specs.Marks.{marks_of, marked_axes, Searchable, MarkedWithin}
+use Rattle.promotion.specs.Marks.{Searchable, Scannable, Neighbours}
 use Rattle.promotion.specs.Outcomes.{outcome_of, promotion_of}
 use Rattle.promotion.specs.declared.Outcome.TheVariants.{Spent, Promoted}
-use Rattle.promotion.proofs.Marks.{marked_passes, marked_are}
 
 -- ---- a valid area
-
--- the held entries as the scans see them
-abbrev heads_in : JobRecord → List ℕ → List Entry
-heads_in job c = heads_of (held_in c job.held)
 
 module _ (job : JobRecord) (c : List ℕ) (store : List ℤ) (r : ValidArea (area_of job c store)) where
   pub room : job.held * 27 ≤ length c
@@ -60,6 +56,10 @@ module _ (job : JobRecord) (c : List ℕ) (store : List ℤ) (r : ValidArea (are
 
   few_axes : job.settings.axes ≤ 8
   few_axes = r.sound.settings.axes.1
+
+  few_held : length (held_in c job.held) ≤ 512
+  unfolding held_in
+  few_held = r.sound.structure.count.1
 
   searchable : Searchable (held_in c job.held)
   unfolding held_in
@@ -81,29 +81,45 @@ pub record Refinable (job : JobRecord) (c : List ℕ) (store : List ℤ) (p limi
   pub active : state_at (records_of c) p ≡ 1
   pub limited : limit ≤ job.settings.budget
 
-pub refinable : (job : JobRecord) (c : List ℕ) (store : List ℤ) (p limit : ℕ)
+pub refinable : {job : JobRecord} {c : List ℕ} {store : List ℤ} {p limit : ℕ}
     → ValidArea (area_of job c store) × (length (entries_of (area_of job c store)) ≤ first_wanted (entries_of (area_of job c store)))
     → (p < job.held) × (state_at (records_of c) p ≡ 1) × (limit ≤ job.settings.budget)
     → Refinable job c store p limit
-refinable job c store p limit r h = record { valid = r.0; idle = r.1; place = h.0; active = h.1; limited = h.2 }
+refinable r h = record { valid = r.0; idle = r.1; place = h.0; active = h.1; limited = h.2 }
 
--- its levels as they are read, and the marks that the scan answers with
-pub record Scanned (job : JobRecord) (c : List ℕ) (p : ℕ) (levels marks : List ℕ) : Type 0 where
-  pub levels_are : levels ≡ levels_at (records_of c) p
-  pub marks_are : marks ≡ marks_of job.settings.axes (admits job.settings.axes (make_old (heads_in job c) p) (levels_at (held_in c job.held) p))
+-- the held records, its levels as they are read there, and the forward neighbours that the scan finds
+pub record Scanned (job : JobRecord) (c : List ℕ) (p : ℕ) (held : List IndexRecord) (levels : List ℕ) (n : Neighbours) : Type 0 where
+  pub held_are : held ≡ held_in c job.held
+  pub levels_are : levels ≡ levels_at held p
+  pub neighbours_are : n ≡ record { index = levels; along = admitted_axes job.settings.axes (make_old (heads_of held) p) levels }
 
--- how many are marked, and the sizes of their blocks together
-pub record Counted (job : JobRecord) (levels marks : List ℕ) (count sizes : ℕ) : Type 0 where
-  pub count_is : count ≡ length (marked_axes job.settings.axes marks)
-  pub sizes_are : sizes ≡ sizes_of levels (marked_axes job.settings.axes marks)
+-- how many they are, and the sizes of their blocks together
+pub record Counted (n : Neighbours) (count sizes : ℕ) : Type 0 where
+  pub count_is : count ≡ length n.along
+  pub sizes_are : sizes ≡ sizes_of n.index n.along
 
--- the cells after the place has its new state, and after the marked are appended; and the carried error then
-pub record Changed (job : JobRecord) (c : List ℕ) (p : ℕ) (levels marks : List ℕ) (indicator first carried : ℕ) (c₁ c₂ : List ℕ) : Type 0 where
+pub scanned : {job : JobRecord} {c : List ℕ} {p : ℕ} {held : List IndexRecord} {levels : List ℕ} {n : Neighbours} → held ≡ held_in c job.held → levels ≡ levels_at held p
+    → n ≡ record { index = levels; along = admitted_axes job.settings.axes (make_old (heads_of held) p) levels } → Scanned job c p held levels n
+scanned h l n = record { held_are = h; levels_are = l; neighbours_are = n }
+
+pub counted : {n : Neighbours} {count sizes : ℕ} → count ≡ length n.along → sizes ≡ sizes_of n.index n.along → Counted n count sizes
+counted c s = record { count_is = c; sizes_are = s }
+
+-- the cells after the place has its new state, and after the neighbours are appended; and the carried error then
+pub record Changed (job : JobRecord) (c : List ℕ) (p : ℕ) (held : List IndexRecord) (levels : List ℕ) (n : Neighbours) (indicator first carried : ℕ) (c₁ c₂ : List ℕ) : Type 0 where
   pub first_is : first ≡ readings_for job.settings job.reserved
-  pub indicator_is : indicator ≡ (record_at (records_of c) p).indicator
+  pub indicator_is : indicator ≡ (record_at held p).indicator
   pub with_state_is : run_of c₁ ≡ stored (run_of c) p (with_state (record_at (records_of c) p) 2 indicator)
   pub carried_is : carried ≡ job.carried + cond (at_ceiling 8 levels) indicator 0
-  pub appended_is : run_of c₂ ≡ record { records = appended_all job.settings (records_of c₁) job.held first levels (marked_axes job.settings.axes marks); rest = (run_of c₁).rest }
+  pub appended_is : run_of c₂ ≡ record { records = appended_all job.settings (records_of c₁) job.held first n.index n.along; rest = (run_of c₁).rest }
+
+pub changed : {job : JobRecord} {c : List ℕ} {p : ℕ} {held : List IndexRecord} {levels : List ℕ} {n : Neighbours} {indicator first carried : ℕ} {c₁ c₂ : List ℕ}
+    → first ≡ readings_for job.settings job.reserved → indicator ≡ (record_at held p).indicator
+    → run_of c₁ ≡ stored (run_of c) p (with_state (record_at (records_of c) p) 2 indicator)
+    → carried ≡ job.carried + cond (at_ceiling 8 levels) indicator 0
+    → run_of c₂ ≡ record { records = appended_all job.settings (records_of c₁) job.held first n.index n.along; rest = (run_of c₁).rest }
+    → Changed job c p held levels n indicator first carried c₁ c₂
+changed f i w c a = record { first_is = f; indicator_is = i; with_state_is = w; carried_is = c; appended_is = a }
 
 module _ {job : JobRecord} {c : List ℕ} {store : List ℤ} {p limit : ℕ} (t : Refinable job c store p limit) where
   abbrev area : Area
@@ -131,9 +147,6 @@ module _ {job : JobRecord} {c : List ℕ} {store : List ℤ} {p limit : ℕ} (t 
   pub place_inside : p * 27 + 27 ≤ length c
   place_inside = omega (arith, room job c store t.valid, t.place)
 
-  pub scan_asks : (job.settings.axes ≤ 8) × (job.held * 27 ≤ length c) × (p < job.held) × Searchable (held_in c job.held)
-  scan_asks = (few_axes job c store t.valid, room job c store t.valid, t.place, searchable job c store t.valid)
-
   -- the place holds an index of the job
   place_index : Index job.settings.axes k
   unfolding held_in
@@ -141,10 +154,38 @@ module _ {job : JobRecord} {c : List ℕ} {store : List ℤ} {p limit : ℕ} (t 
       subst (Index job.settings.axes) (ap (λ (x : IndexRecord). x.levels) (held_record c job.held (room job c store t.valid) p t.place))
       (t.valid.sound.structure.index p (omega (arith, t.place, held_length c job.held (room job c store t.valid))))
 
-  -- its indicator joins a carried error that has room for it
-  pub carried_asks : {levels : List ℕ} → levels ≡ k → ((n : ℕ) → get_or c n 0 < 2 ^ 32) → Within levels × (job.carried < 2 ^ 41)
-  carried_asks e words =
-      (subst Within (sym e) place_index.ceilings, omega (arith, range_facts.errors area t.valid.sound (indicators_small c job.held words)))
+  module _ {held : List IndexRecord} (h : held ≡ held_in c job.held) where
+    pub pack_asks : length held ≤ 512
+    pack_asks = omega (arith, ap length h, few_held job c store t.valid)
+
+    pub place_held : p < length held
+    place_held = omega (arith, ap length h, held_length c job.held (room job c store t.valid), t.place)
+
+    -- among the held it is as among all records
+    record_there : record_at held p ≡ record_at (records_of c) p
+    record_there = ap (λ rs. record_at rs p) h ∙ held_record c job.held (room job c store t.valid) p t.place
+
+    pub scannable : {words : Option (List ℕ)} → PackedWords words held → Scannable held p words
+    scannable w = record { inside = place_held; searchable = subst Searchable (sym h) (searchable job c store t.valid); packed = w }
+
+    module _ {levels : List ℕ} (e : levels ≡ levels_at held p) where
+      levels_there : levels ≡ k
+      levels_there = e ∙ ap (λ (x : IndexRecord). x.levels) record_there
+
+      pub admitted_asks : (job.settings.axes ≤ 8) × ((a : ℕ) → a < 8 → level levels a ≤ 8)
+      admitted_asks = (
+        few_axes job c store t.valid,
+        λ a l. subst (λ x. level x a ≤ 8) (sym levels_there) (place_index.ceilings.high a (omega (arith, place_index.eight))),
+      )
+
+      -- its indicator joins a carried error that has room for it
+      pub carried_asks : ((n : ℕ) → get_or c n 0 < 2 ^ 32) → Within levels × (job.carried < 2 ^ 41)
+      carried_asks words =
+          (subst Within (sym levels_there) place_index.ceilings, omega (arith, range_facts.errors area t.valid.sound (indicators_small c job.held words)))
+
+    -- the indicator is part of the pending error
+    pub indicator_pending : (i : ℕ) → i ≡ (record_at held p).indicator → i ≤ job.pending
+    indicator_pending i e = omega (arith, ap (λ (x : IndexRecord). x.indicator) record_there, indicator_within area t.valid p t.place t.active)
 
   -- ---- the answers
 
@@ -164,48 +205,27 @@ module _ {job : JobRecord} {c : List ℕ} {store : List ℤ} {p limit : ℕ} (t 
       inside : p < length es
       inside = omega (arith, held_is area t.valid, t.place)
 
-  -- the indicator is part of the pending error
-  pub indicator_pending : (i : ℕ) → i ≡ (record_at (records_of c) p).indicator → i ≤ job.pending
-  indicator_pending i e = omega (arith, indicator_within area t.valid p t.place t.active)
-
   -- ---- what the scans find
 
-  module _ {levels marks : List ℕ} (u : Scanned job c p levels marks) where
-    -- what the scan marks by
-    abbrev scanned : ℕ → Bool
-    scanned = admits job.settings.axes (make_old (heads_in job c) p) (levels_at (held_in c job.held) p)
+  module _ {held : List IndexRecord} {levels : List ℕ} {n : Neighbours} (u : Scanned job c p held levels n) where
+    levels_are : levels ≡ k
+    levels_are = levels_there u.held_are u.levels_are
 
-    levels_same : levels_at (held_in c job.held) p ≡ k
-    levels_same = ap (λ (x : IndexRecord). x.levels) (held_record c job.held (room job c store t.valid) p t.place)
+    neighbours : n ≡ record { index = k; along = axes }
+    neighbours =
+        u.neighbours_are
+        ∙ (λ i. record { index = levels_are i; along = admitted_axes job.settings.axes (make_old (heads_of (u.held_are i)) p) (levels_are i) })
+        ∙ ap (λ a. record { index = k; along = a }) (alike_axes (make_old heads p) (make_old es p) (alike_make_old heads es (heads_are job c store) p) job.settings.axes k)
+      where
+        heads : List Entry
+        heads = heads_of (held_in c job.held)
 
-    levels_low : (a : ℕ) → a < 8 → level levels a ≤ 8
-    levels_low a l =
-        subst (λ x. level x a ≤ 8) (levels_same ∙ sym u.levels_are)
-        ((searchable job c store t.valid).low p a (omega (arith, t.place, held_length c job.held (room job c store t.valid))) l)
-
-    marked_axes_lem : marked_axes job.settings.axes marks ≡ axes
-    unfolding admitted_axes
-    marked_axes_lem =
-        ap (marked_axes job.settings.axes) u.marks_are
-        ∙ marked_are job.settings.axes scanned (few_axes job c store t.valid)
-        ∙ ap (admitted_axes job.settings.axes (make_old (heads_in job c) p)) levels_same
-        ∙ alike_axes (make_old (heads_in job c) p) (make_old es p) (alike_make_old (heads_in job c) es (heads_are job c store) p) job.settings.axes k
-
-    marked_within : MarkedWithin job.settings.axes levels marks
-    marked_within a l e =
-        subst (λ x. Within (forward x a)) (levels_same ∙ sym u.levels_are)
-        ((reads_admits job.settings.axes (make_old (heads_in job c) p) (levels_at (held_in c job.held) p) a).sure
-        (marked_passes job.settings.axes scanned (few_axes job c store t.valid) a l (ap (λ x. get_or x a 0) (sym u.marks_are) ∙ e))).ceilings
-
-    pub marks_ask : (job.settings.axes ≤ 8) × MarkedWithin job.settings.axes levels marks × ((a : ℕ) → a < 8 → level levels a ≤ 8)
-    marks_ask = (few_axes job c store t.valid, marked_within, levels_low)
-
-    module _ {count sizes : ℕ} (v : Counted job levels marks count sizes) where
+    module _ {count sizes : ℕ} (v : Counted n count sizes) where
       count_admitted : count ≡ length axes
-      count_admitted = v.count_is ∙ ap length marked_axes_lem
+      count_admitted = v.count_is ∙ ap (λ (m : Neighbours). length m.along) neighbours
 
       sizes_admitted : sizes ≡ sizes_of k axes
-      sizes_admitted = v.sizes_are ∙ ap₂ sizes_of u.levels_are marked_axes_lem
+      sizes_admitted = v.sizes_are ∙ ap (λ (m : Neighbours). sizes_of m.index m.along) neighbours
 
       held_refined : length refined ≡ job.held + count
       held_refined = refined_held area t.valid p t.place t.active ∙ ap (λ n. job.held + n) (sym count_admitted)
@@ -215,11 +235,11 @@ module _ {job : JobRecord} {c : List ℕ} {store : List ℤ} {p limit : ℕ} (t 
 
       -- ---- spent
 
-      pub too_many : 512 < job.held + count → promotion_of (record { outcome = Spent; job = job }) c store ≡ refine_on limit area p
+      pub too_many : 512 < job.held + count → promotion_of Spent job c store ≡ refine_on limit area p
       unfolding fits outcome_of
       too_many l = sym (spent_answer (rw (lt-leb (length refined) 512 (omega (arith, held_refined)))))
 
-      pub too_large : job.held + count ≤ 512 → limit < job.reserved + sizes → promotion_of (record { outcome = Spent; job = job }) c store ≡ refine_on limit area p
+      pub too_large : job.held + count ≤ 512 → limit < job.reserved + sizes → promotion_of Spent job c store ≡ refine_on limit area p
       unfolding fits outcome_of
       too_large f l =
           sym
@@ -228,10 +248,9 @@ module _ {job : JobRecord} {c : List ℕ} {store : List ℤ} {p limit : ℕ} (t 
 
       -- ---- promoted
 
-      pub append_asks : (n first : ℕ) → n ≡ length c → first ≡ readings_for job.settings job.reserved → job.held + count ≤ 512 → job.reserved + sizes ≤ limit
-          → ((job.held + length (marked_axes job.settings.axes marks)) * 27 ≤ n) × (job.held + length (marked_axes job.settings.axes marks) ≤ 512)
-          × (first + readings_for job.settings (sizes_of levels (marked_axes job.settings.axes marks)) ≤ 8192)
-      append_asks n first e f few within = (
+      pub append_asks : (cells first : ℕ) → cells ≡ length c → first ≡ readings_for job.settings job.reserved → job.held + count ≤ 512 → job.reserved + sizes ≤ limit
+          → ((job.held + length n.along) * 27 ≤ cells) × (job.held + length n.along ≤ 512) × (first + readings_for job.settings (sizes_of n.index n.along) ≤ 8192)
+      append_asks cells first e f few within = (
         omega (arith, v.count_is, long job c store t.valid),
         omega (arith, v.count_is),
         omega (arith, f, ap (readings_for g) (sym v.sizes_are), reading_facts.sum g job.reserved sizes, most, reading_facts.least g, reading_facts.most g t.valid.sound.settings),
@@ -243,7 +262,7 @@ module _ {job : JobRecord} {c : List ℕ} {store : List ℤ} {p limit : ℕ} (t 
           most : readings_for g (job.reserved + sizes) ≤ readings_for g g.budget
           most = reading_facts.more g (job.reserved + sizes) g.budget (omega (arith, within, t.limited))
 
-      module _ (few : job.held + count ≤ 512) (within : job.reserved + sizes ≤ limit) {indicator first carried : ℕ} {c₁ c₂ : List ℕ} (w : Changed job c p levels marks indicator first carried c₁ c₂) where
+      module _ (few : job.held + count ≤ 512) (within : job.reserved + sizes ≤ limit) {indicator first carried : ℕ} {c₁ c₂ : List ℕ} (w : Changed job c p held levels n indicator first carried c₁ c₂) where
         abbrev job_after : JobRecord
         job_after =
             record {
@@ -263,6 +282,9 @@ module _ {job : JobRecord} {c : List ℕ} {store : List ℤ} {p limit : ℕ} (t 
         fit : fits job.settings.budget refined ≡ true
         fit = fit_within job.settings.budget t.limited
 
+        indicator_is : indicator ≡ (record_at (records_of c) p).indicator
+        indicator_is = w.indicator_is ∙ ap (λ (x : IndexRecord). x.indicator) (record_there u.held_are)
+
         run_is : run_of c₂ ≡ record {
           records = appended_all job.settings (set (records_of c) p (with_state (record_at (records_of c) p) 2 (record_at (records_of c) p).indicator)) job.held
               (readings_for job.settings job.reserved) k axes;
@@ -270,9 +292,9 @@ module _ {job : JobRecord} {c : List ℕ} {store : List ℤ} {p limit : ℕ} (t 
         }
         run_is =
             w.appended_is
-            ∙ ap (λ (x : Run). record { records = appended_all job.settings x.records job.held first levels (marked_axes job.settings.axes marks); rest = x.rest }) w.with_state_is
+            ∙ ap (λ (x : Run). record { records = appended_all job.settings x.records job.held first n.index n.along; rest = x.rest }) w.with_state_is
             ∙ (λ i. record {
-              records = appended_all job.settings (set (records_of c) p (with_state (record_at (records_of c) p) 2 (w.indicator_is i))) job.held (w.first_is i) (u.levels_are i) (marked_axes_lem i);
+              records = appended_all job.settings (set (records_of c) p (with_state (record_at (records_of c) p) 2 (indicator_is i))) job.held (w.first_is i) (neighbours i).index (neighbours i).along;
               rest = (run_of c).rest;
             })
 
@@ -280,7 +302,7 @@ module _ {job : JobRecord} {c : List ℕ} {store : List ℤ} {p limit : ℕ} (t 
         carried_raised =
             w.carried_is
             ∙ ap₂ (λ b i. job.carried + cond b i 0)
-            (ap (at_ceiling 8) u.levels_are ∙ ceiling_facts.axes_alike job.settings.axes k t.valid.sound.settings.axes.0 (few_axes job c store t.valid) place_index) w.indicator_is
+            (ap (at_ceiling 8) levels_are ∙ ceiling_facts.axes_alike job.settings.axes k t.valid.sound.settings.axes.0 (few_axes job c store t.valid) place_index) indicator_is
 
         after_written : area_of job_after c₂ store ≡ written area after
         after_written =
@@ -289,7 +311,7 @@ module _ {job : JobRecord} {c : List ℕ} {store : List ℤ} {p limit : ℕ} (t 
                 settings = job.settings;
                 held = job.held + count_admitted i;
                 reserved = job.reserved + sizes_admitted i;
-                pending = job.pending - w.indicator_is i;
+                pending = job.pending - indicator_is i;
                 carried = carried_raised i;
                 mean = job.mean;
               };
@@ -298,7 +320,7 @@ module _ {job : JobRecord} {c : List ℕ} {store : List ℤ} {p limit : ℕ} (t 
             })
             ∙ sym (write_facts.refine area p t.valid t.idle t.place t.active fit)
 
-        pub promoted_is : promotion_of (record { outcome = Promoted; job = job_after }) c₂ store ≡ refine_on limit area p
+        pub promoted_is : promotion_of Promoted job_after c₂ store ≡ refine_on limit area p
         unfolding outcome_of
         promoted_is = ap (λ (x : Area). record { outcome = promoted; area = x }) after_written ∙ sym (promoted_answer (fit_within limit (omega arith)))
 

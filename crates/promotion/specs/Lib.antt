@@ -1,3 +1,3 @@
--- Axes marked for admission, and what the answers of the code stand for.
+-- Axes marked for admission, what the scan for them goes by, and what the answers of the code stand for.
 pub mod Marks
 pub mod Outcomes

@@ -1,5 +1,6 @@
 -- What the answers of the code stand for.
 use Rattle.std.specs.Prelude.{List, ℕ, ℤ}
+use Rattle.area.specs.declared.JobRecord.{JobRecord}
 use Rattle.area.specs.Encoding.{area_of}
 use Rattle.machine.specs.Choose.{met, capped, place}
 use Rattle.machine.specs.Choose as choice
@@ -10,7 +11,6 @@ use Rattle.promotion.specs.declared.Choice.{Choice}
 use Rattle.promotion.specs.declared.Choice.TheVariants.{Met, Capped, Place}
 use Rattle.promotion.specs.declared.Outcome.{Outcome}
 use Rattle.promotion.specs.declared.Outcome.TheVariants.{Spent, Promoted}
-use Rattle.promotion.specs.declared.Promotion.{Promotion}
 
 -- The scope document's answer for each case: of choose,
 unfoldable pub choice_of : Choice → choice.Choice
@@ -23,6 +23,6 @@ unfoldable pub outcome_of : Outcome → refining.Outcome
 outcome_of Spent = spent
 outcome_of Promoted = promoted
 
--- The answer with the area that the cells and the store then hold.
-abbrev pub promotion_of : Promotion → List ℕ → List ℤ → AreaPromotion
-promotion_of r c s = record { outcome = outcome_of r.outcome; area = area_of r.job c s }
+-- The answer with the area that the job record, the cells and the store then hold.
+abbrev pub promotion_of : Outcome → JobRecord → List ℕ → List ℤ → AreaPromotion
+promotion_of o job c s = record { outcome = outcome_of o; area = area_of job c s }

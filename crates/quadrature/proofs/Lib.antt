@@ -3,8 +3,8 @@ pub mod Places
 pub mod Walks
 pub mod WalkInvariants
 pub mod Steps
-pub mod Shifts
 pub mod Tensors
+pub mod AtLevel
 pub mod Rounds
 pub mod Running
 pub mod Held

@@ -16,7 +16,7 @@ use Rattle.grid.specs.Coefficient.{raised_on, marks}
 use Rattle.grid.proofs.Levels.{higher_cons, higher_empty}
 use Rattle.grid.proofs.LoopSteps.{raising, raising_in}
 use Rattle.area.specs.declared.IndexRecord.{IndexRecord}
-use Rattle.area.specs.declared.LookupResult.TheVariants.{At, NotFound}
+use Rattle.std.specs.Prelude.{Some, None}
 use Rattle.area.specs.Records.{levels_of}
 use Rattle.area.specs.Lookup.{lookup_in}
 use Rattle.area.specs.Encoding.{none, place_from, place_of}
@@ -68,7 +68,7 @@ module _ (rs : List IndexRecord) (k : List ℕ) (few : length rs ≤ 512) where
   unfolding none
   room = omega arith
 
-  pub found_place : place_in rs k < length rs → lookup_in rs k ≡ At (place_in rs k)
+  pub found_place : place_in rs k < length rs → lookup_in rs k ≡ Some (place_in rs k)
   unfolding lookup_in place_of none
   found_place h = found_from 0 rs k room ∙ rw (lt-leb 4294967295 (place_from 0 (levels_of rs) k) (omega arith))
 
@@ -81,27 +81,27 @@ module _ (rs : List IndexRecord) (k : List ℕ) (few : length rs ≤ 512) where
       step (yes h) = absurd (f (place_inside rs k h))
       step (no h) = omega (arith, place_le 0 rs k room)
 
-  pub found_nothing : (place_in rs k < length rs → ⊥) → lookup_in rs k ≡ NotFound
+  pub found_nothing : (place_in rs k < length rs → ⊥) → lookup_in rs k ≡ None
   unfolding lookup_in place_of
   found_nothing f = found_from 0 rs k room ∙ rw (not_held f, le-leb none none (NatL.le_refl none))
 
   -- what an answer of the lookup says
-  pub found_at : (q : ℕ) → lookup_in rs k ≡ At q → (place_in rs k ≡ q) × (q < length rs)
+  pub found_at : (q : ℕ) → lookup_in rs k ≡ Some q → (place_in rs k ≡ q) × (q < length rs)
   found_at q e = step (dec_lt (place_in rs k) (length rs))
     where
       step : Dec (place_in rs k < length rs) → (place_in rs k ≡ q) × (q < length rs)
       step (yes h) =
-          let f : At (place_in rs k) ≡ At q = sym (found_place h) ∙ e in
+          let f : Some (place_in rs k) ≡ Some q = sym (found_place h) ∙ e in
           let z : place_in rs k ≡ q = cc in
           (z, subst (λ x. x < length rs) z h)
       step (no h) =
-          let f : NotFound ≡ At q = sym (found_nothing h) ∙ e in
+          let f : None ≡ Some q = sym (found_nothing h) ∙ e in
           let z : ◌≡◌ {A = ℕ} 0 1 = cc in
           absurd (omega arith)
 
-  pub found_none : lookup_in rs k ≡ NotFound → place_in rs k < length rs → ⊥
+  pub found_none : lookup_in rs k ≡ None → place_in rs k < length rs → ⊥
   found_none e h =
-      let f : At (place_in rs k) ≡ NotFound = sym (found_place h) ∙ e in
+      let f : Some (place_in rs k) ≡ None = sym (found_place h) ∙ e in
       let z : ◌≡◌ {A = ℕ} 0 1 = cc in
       omega arith
 
@@ -162,7 +162,7 @@ module _ {d : ℕ} {rs : List IndexRecord} (linked : Linked d rs) (p : ℕ) (ins
         at_512 h e = subst (λ x. x < 512) (sym e ∙ linked.ahead p a inside b) (NatL.lt_of_lt_of_le h linked.few)
 
     -- it names none: nothing above is held
-    pub step_none : (q : ℕ) → get_or (record_at rs p).links a none ≡ q → length rs ≤ q → lookup_in rs (raising levels m a) ≡ NotFound
+    pub step_none : (q : ℕ) → get_or (record_at rs p).links a none ≡ q → length rs ≤ q → lookup_in rs (raising levels m a) ≡ None
     step_none q e h = found_nothing rs (raising levels m a) linked.few (λ held. not_held_here (below held))
       where
         not_held_here : place_in rs raised < length rs → ⊥

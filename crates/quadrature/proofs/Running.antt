@@ -1,6 +1,6 @@
 -- A running sum in a signed word: terms of size at most b keep m of them within m·b, so the next one fits while that stays small.
 -- Assumes nothing.
-use mathlib.Core.Path.{◌≡◌, sym, ap, ◌∙◌}
+use mathlib.Core.Path.{◌≡◌, sym, ap, ap₂, ◌∙◌}
 use Prim.Native.Nat.{ℕ, suc, ◌+◌, ◌*◌, ◌^◌, ◌≤◌}
 use native.Mathlib.Nat as NatL
 use native.Mathlib.Omega.{arith}
@@ -13,15 +13,15 @@ use Rattle.sums.proofs.Sizes.{abs_add}
 use Rattle.sums.proofs.Words.{back, back_small, small_fits}
 
 -- `a` is the sum so far, `z` the next term as it was returned
-module _ (b : ℕ) (f : ℕ → ℤ) (m : ℕ) (a z : ℤ) (room : (m + 1) * b ≤ 2 ^ 62) (size : nat_abs a ≤ m * b) (is : a ≡ sum_to m f) (term : nat_abs (f m) ≤ b) (fits : SFits w64 z) (next : z ≡ f m) where
-  both : a +ℤ to_z w64 (of_z w64 z) ≡ a +ℤ f m
-  both = ap (λ x. a +ℤ x) (back z fits ∙ next)
+module _ (b : ℕ) (f : ℕ → ℤ) (m : ℕ) (a z : ℤ) (room : (m + 1) * b ≤ 2 ^ 62) (size : nat_abs a ≤ m * b) (is : a ≡ sum_to m f) (term : nat_abs z ≤ b) (fits : SFits w64 z) (next : z ≡ f m) where
+  one_more : m + 1 ≡ suc m
+  one_more = omega arith
 
-  grown : nat_abs (a +ℤ f m) ≤ (m + 1) * b
-  grown = let split : (m + 1) * b ≡ m * b + b = ap (λ n. n * b) one_more ∙ NatL.suc-mul m b in omega (arith, abs_add a (f m))
-    where
-      one_more : m + 1 ≡ suc m
-      one_more = omega arith
+  both : a +ℤ to_z w64 (of_z w64 z) ≡ a +ℤ z
+  both = ap (λ x. a +ℤ x) (back z fits)
+
+  grown : nat_abs (a +ℤ z) ≤ (m + 1) * b
+  grown = let split : (m + 1) * b ≡ m * b + b = ap (λ n. n * b) one_more ∙ NatL.suc-mul m b in omega (arith, abs_add a z)
 
   small : nat_abs (a +ℤ to_z w64 (of_z w64 z)) ≤ 2 ^ 62
   small = omega (arith, ap nat_abs both, grown)
@@ -29,14 +29,12 @@ module _ (b : ℕ) (f : ℕ → ℤ) (m : ℕ) (a z : ℤ) (room : (m + 1) * b �
   pub running_fits : SFits w64 (a +ℤ to_z w64 (of_z w64 z))
   running_fits = small_fits (a +ℤ to_z w64 (of_z w64 z)) small
 
-  is_sum : to_z w64 (of_z w64 (a +ℤ to_z w64 (of_z w64 z))) ≡ a +ℤ f m
-  is_sum = back_small (a +ℤ to_z w64 (of_z w64 z)) small ∙ both
+  -- the sum as it is read back
+  abbrev sum : ℤ
+  sum = to_z w64 (of_z w64 (a +ℤ to_z w64 (of_z w64 z)))
 
-  pub running_is : to_z w64 (of_z w64 (a +ℤ to_z w64 (of_z w64 z))) ≡ sum_to (m + 1) f
-  running_is = is_sum ∙ ap (λ x. x +ℤ f m) is ∙ sym (ap (λ n. sum_to n f) one_more ∙ sum_to-suc m f)
-    where
-      one_more : m + 1 ≡ suc m
-      one_more = omega arith
+  sum_is : sum ≡ a +ℤ z
+  sum_is = back_small (a +ℤ to_z w64 (of_z w64 z)) small ∙ both
 
-  pub running_size : nat_abs (to_z w64 (of_z w64 (a +ℤ to_z w64 (of_z w64 z)))) ≤ (m + 1) * b
-  running_size = omega (arith, ap nat_abs is_sum, grown)
+  pub running_next : (nat_abs sum ≤ (m + 1) * b) × (sum ≡ sum_to (m + 1) f)
+  running_next = (omega (arith, ap nat_abs sum_is, grown), sum_is ∙ ap₂ ◌+ℤ◌ is next ∙ sym (ap (λ n. sum_to n f) one_more ∙ sum_to-suc m f))

@@ -7,12 +7,10 @@ use mathlib.Core.List.{List, ◌∷◌}
 use Prim.Native.Nat.{ℕ, zero, suc, ◌+◌, ◌*◌, ◌-◌, ◌^◌, ◌<◌, ◌≤◌}
 use native.Mathlib.Nat as NatL
 use native.Mathlib.Nat.{le_refl, le_trans, le_of_eq, mul-le-mul}
-use native.Mathlib.Numerals.{add-one}
 use native.Mathlib.Omega.{arith}
 use lib.IntN.{ℤ, pos, nat_abs, ◌+ℤ◌, ◌*ℤ◌, +ℤ_idr}
 use lib.ListN.{length, drop}
 use lib.Pow.{pow-add, pow_mono, pow_pos}
-use lib.Seq.{drop-cons}
 use Rattle.sums.specs.Sums.{nat_sum_to}
 use Rattle.sums.proofs.Ring.{distl, *ℤ-assoc}
 use Rattle.sums.proofs.Sizes.{abs_mul}
@@ -23,7 +21,7 @@ use Rattle.grid.specs.Index.{level}
 use Rattle.grid.specs.Difference.{Readings, units, behind, difference_walk}
 use Rattle.grid.specs.Terms.{InRange}
 use Rattle.grid.proofs.Levels.{Levels}
-use Rattle.grid.proofs.LoopSteps.{count_pos, levels_drop}
+use Rattle.grid.proofs.LoopSteps.{axis_left, count_pos, levels_drop}
 use Rattle.quadrature.specs.Parts.{points_left, levels_left, walk_left}
 use Rattle.quadrature.proofs.Walks.{points_step, points_none, levels_step, levels_none, walk_here, some_sizes, points-size, levels_size}
 
@@ -41,12 +39,9 @@ count_small (suc (suc (suc l))) h = pow_mono {i = suc l} {j = 6} (omega arith)
 pub less_room : (a b n : ℕ) → 1 ≤ b → a * b ≤ n → a ≤ n
 less_room a b n h q = le_trans (le_of_eq (sym (NatL.mul-one a))) (le_trans (mul-le-mul (le_refl a) h) q)
 
-pub axis_of : (k : List ℕ) (a : ℕ) → a < length k → drop a k ≡ level k a ∷ drop (a + 1) k
-axis_of k a h = rw (add-one a) (drop-cons k a 0 h)
-
 units_of : (k : List ℕ) (a : ℕ) → a < length k → units (drop a k) ≡ unit (level k a) + units (drop (a + 1) k)
 unfolding units
-units_of k a h = rw (axis_of k a h)
+units_of k a h = rw (axis_left k a h)
 
 -- the weight of one level, times its points, is at most one
 only_one : (f : ℕ → ℕ) (l : ℕ) → f l ≡ nat_sum_to 1 (λ i. f (l + i))
@@ -126,8 +121,8 @@ module _ (axes : ℕ) (k : List ℕ) (axis l : ℕ) (w : ℤ) (Q : Readings) (v 
   level-size r room =
       weighed w (walk_left axes k axis l Q) (2 ^ units (drop axis k)) room
       (subst (λ x. nat_abs x ≤ 2 ^ units (drop axis k) * 1048576) (sym (walk_here axes k axis l Q h))
-      (subst (λ m. nat_abs (levels_left (suc top - l) top l ks Q) ≤ 2 ^ units m * 1048576) (sym (axis_of k axis inside))
-      (levels_size 8 top ks Q (levels_drop 8 k (axis + 1) v) (subst (λ m. InRange m Q) (axis_of k axis inside) r) (suc top - l) l low (omega arith))))
+      (subst (λ m. nat_abs (levels_left (suc top - l) top l ks Q) ≤ 2 ^ units m * 1048576) (sym (axis_left k axis inside))
+      (levels_size 8 top ks Q (levels_drop 8 k (axis + 1) v) (subst (λ m. InRange m Q) (axis_left k axis inside) r) (suc top - l) l low (omega arith))))
 
 -- ---- the point walk
 

@@ -1,20 +1,19 @@
 -- The part of a full tensor rule that a loop has behind it: one step at a time, and its size.
 -- The idea: one point more is one summand more; the sizes of some summands come to no more than those of all.
 -- Assumes nothing.
-use mathlib.Core.Path.{◌≡◌, refl, sym, ap, ◌∙◌, subst}
+use mathlib.Core.Path.{◌≡◌, refl, sym, ap, ◌∙◌}
 use mathlib.Core.List.{List, [], ◌∷◌}
 use Prim.Native.Nat.{ℕ, zero, suc, ◌+◌, ◌*◌, ◌-◌, ◌^◌, ◌<◌, ◌≤◌, zero-le}
 use native.Mathlib.Nat as NatL
 use native.Mathlib.Nat.{le_refl, le_trans, le_of_eq, mul-le-mul, add-le-add}
-use native.Mathlib.Numerals.{add-one}
 use native.Mathlib.Omega.{arith}
-use lib.IntN.{ℤ, pos, nat_abs, ◌+ℤ◌, ◌*ℤ◌, +ℤ_idl, +ℤ_idr, +ℤ_assoc, *ℤ-zero}
+use lib.IntN.{ℤ, pos, nat_abs, ◌+ℤ◌, ◌*ℤ◌, +ℤ_idl, +ℤ_idr, *ℤ-zero}
 use lib.ListN.{length, drop, replicate}
 use lib.Pow.{pow-add, pow_mono}
 use Rattle.sums.specs.Sums.{sum_to, nat_sum_to}
-use Rattle.sums.proofs.Ring.{one-*ℤ, distl}
+use Rattle.sums.proofs.Ring.{one-*ℤ}
 use Rattle.sums.proofs.Sums.{sum_to-suc}
-use Rattle.sums.proofs.Sizes.{abs_add, abs_mul, abs_sum_to, nat_sum_to-suc, nat_sum_to_cong, nat_sum_to_const, nat_sum_to_mul, nat_sum_to-some}
+use Rattle.sums.proofs.Sizes.{abs_mul, abs_sum_to, nat_sum_to-suc, nat_sum_to_cong, nat_sum_to_const, nat_sum_to_mul, nat_sum_to-some}
 use Rattle.rule.specs.Points.{new_count}
 use Rattle.rule.specs.Rules.{unit}
 use Rattle.rule.specs.Weights.{whole_weight}
@@ -42,23 +41,6 @@ module _ (top : ℕ) (ks : List ℕ) (R : Readings) where
   unfolding points_done sum_to
   no_points l = refl
 
-  point_more : (n l : ℕ) → points_done (n + 1) l ks R ≡ points_done n l ks R +ℤ tensor_sum ks (behind R l n)
-  unfolding points_done
-  point_more n l = ap (λ m. sum_to m (λ i. tensor_sum ks (behind R l i))) (add-one n) ∙ sum_to-suc n (λ i. tensor_sum ks (behind R l i))
-
-  -- nothing yet
-  pub done_start : tensor_done top 1 0 ks R ≡ pos 0
-  unfolding tensor_done sum_to
-  done_start = +ℤ_idl (whole_weight top 1 *ℤ points_done 0 1 ks R) ∙ ap (λ x. whole_weight top 1 *ℤ x) (no_points 1) ∙ *ℤ-zero (whole_weight top 1)
-
-  -- one point more
-  pub done_point : (l p : ℕ) → tensor_done top l p ks R +ℤ whole_weight top l *ℤ tensor_sum ks (behind R l p) ≡ tensor_done top l (p + 1) ks R
-  unfolding tensor_done
-  done_point l p =
-      +ℤ_assoc (sum_to (l - 1) term) (whole_weight top l *ℤ points_done p l ks R) (whole_weight top l *ℤ tensor_sum ks (behind R l p))
-      ∙ ap (λ x. sum_to (l - 1) term +ℤ x)
-      (sym (distl (whole_weight top l) (points_done p l ks R) (tensor_sum ks (behind R l p))) ∙ ap (λ x. whole_weight top l *ℤ x) (sym (point_more p l)))
-
   -- before the first point of a level
   none_here : (n l : ℕ) → sum_to n term +ℤ whole_weight top l *ℤ points_done 0 l ks R ≡ sum_to n term
   none_here n l = ap (λ x. sum_to n term +ℤ x) (ap (λ x. whole_weight top l *ℤ x) (no_points l) ∙ *ℤ-zero (whole_weight top l)) ∙ +ℤ_idr (sum_to n term)
@@ -67,11 +49,16 @@ module _ (top : ℕ) (ks : List ℕ) (R : Readings) where
   unfolding tensor_done
   done_levels l = none_here (l + 1 - 1) (l + 1) ∙ ap (λ n. sum_to n term) (less_one l)
 
-  -- the points of a level are done
-  pub done-level : (l : ℕ) → 1 ≤ l → tensor_done top l (new_count l) ks R ≡ tensor_done top (l + 1) 0 ks R
+  -- nothing yet
+  pub done_start : tensor_done top 1 0 ks R ≡ pos 0
+  unfolding sum_to
+  done_start = done_levels 0
+
+  -- one level more
+  pub done-level : (l : ℕ) → 1 ≤ l → tensor_done top l 0 ks R +ℤ whole_weight top l *ℤ points_done (new_count l) l ks R ≡ tensor_done top (l + 1) 0 ks R
   unfolding tensor_done
   done-level zero h = absurd (omega arith)
-  done-level (suc l) h = ap (λ n. sum_to n term +ℤ term l) (less l) ∙ sym (sum_to-suc l term) ∙ sym (done_levels (suc l))
+  done-level (suc l) h = ap (λ x. x +ℤ term l) (none_here (suc l - 1) (suc l) ∙ ap (λ n. sum_to n term) (less l)) ∙ sym (sum_to-suc l term) ∙ sym (done_levels (suc l))
     where
       less : (n : ℕ) → suc n - 1 ≡ n
       less n = omega arith
@@ -127,14 +114,15 @@ module _ (b top : ℕ) (ks : List ℕ) (R : Readings) (v : Levels b ks) (r : InR
   turn : (w c x : ℕ) → w * (c * x) ≡ c * w * x
   turn w c x = simp (NatL.mul_assoc, NatL.mul_left_comm)
 
-  one_size : (l p : ℕ) → 1 ≤ l → l ≤ top → p < new_count l → nat_abs (tensor_sum ks (behind R l p)) ≤ M
-  one_size l p a c h = tensor_size b ks (behind R l p) v (range_behind top ks R l p r a c h)
+  -- what a level's loop adds next
+  pub point-size : (l p : ℕ) → 1 ≤ l → l ≤ top → p < new_count l → nat_abs (tensor_sum ks (behind R l p)) ≤ M
+  point-size l p a c h = tensor_size b ks (behind R l p) v (range_behind top ks R l p r a c h)
 
   -- up to all new points of a level
   points_part : (n l : ℕ) → 1 ≤ l → l ≤ top → n ≤ new_count l → nat_abs (points_done n l ks R) ≤ new_count l * M
   unfolding points_done
   points_part n l a c h =
-      le_trans (abs_sum_to n (λ i. tensor_sum ks (behind R l i)) (λ i. M) (λ i q. one_size l i a c (omega arith)))
+      le_trans (abs_sum_to n (λ i. tensor_sum ks (behind R l i)) (λ i. M) (λ i q. point-size l i a c (omega arith)))
       (le_trans (le_of_eq (nat_sum_to_const n M)) (mul-le-mul h (le_refl M)))
 
   -- times the weight of the level
@@ -158,23 +146,15 @@ module _ (b top : ℕ) (ks : List ℕ) (R : Readings) (v : Levels b ks) (r : InR
       le_trans (le_of_eq (sym (NatL.add-mul (nat_sum_to i (size top)) (size top i) M) ∙ ap (λ x. x * M) (sym (nat_sum_to-suc i (size top)))))
       (le_trans (mul-le-mul (first_sizes top (suc i) h) (le_refl M)) (le_of_eq whole))
 
-  -- what the loop has added up
-  pub done-size : (l p : ℕ) → 1 ≤ l → l ≤ top → p ≤ new_count l → nat_abs (tensor_done top l p ks R) ≤ 2 ^ units (top ∷ ks) * 1048576
-  unfolding tensor_done
-  done-size zero p a c h = absurd (omega arith)
-  done-size (suc i) p a c h =
-      let e : suc i - 1 ≡ i = omega arith in
-      le_trans (abs_add (sum_to (suc i - 1) (term top ks R)) (whole_weight top (suc i) *ℤ points_done p (suc i) ks R))
-      (le_trans (add-le-add (subst (λ n. nat_abs (sum_to n (term top ks R)) ≤ nat_sum_to i (size top) * M) (sym e) (levels_part i (omega arith)))
-      (weighed i (points_done p (suc i) ks R) (points_part p (suc i) a c h))) (both i c))
-
-  -- what it adds next
-  pub next_size : (l p : ℕ) → 1 ≤ l → l ≤ top → p < new_count l → nat_abs (whole_weight top l *ℤ tensor_sum ks (behind R l p)) ≤ 2 ^ units (top ∷ ks) * 1048576
-  next_size zero p a c h = absurd (omega arith)
-  next_size (suc i) p a c h =
-      let part : nat_abs (whole_weight top (suc i) *ℤ tensor_sum ks (behind R (suc i) p)) ≤ size top i * M =
-      weighed i (tensor_sum ks (behind R (suc i) p)) (le_trans (one_size (suc i) p a c h) (times (new_count (suc i)) M (omega arith))) in
+  -- what the loop over the levels adds next
+  pub level-size : (l : ℕ) → 1 ≤ l → l ≤ top → nat_abs (whole_weight top l *ℤ points_done (new_count l) l ks R) ≤ 2 ^ units (top ∷ ks) * 1048576
+  level-size zero a c = absurd (omega arith)
+  level-size (suc i) a c =
+      let part : nat_abs (term top ks R i) ≤ size top i * M = weighed i (points_done (new_count (suc i)) (suc i) ks R) (points_part (new_count (suc i)) (suc i) a c (le_refl (new_count (suc i)))) in
       omega (arith, both i c)
-    where
-      times : (n m : ℕ) → 1 ≤ n → m ≤ n * m
-      times n m q = le_trans (le_of_eq (sym (NatL.one-mul m))) (mul-le-mul q (le_refl m))
+
+  -- what it has added up once the levels up to l are done
+  pub levels-size : (l : ℕ) → l ≤ top → nat_abs (tensor_done top (l + 1) 0 ks R) ≤ 2 ^ units (top ∷ ks) * 1048576
+  levels-size l c =
+      le_trans (le_of_eq (ap nat_abs (done_levels top ks R l)))
+      (le_trans (levels_part l c) (le_trans (mul-le-mul (first_sizes top l c) (le_refl M)) (le_of_eq whole)))

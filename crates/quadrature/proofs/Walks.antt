@@ -14,7 +14,6 @@ use lib.Arith.{digits_lt}
 use lib.IntN.{pos, nat_abs, ◌+ℤ◌, ◌*ℤ◌, +ℤ_idl}
 use lib.ListN.{length, drop, replicate}
 use lib.Pow.{pow-add}
-use lib.Seq.{drop-cons}
 use Rattle.sums.specs.Sums.{sum_to, nat_sum_to}
 use Rattle.sums.proofs.Ring.{one-*ℤ}
 use Rattle.sums.proofs.Sums.{sum_to-front, sum_to_cong}
@@ -28,10 +27,19 @@ use Rattle.grid.specs.Block.{block_size}
 use Rattle.grid.specs.Difference.{Readings, units, behind, difference_walk}
 use Rattle.grid.specs.Terms.{InRange}
 use Rattle.grid.proofs.Levels.{Levels, higher_cons}
+use Rattle.grid.proofs.LoopSteps.{axis_left}
 use Rattle.grid.proofs.Rules.{walk_is, difference_walk_is, difference_bound}
 use Rattle.quadrature.specs.Parts.{left, points_left, levels_left, walk_left}
 
 -- ---- the readings left
+
+-- before the first axis all are left
+pub left_all : (R : Readings) → left R [] 0 ≡ R
+unfolding left
+left_all R = fun_ext (λ ls. fun_ext (λ n. ap (R ls) (only (block_size ls) n)))
+  where
+    only : (s n : ℕ) → 0 * s + n ≡ n
+    only s n = omega arith
 
 regroup : (r c p s m : ℕ) → (r * c + p) * s + m ≡ r * (c * s) + (p * s + m)
 regroup r c p s m = rw (NatL.add-mul (r * c) p s, NatL.mul_assoc r c s) (NatL.add_assoc (r * (c * s)) (p * s) m)
@@ -80,9 +88,6 @@ levels_all top ks R = sum_to_cong top (λ i. term i)
         ap (λ x. difference_weight top x *ℤ sum_to (new_count x) (λ n. difference_walk ks (behind R x (0 + n)))) (NatL.add_comm 1 i ∙ add-one i)
         ∙ ap (λ x. difference_weight top (suc i) *ℤ x) (sum_to_cong (new_count (suc i)) (λ n. ap (λ y. difference_walk ks (behind R (suc i) y)) (NatL.zero-add n)))
 
-axis_of : (k : List ℕ) (a : ℕ) → a < length k → level k a ∷ drop (a + 1) k ≡ drop a k
-axis_of k a h = sym (rw (add-one a) (drop-cons k a 0 h))
-
 pub walk_here : (axes : ℕ) (k : List ℕ) (axis l : ℕ) (R : Readings) → axis < axes → walk_left axes k axis l R ≡ levels_left (suc (level k axis) - l) (level k axis) l (drop (axis + 1) k) R
 unfolding walk_left
 walk_here axes k axis l R h = rw (lt-ltb axis axes h)
@@ -102,7 +107,7 @@ walk_all axes k axis R b = step (dec_lt axis axes)
         walk_here axes k axis 1 R h
         ∙ ap (λ n. levels_left n (level k axis) 1 (drop (axis + 1) k) R) (less (level k axis))
         ∙ levels_all (level k axis) (drop (axis + 1) k) R
-        ∙ ap (λ m. difference_walk m R) (axis_of k axis (omega arith))
+        ∙ ap (λ m. difference_walk m R) (sym (axis_left k axis (omega arith)))
     step (no h) = walk_behind axes k axis 1 R (omega arith)
 
 -- an axis at level 1 has one point, of weight 1

@@ -12,7 +12,7 @@ use Rattle.area.specs.Records.{Run, records_of, run_of}
 use Rattle.area.proofs.Records.{length-records_of, records-take}
 use Rattle.records.specs.Lent.{front}
 
-abbrev alone : List IndexRecord → Run
+abbrev pub alone : List IndexRecord → Run
 alone rs = record { records = rs; rest = [] }
 
 module _ (n : ℕ) (ws : List ℕ) (small : n ≤ 512) (count : length ws ≡ 13824) where
@@ -21,9 +21,6 @@ module _ (n : ℕ) (ws : List ℕ) (small : n ≤ 512) (count : length ws ≡ 13
 
   cut_length : length (take (n * 27) ws) ≡ n * 27
   cut_length = length-take-le (n * 27) ws room_for
-
-  pub cut_count : n * 27 ≡ length (take (n * 27) ws)
-  cut_count = sym cut_length
 
   whole : (c : List ℕ) → length c ≡ n * 27 → drop (length c / 27 * 27) c ≡ []
   whole c e = let k : length c / 27 * 27 ≡ length c = omega (arith, e) in ap (λ m. drop m c) k ∙ drop-length c

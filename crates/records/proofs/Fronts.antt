@@ -19,7 +19,7 @@ use Rattle.area.specs.Log.{Machine}
 use Rattle.machine.specs.Causes.{short}
 use Rattle.calls.specs.Replies.{lengths_of}
 use Rattle.records.specs.Facts.{longer}
-use Rattle.records.proofs.Orders.{less_or}
+use Rattle.std.proofs.lemmas.Bool.{cases_lt}
 
 -- ---- a count above 512
 
@@ -75,7 +75,7 @@ module _ (a : Area) (more : List IndexRecord) (room : 512 ≤ length a.run.recor
     entries_few = omega (arith, length-map (held_of a) (entry_of a.job.settings a.store), length-take-le a.job.held rs within, few)
 
   pub sound_same : is_sound a⁺ ≡ is_sound a
-  sound_same = elim (less_or 512 a.job.held) [ inl h ↦ (many_unsound a⁺ h ∙ sym (many_unsound a h)) | inr h ↦ sound_few h ]
+  sound_same = elim (cases_lt 512 a.job.held) [ inl h ↦ (many_unsound a⁺ h ∙ sym (many_unsound a h)) | inr h ↦ sound_few h ]
 
   -- ---- what is written: at most 512 records
 

@@ -1,11 +1,9 @@
 -- The laws, lowest first.
-pub mod Orders
 pub mod Overs
 pub mod Cuts
 pub mod Fronts
 pub mod Longer
 pub mod Lent
-pub mod Fronted
 pub mod Stored
 pub mod Started
 pub mod Typed

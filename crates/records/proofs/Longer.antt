@@ -29,7 +29,7 @@ use Rattle.calls.specs.Calls.{CallResult, area_after, refusal_on, call_on}
 use Rattle.calls.proofs.CauseCases.{accepted_call, refused_call, either, call_refuses}
 use Rattle.calls.proofs.ResultValues.{check_answer}
 use Rattle.records.specs.Facts.{longer, call_result_longer}
-use Rattle.records.proofs.Orders.{less_or}
+use Rattle.std.proofs.lemmas.Bool.{cases_lt}
 use Rattle.records.proofs.Fronts.{many_unsound, short_same, machine_same, sound_few, entries_few, sound_same, written-longer}
 
 -- ---- a count above 512: refused by 3 or 4
@@ -54,16 +54,13 @@ module _ (a : Area) (many : 512 < a.job.held) (c : Call) (r : JobRow) (is : row 
 
 -- ---- a state that a call comes to has at most 512 entries
 
-false-not-true : ◌≡◌ {A = Bool} false true → ⊥
-false-not-true z = let k : ◌≡◌ {A = ℕ} 1 0 = ap (λ (b : Bool). cond b 0 1) z in omega (arith, k)
-
 within_limit : (b : ℕ) (es : List Entry) → refining.fits b es ≡ true → length es ≤ 512
 unfolding refining.fits
 within_limit b es e = go (leb (length es) 512) refl
   where
     go : (t : Bool) → leb (length es) 512 ≡ t → length es ≤ 512
     go true q = leb-true (length es) 512 q
-    go false q = let z : ◌≡◌ {A = Bool} false true = rw q at e in absurd (false-not-true z)
+    go false q = let z : ◌≡◌ {A = Bool} false true = rw q at e in cc
 
 promote_few : (l : Log) (p : ℕ) → length l.entries ≤ 512 → length (refining.promote_at l p).log.entries ≤ 512
 promote_few l p h =
@@ -182,7 +179,7 @@ module _ (a : Area) (more : List IndexRecord) (room : 512 ≤ length a.run.recor
           ∙ ap (λ (x : CallResult). call_result_longer x more) (sym (either a c))
 
     job_longer : call_on a⁺ c ≡ call_result_longer (call_on a c) more
-    job_longer = elim (less_or 512 a.job.held) [ inl h ↦ many_longer h | inr h ↦ few_longer h ]
+    job_longer = elim (cases_lt 512 a.job.held) [ inl h ↦ many_longer h | inr h ↦ few_longer h ]
 
   pub call-longer : (c : Call) → call_on a⁺ c ≡ call_result_longer (call_on a c) more
   unfolding row

@@ -2,20 +2,18 @@
 -- The idea: one element more is the next one set at its place.
 -- Assumes nothing.
 use mathlib.Core.Path.{◌≡◌, refl, ap, sym, ◌∙◌}
-use mathlib.Core.List.{List, [], ◌∷◌, ◌++◌, append_assoc}
-use Prim.Native.Nat.{ℕ, zero, suc, ◌+◌, ◌*◌, ◌≤◌, ◌<◌}
-use mathlib.Core.Logic.{inl, inr}
-use native.Mathlib.Nat.{le_of_lt, le_refl}
+use mathlib.Core.List.{List, ◌++◌, append_assoc, append-nil}
+use Prim.Native.Nat.{ℕ, ◌+◌, ◌*◌, ◌≤◌, ◌<◌}
+use native.Mathlib.Nat.{le_of_lt, le_of_eq, le_refl}
 use native.Mathlib.Numerals.{add-one}
 use native.Mathlib.Omega.{arith}
-use lib.ListN.{length, get_or, take, drop, set, length-append, length-drop, take-append-drop}
-use lib.Seq.{drop-cons, set_at, take-suc, append_snoc, length-take-le, take_at, drop-append-le}
-use borrow.Author.Tests.{lt-ltb, le-ltb}
+use lib.ListN.{length, get_or, take, drop, set, take-append-drop}
+use Rattle.std.proofs.lemmas.List.{take-take}
+use lib.Seq.{drop-cons, set_at, take-suc, append_snoc, length-take-le, take_at, drop-append-le, drop-length, take_all}
 use Rattle.area.specs.declared.IndexRecord.{IndexRecord}
 use Rattle.area.specs.Records.{Run, blank, records_of, run_of, stored}
 use Rattle.area.proofs.Records.{length-records_of}
-use Rattle.records.specs.Lent.{min, over, over_run, front}
-use Rattle.records.proofs.Orders.{less_or}
+use Rattle.records.specs.Lent.{over, over_run, front}
 
 module _ {A : Type 0} where
   pub over_none : (xs ys : List A) → over 0 xs ys ≡ ys
@@ -29,66 +27,49 @@ module _ {A : Type 0} where
       rw (drop-cons ys i d hy, set_at (take i xs) _ _ _ i hl, add-one i, take-suc xs i d hx)
       (rw append_snoc)
 
-  pub over-length : (n : ℕ) (xs ys : List A) → n ≤ length xs → n ≤ length ys → length (over n xs ys) ≡ length ys
-  unfolding over
-  over-length n xs ys hx hy = omega (arith, length-append (take n xs) (drop n ys), length-take-le n xs hx, length-drop n ys, hy)
-
 -- ---- a turn that serializes a record into the cells
 
 pub serialize_none : (rs : List IndexRecord) (c : List ℕ) → run_of c ≡ over_run 0 rs (run_of c)
 serialize_none rs c = ap (λ (l : List IndexRecord). record { records = l; rest = (run_of c).rest }) (sym (over_none rs (records_of c)))
 
-pub serialize_next : (rs : List IndexRecord) (c c' c'' : List ℕ) (i n : ℕ) (r : IndexRecord) → i < n → n ≤ length rs → n * 27 ≤ length c
-    → run_of c' ≡ over_run i rs (run_of c) → r ≡ get_or rs i blank → run_of c'' ≡ stored (run_of c') i r → run_of c'' ≡ over_run (i + 1) rs (run_of c)
-serialize_next rs c c' c'' i n r h hr hc e e₁ e₂ =
+pub serialize_next : (rs : List IndexRecord) (c c' c'' : List ℕ) (i : ℕ) (d : IndexRecord) → i < length rs → length rs * 27 ≤ length c
+    → run_of c' ≡ over_run i rs (run_of c) → run_of c'' ≡ stored (run_of c') i (get_or rs i d) → run_of c'' ≡ over_run (i + 1) rs (run_of c)
+serialize_next rs c c' c'' i d h hc e e₁ =
     let k : i < length (records_of c) = omega (arith, length-records_of c, h, hc) in
-    e₂
-    ∙ ap (λ (u : Run). stored u i r) e
-    ∙ ap (λ (x : IndexRecord). stored (over_run i rs (run_of c)) i x) e₁
-    ∙ ap (λ (l : List IndexRecord). record { records = l; rest = (run_of c).rest }) (over_next rs (records_of c) i blank (omega (arith, h, hr)) k)
+    e₁
+    ∙ ap (λ (u : Run). stored u i (get_or rs i d)) e
+    ∙ ap (λ (l : List IndexRecord). record { records = l; rest = (run_of c).rest }) (over_next rs (records_of c) i d h k)
 
 -- ---- a turn that writes a record back
 
-pub deserialize_next : (rs l l' : List IndexRecord) (c : List ℕ) (i n : ℕ) (r : IndexRecord) → i < n → n ≤ length rs → n * 27 ≤ length c
-    → l ≡ over i (records_of c) rs → r ≡ get_or (records_of c) i blank → l' ≡ set l i r → l' ≡ over (i + 1) (records_of c) rs
-deserialize_next rs l l' c i n r h hr hc e e₁ e₂ =
-    let k : i < length (records_of c) = omega (arith, length-records_of c, h, hc) in
-    e₂
-    ∙ ap (λ (z : List IndexRecord). set z i r) e
-    ∙ ap (set (over i (records_of c) rs) i) e₁
-    ∙ over_next (records_of c) rs i blank k (omega (arith, h, hr))
+pub deserialize_next : (hs rs l : List IndexRecord) (i : ℕ) (r : IndexRecord) → i < length rs → length rs ≡ length hs → l ≡ over i hs rs → r ≡ get_or hs i blank → set l i r ≡ over (i + 1) hs rs
+deserialize_next hs rs l i r h same e e₁ = ap (λ (z : List IndexRecord). set z i r) e ∙ ap (set (over i hs rs) i) e₁ ∙ over_next hs rs i blank (omega (arith, h, same)) h
 
--- ---- the records that the cells have room for
+-- all of a list over another of as many elements
+pub over_all : {A : Type 0} (xs ys : List A) → length ys ≡ length xs → over (length ys) xs ys ≡ xs
+unfolding over
+over_all xs ys e = ap (λ l. take (length ys) xs ++ l) (drop-length ys) ∙ append-nil (take (length ys) xs) ∙ take_all (length ys) xs (le_of_eq (sym e))
 
-pub min-left : (m n : ℕ) → min m n ≤ m
-unfolding min
-min-left m n = elim (less_or m n) [ inl h ↦ (rw (lt-ltb m n h) (le_refl m)) | inr h ↦ (rw (le-ltb m n h) h) ]
-
-pub min_right : (m n : ℕ) → min m n ≤ n
-unfolding min
-min_right m n = elim (less_or m n) [ inl h ↦ (rw (lt-ltb m n h) (le_of_lt h)) | inr h ↦ (rw (le-ltb m n h) (le_refl n)) ]
+-- ---- the records of the front
 
 pub over-front : {A : Type 0} (n : ℕ) (xs ys : List A) → n ≤ length xs → take n (over n xs ys) ≡ take n xs
 unfolding over
 over-front n xs ys h = take_at (take n xs) (drop n ys) n (length-take-le n xs h)
 
 -- what the serialized cells hold is the front of the records
-pub flat_front : (rs : List IndexRecord) (n : ℕ) (c c' : List ℕ) → n ≤ length rs → run_of c' ≡ over_run n rs (run_of c) → front n c' ≡ take n rs
+pub flat_front : (rs : List IndexRecord) (n : ℕ) (c c' : List ℕ) → n ≤ length rs → run_of c' ≡ over_run (length (take n rs)) (take n rs) (run_of c) → front n c' ≡ take n rs
 unfolding front
-flat_front rs n c c' h e = ap (λ (u : Run). take n u.records) e ∙ over-front n rs (records_of c) h
+flat_front rs n c c' h e =
+    ap (λ (u : Run). take n u.records) (e ∙ ap (λ m. over_run m (take n rs) (run_of c)) (length-take-le n rs h))
+    ∙ over-front n (take n rs) (records_of c) (le_of_eq (sym (length-take-le n rs h)))
+    ∙ take-take n n rs (le_refl n)
 
 -- ---- the records of the front and those behind it
-
-take_within : {A : Type 0} (k n : ℕ) (xs : List A) → k ≤ n → take k (take n xs) ≡ take k xs
-take_within zero n xs h = refl
-take_within (suc k) zero xs h = absurd (omega (arith, h))
-take_within (suc k) (suc n) [] h = refl
-take_within (suc k) (suc n) (x ∷ xs) h = ap (λ l. x ∷ l) (take_within k n xs (omega (arith, h)))
 
 -- what is stored comes from the front
 pub over_of_front : {A : Type 0} (k n : ℕ) (xs ys : List A) → k ≤ n → over k (take n xs) ys ≡ over k xs ys
 unfolding over
-over_of_front k n xs ys h = ap (λ l. l ++ drop k ys) (take_within k n xs h)
+over_of_front k n xs ys h = ap (λ l. l ++ drop k ys) (take-take k n xs h)
 
 -- and is stored over the front
 pub over-front_of : {A : Type 0} (k n : ℕ) (xs ys : List A) → k ≤ n → n ≤ length ys → over k xs (take n ys) ++ drop n ys ≡ over k xs ys

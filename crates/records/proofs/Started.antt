@@ -1,68 +1,31 @@
 -- Start depends on how many records are lent and not on what they hold, and changes the one record that is then held.
 -- The idea: on any two runs of one length start goes the same way; refused it stores nothing, accepted the records of the new state.
 -- Assumes nothing.
-use mathlib.Core.Path.{◌≡◌, refl, ap, sym, ◌∙◌, subst}
-use mathlib.Core.Logic.{inl, inr}
+use mathlib.Core.Path.{◌≡◌, refl, ap, sym, ◌∙◌}
 use mathlib.Core.Bool.{Bool, true, false, cond}
 use mathlib.Core.List.{List, [], ◌++◌}
-use Prim.Native.Nat.{ℕ, ◌≤◌}
-use native.Mathlib.Nat.{le_trans}
+use Prim.Native.Nat.{ℕ, ◌*◌, ◌≤◌, min}
 use native.Mathlib.Omega.{arith}
 use lib.Dec.{eqb}
 use lib.IntN.{ℤ}
-use lib.ListN.{length, take, drop, length-append, length-drop}
-use lib.Seq.{take_at, length-take-le}
+use lib.ListN.{length, take, drop, take-append-drop, length-append, length-drop}
+use lib.Seq.{take_at}
 use Rattle.area.specs.declared.IndexRecord.{IndexRecord}
 use Rattle.area.specs.declared.JobRecord.{JobRecord}
 use Rattle.area.specs.declared.Settings.{Settings}
 use Rattle.area.specs.Entry.{Entry}
-use Rattle.area.specs.Records.{records_of}
-use Rattle.area.specs.Encoding.{records_for, encoded_from, run_with, store_with, job_with, written}
+use Rattle.area.specs.Records.{Run, records_of}
+use Rattle.area.specs.Encoding.{area_of, records_for, encoded_from, run_with, store_with, job_with, written}
 use Rattle.machine.specs.Causes.{first_cause, start_causes}
 use Rattle.machine.specs.Steps.{started}
-use Rattle.calls.specs.declared.Answer as code
-use Rattle.calls.specs.declared.Answer.TheVariants as answers
-use Rattle.calls.specs.declared.CallOutput.{CallOutput}
-use Rattle.calls.specs.Replies.{Reply, refused, accepted, wrote, chosen, promotion, counts, doubled, total, verdict, reply_of}
+use Rattle.calls.specs.Replies.{Reply, refused, accepted}
 use Rattle.calls.specs.Table.{start, answer, row, causes_of, effect_of, accepted_answer, refused_answer, refusal}
-use Rattle.calls.specs.Calls.{CallResult, area_after, refusal_on, call_on}
+use Rattle.calls.specs.Calls.{CallResult, area_after, refusal_on, call_on, call_result_of}
 use Rattle.calls.proofs.CauseCases.{accepted_call, refused_call, either}
-use Rattle.records.specs.Lent.{area_on, call_result_on, min, over, front, stored_by}
-use Rattle.records.proofs.Orders.{less_or}
-use Rattle.records.proofs.Overs.{over_none, over_of_front, min-left, min_right}
-use Rattle.records.proofs.Cuts.{front_length}
-use Rattle.records.proofs.Stored.{stored-within}
-use Rattle.records.proofs.Lent.{min_few, min_many, front_leaves}
-
--- ---- how many are stored, by the reply
-
-way : Reply → ℕ
-way (refused n) = 0
-way accepted = 1
-way (wrote w n) = 2
-way (chosen c) = 2
-way (promotion o) = 2
-way (counts c) = 2
-way (doubled r) = 2
-way (total x) = 2
-way (verdict b) = 2
-
-refused_none : (q : code.Answer) (m k : ℕ) → reply_of q ≡ refused m → stored_by q k ≡ 0
-unfolding reply_of stored_by way
-refused_none (answers.Refused n) m k e = refl
-refused_none answers.Accepted m k e = absurd (omega (arith, ap way e))
-refused_none answers.Spent m k e = refl
-refused_none answers.Promoted m k e = absurd (omega (arith, ap way e))
-
-accepted_all : (q : code.Answer) (k : ℕ) → reply_of q ≡ accepted → stored_by q k ≡ k
-unfolding reply_of stored_by way
-accepted_all (answers.Refused n) k e = absurd (omega (arith, ap way e))
-accepted_all answers.Accepted k e = refl
-accepted_all answers.Spent k e = absurd (omega (arith, ap way e))
-accepted_all answers.Promoted k e = refl
-
-min_is : (m n : ℕ) → m ≤ n → min m n ≡ m
-min_is m n h = elim (less_or m n) [ inl k ↦ min_few m n k | inr k ↦ (min_many m n k ∙ omega (arith, h, k)) ]
+use Rattle.records.specs.Lent.{area_on, call_result_on, over, front}
+use Rattle.records.proofs.Overs.{over_of_front, over-front_of}
+use Rattle.records.proofs.Cuts.{cut_run, cut_after, cut_whole, front_length}
+use Rattle.records.proofs.Lent.{front_short, front_leaves}
 
 module _ (j : JobRecord) (g : Settings) (s : List ℤ) where
   abbrev entries : List Entry
@@ -108,80 +71,81 @@ module _ (j : JobRecord) (g : Settings) (s : List ℤ) where
       ∙ (λ i. cond (eqb (number rs) 0) (begun_is rs i) (kept_is (number rs) rs i))
       ∙ ap (λ (k : ℕ). cond (eqb k 0) (begun rs) (kept k rs)) e
 
-  -- start on records rs, and on bs; x is what it left of rs
-  module _ (n : ℕ) (rs bs x : List IndexRecord) (o : CallOutput) (la : length rs ≡ n) (lb : length bs ≡ n) (lx : length x ≡ n) where
-    abbrev stored : ℕ
-    stored = stored_by o.answer (min o.job.held n)
-
-    -- refused: nothing is stored
-    none : (m : ℕ) → call_result_on o x s ≡ kept m rs → call_result_on o (over stored x bs) s ≡ kept m bs
-    none m e =
-        ap (λ (k : ℕ). call_result_on o (over k x bs) s) (refused_none o.answer m (min o.job.held n) (ap (λ (y : CallResult). y.answer.reply) e))
-        ∙ ap (λ (l : List IndexRecord). call_result_on o l s) (over_none x bs)
-        ∙ (λ i. record { answer = (e i).answer; area = area_on (e i).area.job bs s })
+  -- start left x of records rs; bs are as many
+  module _ (rs bs x : List IndexRecord) (j' : JobRecord) (as_many : length rs ≡ length bs) where
+    -- refused
+    refused_over : (q : ℕ) → call_result_on (refused q) j' x s ≡ call_on (area_on j rs s) (start g) → call_result_on (refused q) j' bs s ≡ call_on (area_on j bs s) (start g)
+    refused_over q is = go (eqb (number bs) 0) (is ∙ either_way rs (number bs) (number_same rs bs as_many)) ∙ sym (either_way bs (number bs) refl)
+      where
+        go : (b : Bool) → call_result_on (refused q) j' x s ≡ cond b (begun rs) (kept (number bs) rs) → call_result_on (refused q) j' bs s ≡ cond b (begun bs) (kept (number bs) bs)
+        go true e = let z : refused q ≡ accepted = ap (λ (y : CallResult). y.answer.reply) e in cc
+        go false e = λ i. record { answer = (e i).answer; area = area_on (e i).area.job bs s }
 
     -- accepted: the records of the new state
-    module _ (e : call_result_on o x s ≡ begun rs) where
-      held_is : o.job.held ≡ length entries
+    module _ (e : call_result_on accepted j' x s ≡ begun rs) (lx : length x ≡ length bs) where
+      held_is : j'.held ≡ length entries
       unfolding job_with
       held_is = ap (λ (y : CallResult). y.area.job.held) e
 
       x_is : x ≡ first ++ drop (length entries) rs
       x_is = ap (λ (y : CallResult). y.area.run.records) e
 
-      room : length entries ≤ n
-      room =
-          let h : length x ≡ length (first ++ drop (length entries) rs) = ap length x_is in
-          omega (arith, h, length-append first (drop (length entries) rs), length-drop (length entries) rs, first-length, la, lx)
-
-      stored_is : stored ≡ length entries
+      stored_is : min j'.held (length bs) ≡ length entries
       stored_is =
-          accepted_all o.answer (min o.job.held n) (ap (λ (y : CallResult). y.answer.reply) e)
-          ∙ ap (λ (k : ℕ). min k n) held_is ∙ min_is (length entries) n room
+          let h : length x ≡ length (first ++ drop (length entries) rs) = ap length x_is in
+          omega (arith, held_is, h, length-append first (drop (length entries) rs), length-drop (length entries) rs, first-length, as_many, lx)
 
-      over_is : over stored x bs ≡ first ++ drop (length entries) bs
+      over_is : over (min j'.held (length bs)) x bs ≡ first ++ drop (length entries) bs
       unfolding over
       over_is =
           ap (λ (k : ℕ). take k x ++ drop k bs) stored_is
           ∙ ap (λ (l : List IndexRecord). take (length entries) l ++ drop (length entries) bs) x_is
           ∙ ap (λ (l : List IndexRecord). l ++ drop (length entries) bs) (take_at first (drop (length entries) rs) (length entries) first-length)
 
-      all : call_result_on o (over stored x bs) s ≡ begun bs
+      all : call_result_on accepted j' (over (min j'.held (length bs)) x bs) s ≡ begun bs
       all = λ i. record { answer = (e i).answer; area = record { job = (e i).area.job; run = record { records = over_is i; rest = [] }; store = (e i).area.store } }
 
-    go : (m : ℕ) (b : Bool) → call_result_on o x s ≡ cond b (begun rs) (kept m rs) → call_result_on o (over stored x bs) s ≡ cond b (begun bs) (kept m bs)
-    go m true e = all e
-    go m false e = none m e
+    accepted_over : call_result_on accepted j' x s ≡ call_on (area_on j rs s) (start g) → length x ≡ length bs
+        → call_result_on accepted j' (over (min j'.held (length bs)) x bs) s ≡ call_on (area_on j bs s) (start g)
+    accepted_over is lx = go (eqb (number bs) 0) (is ∙ either_way rs (number bs) (number_same rs bs as_many)) ∙ sym (either_way bs (number bs) refl)
+      where
+        go : (b : Bool) → call_result_on accepted j' x s ≡ cond b (begun rs) (kept (number bs) rs)
+            → call_result_on accepted j' (over (min j'.held (length bs)) x bs) s ≡ cond b (begun bs) (kept (number bs) bs)
+        go true e = all e lx
+        go false e = let z : accepted ≡ refused (number bs) = ap (λ (y : CallResult). y.answer.reply) e in cc
 
-    started-over : call_result_on o x s ≡ call_on (area_on j rs s) (start g) → call_result_on o (over stored x bs) s ≡ call_on (area_on j bs s) (start g)
-    started-over is =
-        let m = number bs in
-        go m (eqb m 0) (is ∙ either_way rs m (number_same rs bs (la ∙ sym lb))) ∙ sym (either_way bs m refl)
-
--- start on the cells w, which hold n records of whatever content and are then w', is start on any records of a number that comes to n
-module _ (j : JobRecord) (g : Settings) (s : List ℤ) (o : CallOutput) (lent n k : ℕ) (w w' : List ℕ) (n_is : n ≡ min lent 512) (count : length w ≡ 13824) (count' : length w' ≡ 13824)
-    (k-is : k ≡ stored_by o.answer (min o.job.held n)) (is : call_result_on o (front n w') s ≡ call_on (area_on j (front n w) s) (start g)) where
+-- start on cells with room for as many of the records as a job can hold, whatever they hold; the cells are then w, and those behind as they were
+module _ (j : JobRecord) (rs : List IndexRecord) (s : List ℤ) (n : ℕ) (ws w : List ℕ) (g : Settings) (j' : JobRecord) (n_is : n ≡ min (length rs) 512) (count : length ws ≡ 13824)
+    (same : length w ≡ length (take (n * 27) ws)) where
   small : n ≤ 512
-  small = subst (λ (m : ℕ). m ≤ 512) (sym n_is) (min_right lent 512)
+  small = omega (arith, n_is)
 
-  few : k ≤ n
-  few = subst (λ (m : ℕ). m ≤ n) (sym k-is) (le_trans (stored-within o.answer (min o.job.held n)) (min_right o.job.held n))
+  abbrev after : List ℕ
+  after = w ++ drop (n * 27) ws
 
-  pub starts_few : k ≤ min lent 512
-  starts_few = subst (λ (m : ℕ). k ≤ m) n_is few
+  as_many : length (front n ws) ≡ length (take n rs)
+  as_many = omega (arith, front_length n ws small count, front_short j rs s n n_is)
 
-  module _ (rs : List IndexRecord) (Lent-is : length rs ≡ lent) where
-    here : n ≡ min (length rs) 512
-    here = n_is ∙ ap (λ (m : ℕ). min m 512) (sym Lent-is)
+  on_front : (r : Reply) → call_result_of r j' w s ≡ call_on (area_of j (take (n * 27) ws) s) (start g) → call_result_on r j' (front n after) s ≡ call_on (area_on j (front n ws) s) (start g)
+  on_front r is =
+      ap (λ (u : Run). record { answer = answer r; area = record { job = j'; run = u; store = s } }) (cut_after n ws small count w same)
+      ∙ is
+      ∙ ap (λ (u : Run). call_on (record { job = j; run = u; store = s }) (start g)) (cut_run n ws small count)
 
-    room_here : n ≤ length rs
-    room_here = subst (λ (m : ℕ). m ≤ length rs) (sym here) (min-left (length rs) 512)
+  pub start_refused : (q : ℕ) → call_result_of (refused q) j' w s ≡ call_on (area_of j (take (n * 27) ws) s) (start g) → call_result_on (refused q) j' rs s ≡ call_on (area_on j rs s) (start g)
+  start_refused q is =
+      ap (λ (l : List IndexRecord). call_result_on (refused q) j' l s) (sym (take-append-drop n rs))
+      ∙ front_leaves j rs s n n_is (start g) (refused q) j' (take n rs) s (refused_over j g s (front n ws) (take n rs) (front n after) j' as_many q (on_front (refused q) is))
 
-    on_front : call_result_on o (over k (records_of w') (take n rs)) s ≡ call_on (area_on j (take n rs) s) (start g)
-    unfolding front
-    on_front =
-        ap (λ (l : List IndexRecord). call_result_on o l s) (sym (over_of_front k n (records_of w') (take n rs) few) ∙ ap (λ (m : ℕ). over m (take n (records_of w')) (take n rs)) k-is)
-        ∙ started-over j g s n (front n w) (take n rs) (front n w') o (front_length n w small count) (length-take-le n rs room_here) (front_length n w' small count') is
-
-    pub starts : call_result_on o (over k (records_of w') rs) s ≡ call_on (area_on j rs s) (start g)
-    starts = front_leaves j rs s (start g) o w' s (over k (records_of w') rs) n k here few on_front refl
+  pub start_accepted : (l : List IndexRecord) → call_result_of accepted j' w s ≡ call_on (area_of j (take (n * 27) ws) s) (start g) → l ≡ over (min j'.held n) (records_of after) rs
+      → call_result_on accepted j' l s ≡ call_on (area_on j rs s) (start g)
+  unfolding front
+  start_accepted l is e =
+      let k : min j'.held n ≤ n = omega arith in
+      let lt : length (take n rs) ≡ n = front_short j rs s n n_is in
+      ap (λ (l : List IndexRecord). call_result_on accepted j' l s)
+      (e ∙ sym (over_of_front (min j'.held n) n (records_of after) rs k)
+      ∙ sym (over-front_of (min j'.held n) n (front n after) rs k (omega (arith, n_is)))
+      ∙ ap (λ m. over (min j'.held m) (front n after) (take n rs) ++ drop n rs) (sym lt))
+      ∙ front_leaves j rs s n n_is (start g) accepted j' (over (min j'.held (length (take n rs))) (front n after) (take n rs)) s
+      (accepted_over j g s (front n ws) (take n rs) (front n after) j' as_many (on_front accepted is) (omega (arith, lt, front_length n after small (cut_whole n ws small count w same))))

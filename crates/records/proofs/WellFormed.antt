@@ -11,7 +11,7 @@ use Rattle.area.specs.declared.IndexRecord.{IndexRecord}
 use Rattle.area.specs.Records.{blank}
 use Rattle.quadrature.specs.Readings.{record_at}
 use Rattle.encoding.specs.Encodes.{WellFormed}
-use Rattle.records.proofs.Orders.{less_or}
+use Rattle.std.proofs.lemmas.Bool.{cases_lt}
 
 -- ---- parts of well-formed records
 
@@ -24,7 +24,7 @@ at_same r s e h = subst (λ (x : IndexRecord). (length x.levels ≡ 8) × (lengt
 
 -- what holds of each of the records holds of each of the first n
 pub each_taken : (P : IndexRecord → Type 0) (n : ℕ) (rs : List IndexRecord) → ((p : ℕ) → p < length rs → P (record_at rs p)) → (p : ℕ) → p < length (take n rs) → P (record_at (take n rs) p)
-each_taken P n rs f p q = elim (less_or (length rs) n) [ inl h ↦ whole (omega (arith, h)) | inr h ↦ front h ]
+each_taken P n rs f p q = elim (cases_lt (length rs) n) [ inl h ↦ whole (omega (arith, h)) | inr h ↦ front h ]
   where
     whole : length rs ≤ n → P (record_at (take n rs) p)
     whole h = let e = take_all n rs h in subst (λ (ts : List IndexRecord). P (record_at ts p)) (sym e) (f p (subst (λ (ts : List IndexRecord). p < length ts) e q))
@@ -41,7 +41,7 @@ pub well_formed_drop : (n : ℕ) (rs : List IndexRecord) → WellFormed rs → W
 well_formed_drop n rs f p h = at_same (record_at (drop n rs) p) (record_at rs (n + p)) (get_or-drop n rs p blank) (f (n + p) (omega (arith, h, length-drop n rs)))
 
 pub well_formed_append : (rs ss : List IndexRecord) → WellFormed rs → WellFormed ss → WellFormed (rs ++ ss)
-well_formed_append rs ss f g p h = elim (less_or p (length rs)) [ inl l ↦ first l | inr l ↦ second l ]
+well_formed_append rs ss f g p h = elim (cases_lt p (length rs)) [ inl l ↦ first l | inr l ↦ second l ]
   where
     first : p < length rs → FormedAt (rs ++ ss) p
     first l = at_same (record_at (rs ++ ss) p) (record_at rs p) (get_or-append rs ss blank p l) (f p l)

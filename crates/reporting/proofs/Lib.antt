@@ -2,6 +2,4 @@
 pub mod Digits
 pub mod Texts
 pub mod Facts
-pub mod Writing
 pub mod Signs
-pub mod Reports

@@ -1,18 +1,22 @@
 -- How long the texts are: the words are, and a number has at most 20 digits.
 -- Assumes nothing.
-use mathlib.Core.Path.{◌≡◌}
-use mathlib.Core.List.{List}
-use Prim.Native.Nat.{ℕ, suc, ◌+◌, ◌≤◌}
+use mathlib.Core.Path.{◌≡◌, ap}
+use mathlib.Core.List.{List, [], ◌∷◌, ◌++◌, append_assoc}
+use Prim.Native.Nat.{ℕ, suc, ◌+◌, ◌/◌, ◌%◌, ◌^◌, ◌<◌, ◌≤◌}
 use native.Mathlib.Omega.{arith}
 use lib.IntN.{ℤ, pos, negsuc}
 use lib.ListN.{length, length-append}
-use Rattle.reporting.specs.Decimal.{decimal, signed_decimal}
-use Rattle.reporting.specs.Text.{line, Ending, met, capped, spent, short, ending_word, ReportValues, report_text, refusal_text}
-use Rattle.reporting.proofs.Digits.{digits_most}
+use Rattle.reporting.specs.Decimal.{digit, decimal, signed_decimal}
+use Rattle.reporting.specs.Text.{feed, space, line, refused_word, at_word, Ending, met, capped, spent, short, ending_word, ReportValues, report_text, refusal_text}
+use Rattle.reporting.proofs.Digits.{digits_most, decimal_more}
 
 pub most : (n : ℕ) → length (decimal n) ≤ 20
 unfolding decimal
 most n = digits_most 20 n
+
+-- those of a tenth leave room for one more
+pub most_tenth : (n : ℕ) → 10 ≤ n → n < 2 ^ 64 → length (decimal (n / 10)) + 1 ≤ 20
+most_tenth n g h = omega (arith, most n, ap length (decimal_more n g (omega arith)), length-append (decimal (n / 10)) (digit (n % 10) ∷ []))
 
 pub most_signed : (z : ℤ) → length (signed_decimal z) ≤ 21
 unfolding signed_decimal
@@ -29,6 +33,11 @@ most_ending short = omega arith
 pub length-line : (word said : List ℕ) → length (line word said) ≡ length word + length said + 2
 unfolding line
 length-line word said = simp length-append (omega arith)
+
+-- a refusal from its parts
+pub refusal_parts : (n b : ℕ) → ((((refused_word ++ space ∷ []) ++ decimal n) ++ (space ∷ at_word ++ space ∷ [])) ++ decimal b) ++ feed ∷ [] ≡ refusal_text n b
+unfolding refusal_text
+refusal_parts n b = simp append_assoc
 
 pub report_room : (f : ReportValues) → length (report_text f) ≤ 512
 unfolding report_text

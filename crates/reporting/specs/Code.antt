@@ -1,16 +1,10 @@
--- What the code leaves in a buffer, and its figures as the text's.
-use Rattle.std.specs.Prelude.{◌≡◌, List, ◌++◌, ℕ, ◌+◌, length}
-use Rattle.std.proofs.lemmas.List.Edits.{sets}
+-- The code's figures as the text's, and the parts of a report that it writes one after the other.
+use Rattle.std.specs.Prelude.{List, ◌++◌, ℕ}
 use Rattle.reporting.specs.declared.Ending as code
 use Rattle.reporting.specs.declared.Ending.TheVariants as endings
 use Rattle.reporting.specs.declared.ReportValues as coded
 use Rattle.reporting.specs.Decimal.{decimal, signed_decimal}
 use Rattle.reporting.specs.Text.{line, axes_word, old_word, active_word, wanted_word, reserved_word, pending_word, carried_word, ceiling_word, scaled_word, unused_word, end_word, Ending, met, capped, spent, short, ending_word, ReportValues}
-
--- A text was written from `at` on: no other byte has changed, and `end` is the place after it.
-pub record Written (before : List ℕ) (at : ℕ) (text after : List ℕ) (end : ℕ) : Type 0 where
-  pub bytes : after ≡ sets before at text
-  pub place : end ≡ at + length text
 
 unfoldable pub ending_in : code.Ending → Ending
 ending_in endings.Met = met

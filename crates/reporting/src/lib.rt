@@ -1,12 +1,14 @@
 #![tactic(auto)]
-// Writing a report's text into a lent buffer.
-ghost use Rattle.std.specs.Prelude.{◌≡◌, ◌++◌, ◌+◌, ◌≤◌, length, drop};
+// A report's text, and its copy in a lent buffer.
+ghost use Rattle.std.specs.Prelude.{◌≡◌, ℕ, List, [], ◌∷◌, ◌++◌, ◌+◌, ◌<◌, ◌≤◌, length, take, drop};
 ghost use Rattle.reporting.specs.Decimal.{decimal, signed_decimal};
 ghost use Rattle.reporting.specs.Text.{line, end_word, ending_word, report_text, refusal_text};
-ghost use Rattle.reporting.specs.Code.{Written, ending_in, report_values_in, count_lines, sum_lines};
+ghost use Rattle.reporting.specs.Code.{ending_in, report_values_in, count_lines, sum_lines};
+
+use std::marker::Model;
 
 // How a run ends.
-#[derive(Clone, Copy)]
+#[derive(Clone, Copy, PartialEq, Eq)]
 pub enum Ending {
     Met,
     Capped,
@@ -14,8 +16,23 @@ pub enum Ending {
     Short,
 }
 
+impl Ending {
+    // What the last line says of it, as bytes: a report is bytes in a lent buffer, and so are the definitions of its text.
+    fn word(self) -> &'static [u8]
+        ensures is { result.now ≡ ending_word (ending_in self) }
+        ensures few { length result.now ≤ 6 }
+    {
+        match self {
+            Ending::Met => b"met",
+            Ending::Capped => b"capped",
+            Ending::Spent => b"spent",
+            Ending::Short => b"short",
+        }
+    }
+}
+
 // A report's figures, in its order.
-#[derive(Clone, Copy)]
+#[derive(Clone, Copy, PartialEq, Eq)]
 pub struct ReportValues {
     pub axes: u32,
     pub old: u32,
@@ -30,125 +47,159 @@ pub struct ReportValues {
     pub ending: Ending,
 }
 
-// Each function that writes gives the place after what it wrote.
-
-// A number's digits.
-fn put_number(n: u64, at: usize, buffer: &mut [u8]) -> usize
-    requires { at + 20 ≤ length buffer.old }
-    ensures { Written buffer.old at (decimal n) buffer.new result }
-{
-    if n < 10 {
-        buffer[at] = b'0' + n as u8;
-        return at + 1;
-    }
-    let last = put_number(n / 10, at, buffer);
-    buffer[last] = b'0' + (n % 10) as u8;
-    last + 1
+// A text that grows at its end. Every report and every refusal has room (`TextFacts.report_room`, `refusal_room`): an array with its length, since there is no heap. How much
+// room is left is a clause of each method, which takes another number of bytes.
+#[derive(Drop)]
+struct Text {
+    bytes: [u8; 512],
+    len: usize,
 }
 
-// The same with a sign. The lowest number has no opposite, so one is added after the cast.
-fn put_signed(z: i64, at: usize, buffer: &mut [u8]) -> usize
-    requires { at + 21 ≤ length buffer.old }
-    ensures { Written buffer.old at (signed_decimal z) buffer.new result }
-{
-    if z < 0 {
-        buffer[at] = b'-';
-        let size = (-1 - z) as u64 + 1;
-        return put_number(size, at + 1, buffer);
-    }
-    put_number(z as u64, at, buffer)
+impl Model for Text {
+    ghost Value = { List ℕ };
+
+    ghost view = { λ t. take t.len t.bytes };
+
+    ghost invariant = { λ t. t.len ≤ 512 };
 }
 
-// A word's letters.
-fn put_word(word: &[u8], at: usize, buffer: &mut [u8]) -> usize
-    requires { at + length word.now ≤ length buffer.old }
-    ensures { Written buffer.old at word.now buffer.new result }
-{
-    let count = word.len();
-    let mut i: usize = 0;
-    while i < count {
-        buffer[at + i] = word[i];
-        i += 1;
-    }
-    at + count
+// A number that a line says.
+trait Decimal: Copy {
+    ghost digits: { Self → List ℕ };
+
+    fn push_to(self, text: &mut Text)
+        requires { length text.old + 21 ≤ 512 }
+        ensures is { text.new ≡ text.old ++ digits self }
+        ensures near { length text.new ≤ length text.old + 21 };
 }
 
-// A line that says a number.
-fn put_line(word: &[u8], n: u64, at: usize, buffer: &mut [u8]) -> usize
-    requires { (length word.now ≤ 8) × (at + 31 ≤ length buffer.old) }
-    ensures is { Written buffer.old at (line word.now (decimal n)) buffer.new result }
-    ensures near { result ≤ at + 31 }
-{
-    let space = put_word(word, at, buffer);
-    buffer[space] = b' ';
-    let end = put_number(n, space + 1, buffer);
-    buffer[end] = b'\n';
-    end + 1
-}
+impl Decimal for u32 {
+    ghost digits = { decimal };
 
-// A line that says a number with its sign.
-fn put_signed_line(word: &[u8], z: i64, at: usize, buffer: &mut [u8]) -> usize
-    requires { (length word.now ≤ 8) × (at + 31 ≤ length buffer.old) }
-    ensures is { Written buffer.old at (line word.now (signed_decimal z)) buffer.new result }
-    ensures near { result ≤ at + 31 }
-{
-    let space = put_word(word, at, buffer);
-    buffer[space] = b' ';
-    let end = put_signed(z, space + 1, buffer);
-    buffer[end] = b'\n';
-    end + 1
-}
-
-// The last line, which says a word.
-fn put_last(said: &[u8], at: usize, buffer: &mut [u8]) -> usize
-    requires { (length said.now ≤ 6) × (at + 31 ≤ length buffer.old) }
-    ensures { Written buffer.old at (line end_word said.now) buffer.new result }
-{
-    let space = put_word(b"end", at, buffer);
-    buffer[space] = b' ';
-    let end = put_word(said, space + 1, buffer);
-    buffer[end] = b'\n';
-    end + 1
-}
-
-// The last line of a run.
-fn put_ending(ending: Ending, at: usize, buffer: &mut [u8]) -> usize
-    requires { at + 31 ≤ length buffer.old }
-    ensures { Written buffer.old at (line end_word (ending_word (ending_in ending))) buffer.new result }
-{
-    match ending {
-        Ending::Met => put_last(b"met", at, buffer),
-        Ending::Capped => put_last(b"capped", at, buffer),
-        Ending::Spent => put_last(b"spent", at, buffer),
-        Ending::Short => put_last(b"short", at, buffer),
+    fn push_to(self, text: &mut Text) {
+        text.push_number(u64::from(self));
     }
 }
 
-// The first five lines.
-fn put_counts(values: ReportValues, buffer: &mut [u8]) -> usize
-    requires { 512 ≤ length buffer.old }
-    ensures is { Written buffer.old 0 (count_lines (report_values_in values)) buffer.new result }
-    ensures near { result ≤ 155 }
-{
-    let axes = put_line(b"axes", values.axes as u64, 0, buffer);
-    let old = put_line(b"old", values.old as u64, axes, buffer);
-    let active = put_line(b"active", values.active as u64, old, buffer);
-    let wanted = put_line(b"wanted", values.wanted as u64, active, buffer);
-    put_line(b"reserved", values.reserved as u64, wanted, buffer)
+impl Decimal for u64 {
+    ghost digits = { decimal };
+
+    fn push_to(self, text: &mut Text) {
+        text.push_number(self);
+    }
 }
 
-// The last six lines.
-fn put_sums(values: ReportValues, at: usize, buffer: &mut [u8]) -> usize
-    requires { at + 186 ≤ length buffer.old }
-    ensures { Written buffer.old at (sum_lines (report_values_in values)) buffer.new result }
-{
-    let ending = values.ending;
-    let pending = put_line(b"pending", values.pending, at, buffer);
-    let carried = put_line(b"carried", values.carried, pending, buffer);
-    let ceiling = put_line(b"ceiling", values.ceiling as u64, carried, buffer);
-    let scaled = put_signed_line(b"scaled", values.scaled, ceiling, buffer);
-    let unused = put_line(b"unused", values.unused as u64, scaled, buffer);
-    put_ending(ending, unused, buffer)
+impl Decimal for i64 {
+    ghost digits = { signed_decimal };
+
+    fn push_to(self, text: &mut Text) {
+        if self < 0 {
+            text.push(b'-');
+        }
+        text.push_number(self.unsigned_abs());
+    }
+}
+
+impl Text {
+    // An empty text.
+    fn new() -> Text
+        ensures { result ≡ [] }
+    {
+        Text {
+            bytes: [0; 512],
+            len: 0,
+        }
+    }
+
+    // One byte more.
+    fn push(&mut self, byte: u8)
+        requires { length self.old < 512 }
+        ensures { self.new ≡ self.old ++ byte ∷ [] }
+    {
+        self.bytes[self.len] = byte;
+        self.len += 1;
+    }
+
+    // A word's letters.
+    fn push_word(&mut self, word: &[u8])
+        requires { length self.old + length word.now ≤ 512 }
+        ensures { self.new ≡ self.old ++ word.now }
+    {
+        let end = self.len + word.len();
+        self.bytes[self.len..end].copy_from_slice(word);
+        self.len = end;
+    }
+
+    // A number's digits. By hand: a `write!` of the number was tried, and the proof didn't close, since std promises the text only where its answer
+    // is Ok, and no contract says that it is.
+    fn push_number(&mut self, n: u64)
+        requires { length self.old + 20 ≤ 512 }
+        ensures is { self.new ≡ self.old ++ decimal n }
+        ensures near { length self.new ≤ length self.old + 20 }
+    {
+        if 10 <= n {
+            self.push_number(n / 10);
+        }
+        self.push(b'0' + (n % 10) as u8);
+    }
+
+    // A line that says a number.
+    fn push_line<N: Decimal>(&mut self, word: &[u8], n: N)
+        requires { (length word.now ≤ 8) × (length self.old + 31 ≤ 512) }
+        ensures is { self.new ≡ self.old ++ line word.now (N.digits n) }
+        ensures near { length self.new ≤ length self.old + 31 }
+    {
+        self.push_word(word);
+        self.push(b' ');
+        n.push_to(self);
+        self.push(b'\n');
+    }
+
+    // The last line of a run.
+    fn push_ending(&mut self, ending: Ending)
+        requires { length self.old + 31 ≤ 512 }
+        ensures { self.new ≡ self.old ++ line end_word (ending_word (ending_in ending)) }
+    {
+        self.push_word(b"end ");
+        self.push_word(ending.word());
+        self.push(b'\n');
+    }
+
+    // The first five lines of a report.
+    fn push_counts(&mut self, values: ReportValues)
+        requires { length self.old + 155 ≤ 512 }
+        ensures is { self.new ≡ self.old ++ count_lines (report_values_in values) }
+        ensures near { length self.new ≤ length self.old + 155 }
+    {
+        self.push_line(b"axes", values.axes);
+        self.push_line(b"old", values.old);
+        self.push_line(b"active", values.active);
+        self.push_line(b"wanted", values.wanted);
+        self.push_line(b"reserved", values.reserved);
+    }
+
+    // The last six lines of a report.
+    fn push_sums(&mut self, values: ReportValues)
+        requires { length self.old + 186 ≤ 512 }
+        ensures { self.new ≡ self.old ++ sum_lines (report_values_in values) }
+    {
+        self.push_line(b"pending", values.pending);
+        self.push_line(b"carried", values.carried);
+        self.push_line(b"ceiling", values.ceiling);
+        self.push_line(b"scaled", values.scaled);
+        self.push_line(b"unused", values.unused);
+        self.push_ending(values.ending);
+    }
+
+    // The text at the beginning of a buffer, and its length. A type of 512 bytes would ask more of callers, who lend buffers of any length above.
+    fn copy_to(&self, buffer: &mut [u8]) -> usize
+        requires { 512 ≤ length buffer.old }
+        ensures bytes { buffer.new ≡ self.now ++ drop (length self.now) buffer.old }
+        ensures count { result ≡ length self.now }
+    {
+        buffer[..self.len].copy_from_slice(&self.bytes[..self.len]);
+        self.len
+    }
 }
 
 // Writes a report at the beginning of the buffer, and gives its length.
@@ -157,20 +208,23 @@ pub fn put_report(values: ReportValues, buffer: &mut [u8]) -> usize
     ensures bytes { buffer.new ≡ report_text (report_values_in values) ++ drop (length (report_text (report_values_in values))) buffer.old }
     ensures count { result ≡ length (report_text (report_values_in values)) }
 {
-    let at = put_counts(values, buffer);
-    put_sums(values, at, buffer)
+    let mut text = Text::new();
+    text.push_counts(values);
+    text.push_sums(values);
+    text.copy_to(buffer)
 }
 
-// Writes a refusal at the beginning of the buffer, and gives its length.
+// Writes a refusal at the beginning of the buffer, and gives its length. It has the number of a cause, since this crate knows no calls.
 pub fn put_refusal(number: u32, byte: usize, buffer: &mut [u8]) -> usize
     requires { 512 ≤ length buffer.old }
     ensures bytes { buffer.new ≡ refusal_text number byte ++ drop (length (refusal_text number byte)) buffer.old }
     ensures count { result ≡ length (refusal_text number byte) }
 {
-    let refused = put_word(b"refused ", 0, buffer);
-    let named = put_number(number as u64, refused, buffer);
-    let at = put_word(b" at ", named, buffer);
-    let end = put_number(byte as u64, at, buffer);
-    buffer[end] = b'\n';
-    end + 1
+    let mut text = Text::new();
+    text.push_word(b"refused ");
+    text.push_number(u64::from(number));
+    text.push_word(b" at ");
+    text.push_number(byte as u64);
+    text.push(b'\n');
+    text.copy_to(buffer)
 }

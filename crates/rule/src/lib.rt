@@ -34,15 +34,12 @@ pub fn new_point(level: u32, n: usize) -> u8
 pub fn whole_weight(rule: u32, point: u32) -> i64
     ensures { result ≡ whole_weight rule point }
 {
-    if point == 0 {
-        return 0;
-    }
-    if rule < point {
+    if point == 0 || rule < point {
         return 0;
     }
     match rule {
         0..=1 => 1,
-        2..=4294967295 => match point {
+        2.. => match point {
             2 => 1,
             _ => 2,
         },
@@ -54,10 +51,7 @@ pub fn whole_weight(rule: u32, point: u32) -> i64
 pub fn difference_weight(rule: u32, point: u32) -> i64
     ensures { result ≡ difference_weight rule point }
 {
-    if point == 0 {
-        return 0;
-    }
-    if rule < point {
+    if point == 0 || rule < point {
         return 0;
     }
     match rule {
@@ -66,7 +60,7 @@ pub fn difference_weight(rule: u32, point: u32) -> i64
             2 => 1,
             _ => -2,
         },
-        3..=4294967295 => match point {
+        3.. => match point {
             2 => -1,
             _ => { if point == rule { 2 } else { -2 } }
         },

@@ -1,20 +1,19 @@
 -- The delivery of an entry: why it is refused, and what an accepted one leaves.
 -- The idea: in a valid area with a block wanted only the count and the range of the readings can refuse.
 -- Assumes nothing.
-use mathlib.Core.Path.{◌≡◌, refl, ap, sym, ◌∙◌, subst}
-use mathlib.Core.Bool.{Bool, true, false, cond, ◌&&◌}
-use mathlib.Core.List.{List, [], ◌∷◌, ◌++◌}
-use Prim.Native.Nat.{ℕ, suc, ◌+◌, ◌*◌, ◌<◌, ◌≤◌}
+use mathlib.Core.Path.{◌≡◌, refl, ap, ap₂, sym, ◌∙◌, subst}
+use mathlib.Core.Bool.{true, false, cond}
+use mathlib.Core.List.{List}
+use Prim.Native.Nat.{ℕ, ◌+◌, ◌*◌, ◌<◌}
 use native.Mathlib.Omega.{arith}
-use lib.Dec.{leb, eqb}
-use lib.IntN.{ℤ, nat_abs}
-use lib.ListN.{length, take, drop, length-append}
-use lib.Seq.{take_at}
+use lib.Dec.{eqb}
+use lib.IntN.{ℤ}
+use lib.ListN.{length}
 use Rattle.area.proofs.Readings.{reading_facts}
 use Rattle.area.specs.Settings.{reading_count}
 use Rattle.grid.specs.Index.{Within}
 use Rattle.area.specs.declared.JobRecord.{JobRecord}
-use Rattle.area.specs.Records.{records_of}
+use Rattle.area.specs.Records.{held_in}
 use Rattle.area.specs.Encoding.{Area, area_of, entries_of, machine_of}
 use Rattle.quadrature.specs.Readings.{record_at}
 use Rattle.area.specs.Log.{Machine}
@@ -37,26 +36,6 @@ use Rattle.jobfile.specs.File.{readings_at, entry_of}
 use Rattle.running.specs.Execution.{own_lengths, Result, refused_at, first_out_of_range, delivery_cause, delivery_byte, execution}
 use Rattle.running.proofs.Blocks.{readings-length}
 
--- ---- the range of readings, and the first that is out of it
-
-pub bad_range : (rs : List ℤ) → first_out_of_range rs < length rs → in_range rs ≡ false
-unfolding first_out_of_range in_range
-bad_range [] h = absurd (omega (arith, h))
-bad_range (x ∷ rs) h = step (leb (nat_abs x) 1048576) h (bad_range rs)
-  where
-    step : (t : Bool) → cond t (suc (first_out_of_range rs)) 0 < suc (length rs) → (first_out_of_range rs < length rs → in_range rs ≡ false) → (t && in_range rs) ≡ false
-    step true g f = f (omega (arith, g))
-    step false g f = refl
-
-pub all_range : (rs : List ℤ) → length rs ≤ first_out_of_range rs → in_range rs ≡ true
-unfolding first_out_of_range in_range
-all_range [] h = refl
-all_range (x ∷ rs) h = step (leb (nat_abs x) 1048576) h (all_range rs)
-  where
-    step : (t : Bool) → suc (length rs) ≤ cond t (suc (first_out_of_range rs)) 0 → (length rs ≤ first_out_of_range rs → in_range rs ≡ true) → (t && in_range rs) ≡ true
-    step true g f = f (omega (arith, g))
-    step false g f = absurd (omega (arith, g))
-
 -- ---- in a valid area, with the first wanted block at p
 
 module _ (j : JobRecord) (cells : List ℕ) (store : List ℤ) (st : ValidArea (area_of j cells store)) (p : ℕ) (is : p ≡ first_wanted (entries_of (area_of j cells store))) (held : p < j.held) where
@@ -77,13 +56,13 @@ module _ (j : JobRecord) (cells : List ℕ) (store : List ℤ) (st : ValidArea (
   some : any_wanted (machine_of (area_of j cells store)).log.entries ≡ true
   some = wanted-yes (machine_of (area_of j cells store)).log first_there
 
-  pub levels_within_lem : (k : List ℕ) → k ≡ (record_at (records_of cells) p).levels → Within k
+  pub levels_within_lem : (k : List ℕ) → k ≡ (record_at (held_in cells j.held) p).levels → Within k
   levels_within_lem k e = subst Within (sym e) (wanted-within j cells store st p is held)
 
-  pub count_is : (k : List ℕ) → k ≡ (record_at (records_of cells) p).levels
+  pub count_is : (k : List ℕ) → k ≡ (record_at (held_in cells j.held) p).levels
       → reading_count j.settings k ≡ reading_count (machine_of (area_of j cells store)).log.settings (wanted_index (machine_of (area_of j cells store)).log.entries)
   unfolding machine_of
-  count_is k e = ap (reading_count j.settings) (e ∙ wanted_levels_lem j cells store st p is held)
+  count_is k e = ap (reading_count j.settings) (e ∙ wanted_levels_lem j cells store st p is)
 
   -- ---- entry i of the bytes b
   module _ (b : List ℕ) (i : ℕ) where
@@ -110,20 +89,16 @@ module _ (j : JobRecord) (cells : List ℕ) (store : List ℤ) (st : ValidArea (
     count_refused f n = refused 7 n refl (deliver_count own_lengths true (machine_of (area_of j cells store)).log rs none some (λ e. f (sym rs_length ∙ e)))
 
     module _ (whole : four b (entry_byte i + 4) ≡ reading_count (machine_of (area_of j cells store)).log.settings (wanted_index (machine_of (area_of j cells store)).log.entries)) where
-      pub range_refused : first_out_of_range (entry_of b i).readings < four b (entry_byte i + 4) → (n : ℕ) → goes n ≡ refused_at 8 (four b (entry_byte i + 8) + 4 * first_out_of_range (entry_of b i).readings)
+      pub range_refused : in_range (entry_of b i).readings ≡ false → (n : ℕ) → goes n ≡ refused_at 8 (four b (entry_byte i + 8) + 4 * first_out_of_range (entry_of b i).readings)
       unfolding delivery_byte
-      range_refused h n =
-          refused 8 n refl (deliver_range own_lengths true (machine_of (area_of j cells store)).log rs none some (rs_length ∙ whole) (bad_range rs (omega (arith, h, rs_length))))
+      range_refused bad n = refused 8 n refl (deliver_range own_lengths true (machine_of (area_of j cells store)).log rs none some (rs_length ∙ whole) bad)
 
-      module _ (h : four b (entry_byte i + 4) ≤ first_out_of_range (entry_of b i).readings) where
-        pub in_range_lem : in_range (entry_of b i).readings ≡ true
-        in_range_lem = all_range rs (omega (arith, h, rs_length))
-
+      module _ (fits : in_range (entry_of b i).readings ≡ true) where
         clear : delivery_cause b (machine_of (area_of j cells store)) i ≡ 0
-        clear = deliver-fits own_lengths true (machine_of (area_of j cells store)).log rs none some (rs_length ∙ whole) in_range_lem
+        clear = deliver-fits own_lengths true (machine_of (area_of j cells store)).log rs none some (rs_length ∙ whole) fits
 
         sound : SoundMachine (deliver (machine_of (area_of j cells store)) (entry_of b i).readings (entry_of b i).indicator)
-        sound = step_facts.deliver (machine_of (area_of j cells store)) rs (entry_of b i).indicator (machine_sound (area_of j cells store) st) first_there (rs_length ∙ whole) (readings_range rs in_range_lem)
+        sound = step_facts.deliver (machine_of (area_of j cells store)) rs (entry_of b i).indicator (machine_sound (area_of j cells store) st) first_there (rs_length ∙ whole) (readings_range rs fits)
 
         -- the area that the delivery leaves holds the next state
         pub done : (after : Area) → after ≡ deliver_on (area_of j cells store) (entry_of b i).readings (entry_of b i).indicator → (n : ℕ) → goes n ≡ execution b n (machine_of after) (i + 1)
@@ -133,13 +108,8 @@ module _ (j : JobRecord) (cells : List ℕ) (store : List ℤ) (st : ValidArea (
             ∙ ap (λ (y : Machine). execution b n y (i + 1))
             (sym (ap machine_of e ∙ written_state (area_of j cells store) (deliver (machine_of (area_of j cells store)) (entry_of b i).readings (entry_of b i).indicator) sound))
 
--- the front of the block is the entry's readings
-pub block-front : (b : List ℕ) (i count from : ℕ) (rest : List ℤ) → count ≡ four b (entry_byte i + 4) → from ≡ four b (entry_byte i + 8)
-    → take count (readings_at b count from ++ rest) ≡ (entry_of b i).readings
+-- the block holds the entry's readings
+pub block_is : (b : List ℕ) (i count from n : ℕ) (after : List ℤ) → after ≡ readings_at b n from → n ≡ count → count ≡ four b (entry_byte i + 4) → from ≡ four b (entry_byte i + 8)
+    → after ≡ (entry_of b i).readings
 unfolding entry_of
-block-front b i count from rest e f = take_at (readings_at b count from) rest count (readings-length b count from) ∙ ap (λ n. readings_at b n from) e ∙ ap (readings_at b (four b (entry_byte i + 4))) f
-
--- and the block has room for them
-pub long_enough : (b : List ℕ) (count from : ℕ) (before after : List ℤ) → after ≡ readings_at b count from ++ drop count before → count ≤ length after
-long_enough b count from before after e =
-    omega (arith, ap length e, length-append (readings_at b count from) (drop count before), readings-length b count from)
+block_is b i count from n after e c q f = e ∙ ap₂ (readings_at b) (c ∙ q) f

@@ -8,6 +8,8 @@ use native.Mathlib.Decide.{dec_lt}
 use native.Mathlib.Nat.{le_trans}
 use Prim.Native.Nat.{ℕ, ◌-◌, ◌<◌, ◌≤◌, zero-le}
 use lib.ListN.{length, take, drop}
+use Rattle.std.specs.Prelude.{Ok, Err}
+use Rattle.std.proofs.Math.Seq.{take-append_seam}
 use Rattle.jobfile.proofs.Facts.{form_facts}
 use Rattle.jobfile.specs.Form.{Fault, Form, formed, broken, form_of, entry_count}
 use Rattle.area.specs.Log.{Machine}
@@ -15,10 +17,10 @@ use Rattle.reporting.specs.Text.{Ending, ReportValues, report_text, refusal_text
 use Rattle.reporting.proofs.Facts.{text_facts}
 use Rattle.running.specs.Execution.{Result, refused_at, ended, unfinished, result_in, result_of}
 use Rattle.running.specs.Report.{report_values_of, text_in, text_of}
-use Rattle.running.specs.declared.RunStatus as status
-use Rattle.running.specs.declared.RunStatus.TheVariants as statuses
+use Rattle.running.specs.declared.TooShort.{TooShort}
 use Rattle.running.specs.Code.{RunAnswer, too_short, report, refusal, nothing, written_for, answer_in, RunResult, run_on}
 use Rattle.running.specs.Facts.{AllowedResult, ExecutionFacts}
+use Rattle.running.proofs.Whole.{broken_text}
 use Rattle.running.proofs.Ends.{run_allowed}
 use Rattle.running.proofs.NamedBytes.{named_reading, count_byte, reading_byte, axes_refused, budget_refused}
 
@@ -52,7 +54,7 @@ counted_within c buffer (yes h) = rw (lt-ltb (length buffer) 512 h) zero-le
 counted_within c buffer (no h) =
     rw (le-ltb (length buffer) 512 (omega (arith, h)), counted_written (entry_count c) (result_of c) (length (text_of c))) (le_trans (room_of c) (omega (arith, h)))
 
-within_of : (c buffer : List ℕ) (n : ℕ) → answer_in c (statuses.Written n) ≡ (run_on c buffer).answer → n ≤ length buffer
+within_of : (c buffer : List ℕ) (n : ℕ) → answer_in c (Ok n) ≡ (run_on c buffer).answer → n ≤ length buffer
 unfolding answer_in
 within_of c buffer n e =
     subst (λ k. k ≤ length buffer) (sym (ap counted e) ∙ counted_written (entry_count c) (result_of c) n) (counted_within c buffer (dec_lt (length buffer) 512))
@@ -102,11 +104,6 @@ ends_of_lem c u = step (form_of c) refl
     step formed e = subst (AllowedResult (entry_count c)) u (allowed_of c e)
     step (broken f) e = apart f.number f.byte (sym (malformed_of c f e) ∙ u)
 
--- a broken form is told by its fault alone
-broken_text : (c : List ℕ) (f : Fault) → form_of c ≡ broken f → text_of c ≡ refusal_text f.number f.byte
-unfolding text_of
-broken_text c f e = ap (text_in (entry_count c)) (malformed_of c f e) ∙ unfold text_in in refl
-
 decided_of : (c : List ℕ) → 38937 ≤ length c → text_of (take 38937 c) ≡ text_of c
 decided_of c h =
     let f = form_facts.too_long c h in
@@ -115,9 +112,22 @@ decided_of c h =
 pub execution-facts : ExecutionFacts
 execution-facts = record { malformed = malformed_of; well_formed = allowed_of; axes_refused = axes_refused; budget_refused = budget_refused; count_byte = count_byte; reading_byte = reading_byte; named_reading = named_reading; decided = decided_of; ends = ends_of_lem; room = room_of; within = within_of; short_buffer = short_of; refusal_written = refusal_of; report_written = report_of_lem }
 
--- What `run` counts are bytes of the buffer, whose length it kept.
-pub report_room : (bytes before after : List ℕ) (r : status.RunStatus) (count : ℕ) → record { answer = answer_in bytes r; buffer = after } ≡ run_on bytes before → length after ≡ length before
-    → r ≡ statuses.Written count → count ≤ length after
-report_room bytes before after r count e l w =
-    let within = execution-facts.within bytes before count (ap (answer_in bytes) (sym w) ∙ ap (λ (x : RunResult). x.answer) e) in
-    omega (arith, within, l)
+-- ---- a buffer that is long enough
+
+never : (n : ℕ) (r : Result) (count : ℕ) → too_short ≡ written_for n r count → ⊥
+unfolding written_for
+never n (refused_at number byte) count e = cc
+never n (ended x m i) count e = cc
+never n unfinished count e = cc
+
+pub never_short : (c before after : List ℕ) (x : TooShort) → 512 ≤ length before → record { answer = answer_in c (Err x); buffer = after } ≡ run_on c before → ⊥
+unfolding answer_in
+never_short c before after x h e = never (entry_count c) (result_of c) _ (ap (λ (y : RunResult). y.answer) (e ∙ written_of c before (result_of c) h refl))
+
+-- its front is the text
+pub text_left : (c before after : List ℕ) (n : ℕ) → 512 ≤ length before → record { answer = answer_in c (Ok n); buffer = after } ≡ run_on c before → take n after ≡ text_of c
+unfolding answer_in text_of
+text_left c before after n h e = let all = e ∙ written_of c before (result_of c) h refl in
+    let count : n ≡ length (text_in (entry_count c) (result_of c)) = sym (counted_written (entry_count c) (result_of c) n) ∙ ap (λ (y : RunResult). counted y.answer) all ∙ counted_written (entry_count c) (result_of c) (length (text_in (entry_count c) (result_of c))) in
+    ap (λ k. take k after) count ∙ ap (λ (y : RunResult). take (length (text_in (entry_count c) (result_of c))) y.buffer) all
+    ∙ take-append_seam (text_in (entry_count c) (result_of c)) (drop (length (text_in (entry_count c) (result_of c))) before)

@@ -11,9 +11,11 @@ use lib.Dec.{eqb}
 use lib.IntN.{ℤ}
 use lib.ListN.{length}
 use Rattle.area.specs.declared.JobRecord.{JobRecord}
+use Rattle.area.specs.declared.IndexRecord.{IndexRecord}
 use Rattle.area.specs.Records.{records_of, held_in}
 use Rattle.area.specs.Encoding.{Area, area_of, entries_of, machine_of, written}
 use Rattle.area.specs.Log.{Machine}
+use Rattle.area.proofs.PackedRuns.{held_count}
 use Rattle.soundness.specs.Held.{state_at}
 use Rattle.machine.specs.Log.{first_wanted, any_wanted, Active}
 use Rattle.machine.specs.Choose as choice
@@ -27,21 +29,15 @@ use Rattle.writing.proofs.Areas.{state_is}
 use Rattle.writing.proofs.After.{machine_sound}
 use Rattle.promotion.specs.declared.Outcome as outcome
 use Rattle.promotion.specs.declared.Outcome.TheVariants as outcomes
-use Rattle.promotion.specs.declared.Choice as chosen
-use Rattle.promotion.specs.declared.Choice.TheVariants as choices
-use Rattle.promotion.specs.Outcomes.{choice_of, outcome_of}
+use Rattle.promotion.specs.Outcomes.{outcome_of, promotion_of}
 use Rattle.promotion.proofs.Choosing.{chosen_active}
 use Rattle.calls.proofs.Causes.{wanted-yes, wanted_no}
-use Rattle.calls.proofs.Validity.{wanted-place, entries_count}
+use Rattle.calls.proofs.Validity.{held_there, wanted-place, entries_count}
 use Rattle.calls.proofs.Written.{written_state}
 use Rattle.jobfile.specs.Form.{entry_count}
 use Rattle.jobfile.specs.File.{entry_of}
-use Rattle.reporting.specs.Text.{short}
-use Rattle.reporting.specs.Code.{ending_in}
-use Rattle.running.specs.declared.EntryDelivery as delivery
-use Rattle.running.specs.declared.EntryDelivery.TheVariants as deliveries
+use Rattle.reporting.specs.Text.{spent, short}
 use Rattle.running.specs.Execution.{refused_at, ended, delivery_cause, delivery_byte, by_outcome, by_choice, execution}
-use Rattle.running.specs.Code.{after_delivery, ValidDelivery, step_of_delivery, step_promoted, after_step, StepPostcondition}
 
 -- ---- the three ways of the definition
 
@@ -64,91 +60,85 @@ module _ (c : List ℕ) (n : ℕ) (m : Machine) (i : ℕ) where
 -- ---- in a valid area
 
 module _ (j : JobRecord) (cells : List ℕ) (store : List ℤ) (st : ValidArea (area_of j cells store)) where
-  module _ (p : ℕ) (e : p ≡ first_wanted (heads_of (held_in cells j.held))) where
-    pub place_is : p ≡ first_wanted (entries_of (area_of j cells store))
-    place_is = e ∙ wanted-place j cells store st
+  -- what the scan of the held records for a wanted place tells
+  module _ (rs : List IndexRecord) (are : rs ≡ held_in cells j.held) where
+    first : first_wanted (heads_of rs) ≡ first_wanted (entries_of (area_of j cells store))
+    first = rw are (wanted-place j cells store st)
 
-    pub wanted_there : p < j.held → any_wanted (machine_of (area_of j cells store)).log.entries ≡ true
+    count : length rs ≡ j.held
+    count = ap length are ∙ held_count cells j.held (held_there j cells store st)
+
+    pub none_there : length rs ≡ first_wanted (heads_of rs) → length (entries_of (area_of j cells store)) ≤ first_wanted (entries_of (area_of j cells store))
+    none_there e = omega (arith, first, count, e, entries_count j cells store st)
+
+    pub wanted-none : length rs ≡ first_wanted (heads_of rs) → any_wanted (machine_of (area_of j cells store)).log.entries ≡ false
     unfolding machine_of
-    wanted_there h = wanted-yes (machine_of (area_of j cells store)).log (omega (arith, place_is, h, entries_count j cells store st))
+    wanted-none e = wanted_no (machine_of (area_of j cells store)).log (none_there e)
 
-    pub none_there : j.held ≤ p → length (entries_of (area_of j cells store)) ≤ first_wanted (entries_of (area_of j cells store))
-    none_there h = omega (arith, place_is, h, entries_count j cells store st)
+    module _ (p : ℕ) (e : p ≡ first_wanted (heads_of rs)) (h : p < length rs) where
+      pub place_is : (p ≡ first_wanted (entries_of (area_of j cells store))) × (p < j.held)
+      place_is = (e ∙ first, omega (arith, h, count))
 
-    pub wanted-none : j.held ≤ p → any_wanted (machine_of (area_of j cells store)).log.entries ≡ false
-    unfolding machine_of
-    wanted-none h = wanted_no (machine_of (area_of j cells store)).log (none_there h)
-
-  -- a delivery
-  module _ (c : List ℕ) (i entries : ℕ) (inside : i < entries) (cells₁ : List ℕ) (store₁ : List ℤ) where
-    pub delivery_step : (g : delivery.EntryDelivery) (n : ℕ) → after_delivery c n i g cells₁ store₁ ≡ after_step c n i (machine_of (area_of j cells store)) (step_of_delivery g) cells₁ store₁
-    unfolding after_delivery after_step step_of_delivery
-    delivery_step (deliveries.Refused number byte) n = refl
-    delivery_step (deliveries.Done job) n = refl
-
-    pub delivery_left : (g : delivery.EntryDelivery) → ValidDelivery g cells₁ store₁ → StepPostcondition entries i j cells store (step_of_delivery g) cells₁ store₁
-    unfolding step_of_delivery
-    delivery_left (deliveries.Refused number byte) s = tt
-    delivery_left (deliveries.Done job) s = (s, inside)
+      pub wanted_there : any_wanted (machine_of (area_of j cells store)).log.entries ≡ true
+      unfolding machine_of
+      wanted_there = wanted-yes (machine_of (area_of j cells store)).log (omega (arith, place_is.0, place_is.1, entries_count j cells store st))
 
   -- a place that is chosen
-  module _ (x : chosen.Choice) (p : ℕ) (told : x ≡ choices.Place p) where
-    pub chosen_place_lem : choice_of x ≡ choice.choose (machine_of (area_of j cells store)).log → (p < j.held) × (state_at (records_of cells) p ≡ 1)
-    chosen_place_lem is = chosen_active j cells store st p (sym is ∙ ap choice_of told ∙ unfold choice_of in refl)
-
-    pub way_place : (c : List ℕ) (n i : ℕ)
-        → by_choice (choice_of x) (machine_of (area_of j cells store)) i (λ q. execution c n (promote_step (machine_of (area_of j cells store)) q) i)
-        ≡ by_outcome (refining.promote_at (machine_of (area_of j cells store)).log p).outcome (machine_of (area_of j cells store)) i (execution c n (promote_step (machine_of (area_of j cells store)) p) i)
-    way_place c n i =
-        ap (λ y. by_choice (choice_of y) (machine_of (area_of j cells store)) i (λ q. execution c n (promote_step (machine_of (area_of j cells store)) q) i)) told ∙ unfold choice_of by_choice in refl
-
-  -- the promotion of an active place
-  module _ (p : ℕ) (active : (p < j.held) × (state_at (records_of cells) p ≡ 1)) (job : JobRecord) (cells₁ : List ℕ) where
+  module _ (p : ℕ) (is : choice.choose (machine_of (area_of j cells store)).log ≡ choice.place p) where
     abbrev m : Machine
     m = machine_of (area_of j cells store)
 
+    pub chosen_place_lem : (p < j.held) × (state_at (records_of cells) p ≡ 1)
+    chosen_place_lem = chosen_active j cells store st p is
+
     active-entry : Active (entries_of (area_of j cells store)) p
-    active-entry = record { place = inside; active = state_is (area_of j cells store) st p inside ∙ active.1 }
+    active-entry = record { place = inside; active = state_is (area_of j cells store) st p inside ∙ chosen_place_lem.1 }
       where
         inside : p < length (entries_of (area_of j cells store))
-        inside = omega (arith, active.0, entries_count j cells store st)
+        inside = omega (arith, chosen_place_lem.0, entries_count j cells store st)
 
-    next_state : area_of job cells₁ store ≡ written (area_of j cells store) (promote_step (machine_of (area_of j cells store)) p)
-        → machine_of (area_of job cells₁ store) ≡ promote_step (machine_of (area_of j cells store)) p
-    next_state e =
-        ap machine_of e
-        ∙ written_state (area_of j cells store) (promote_step (machine_of (area_of j cells store)) p)
-        (step_facts.promote (machine_of (area_of j cells store)) p (machine_sound (area_of j cells store) st) (unfold machine_of in active-entry))
+    -- its promotion
+    module _ (job : JobRecord) (cells₁ : List ℕ) where
+      next_state : area_of job cells₁ store ≡ written (area_of j cells store) (promote_step (machine_of (area_of j cells store)) p)
+          → machine_of (area_of job cells₁ store) ≡ promote_step (machine_of (area_of j cells store)) p
+      next_state e =
+          ap machine_of e
+          ∙ written_state (area_of j cells store) (promote_step (machine_of (area_of j cells store)) p)
+          (step_facts.promote (machine_of (area_of j cells store)) p (machine_sound (area_of j cells store) st) (unfold machine_of in active-entry))
 
-    same_area : area_of job cells₁ store ≡ area_of j cells store → area_of j cells₁ store ≡ area_of j cells store
-    same_area e = ap {B = Area} (λ x. record { job = j; run = x.run; store = store }) e
+      module _ (o : outcome.Outcome) (by : promotion_of o job cells₁ store ≡ promote_on (area_of j cells store) p) where
+        outcome_is : outcome_of o ≡ (refining.promote_at (machine_of (area_of j cells store)).log p).outcome
+        unfolding refine_on machine_of
+        outcome_is = ap (λ (x : AreaPromotion). x.outcome) by
 
-    module _ (o : outcome.Outcome) (is : record { outcome = outcome_of o; area = area_of job cells₁ store } ≡ promote_on (area_of j cells store) p) where
-      outcome_is : outcome_of o ≡ (refining.promote_at (machine_of (area_of j cells store)).log p).outcome
-      unfolding refine_on machine_of
-      outcome_is = ap (λ (x : AreaPromotion). x.outcome) is
+        area_is : area_of job cells₁ store ≡ changed_by (outcome_of o) (area_of j cells store) (written (area_of j cells store) (promote_step (machine_of (area_of j cells store)) p))
+        unfolding refine_on machine_of promote_step
+        area_is =
+            ap (λ (x : AreaPromotion). x.area) by
+            ∙ ap (λ x. changed_by x (area_of j cells store) (written (area_of j cells store) (promote_step (machine_of (area_of j cells store)) p))) (sym outcome_is)
 
-      area_is : area_of job cells₁ store ≡ changed_by (outcome_of o) (area_of j cells store) (written (area_of j cells store) (promote_step (machine_of (area_of j cells store)) p))
-      unfolding refine_on machine_of promote_step
-      area_is =
-          ap (λ (x : AreaPromotion). x.area) is
-          ∙ ap (λ x. changed_by x (area_of j cells store) (written (area_of j cells store) (promote_step (machine_of (area_of j cells store)) p))) (sym outcome_is)
+        way_place : (c : List ℕ) (n i : ℕ)
+            → by_choice (choice.choose (machine_of (area_of j cells store)).log) (machine_of (area_of j cells store)) i (λ q. execution c n (promote_step (machine_of (area_of j cells store)) q) i)
+            ≡ by_outcome (outcome_of o) (machine_of (area_of j cells store)) i (execution c n (promote_step (machine_of (area_of j cells store)) p) i)
+        unfolding by_choice
+        way_place c n i =
+            ap (λ x. by_choice x (machine_of (area_of j cells store)) i (λ q. execution c n (promote_step (machine_of (area_of j cells store)) q) i)) is
+            ∙ ap (λ x. by_outcome x (machine_of (area_of j cells store)) i (execution c n (promote_step (machine_of (area_of j cells store)) p) i)) (sym outcome_is)
 
-      pub promoted_step : (c : List ℕ) (n i : ℕ) → by_outcome (refining.promote_at (machine_of (area_of j cells store)).log p).outcome (machine_of (area_of j cells store)) i (execution c n (promote_step (machine_of (area_of j cells store)) p) i)
-          ≡ after_step c n i (machine_of (area_of j cells store)) (step_promoted o job) cells₁ store
-      promoted_step c n i =
-          ap (λ x. by_outcome x (machine_of (area_of j cells store)) i (execution c n (promote_step (machine_of (area_of j cells store)) p) i)) (sym outcome_is) ∙ by o area_is
-        where
-          by : (x : outcome.Outcome) → area_of job cells₁ store ≡ changed_by (outcome_of x) (area_of j cells store) (written (area_of j cells store) (promote_step (machine_of (area_of j cells store)) p))
-              → by_outcome (outcome_of x) (machine_of (area_of j cells store)) i (execution c n (promote_step (machine_of (area_of j cells store)) p) i)
-              ≡ after_step c n i (machine_of (area_of j cells store)) (step_promoted x job) cells₁ store
-          by outcomes.Spent e = unfold by_outcome outcome_of step_promoted after_step ending_in in refl
-          by outcomes.Promoted e = unfold by_outcome outcome_of step_promoted after_step changed_by in ap (λ (y : Machine). execution c n y i) (sym (next_state (unfold outcome_of changed_by in e)))
+      -- spent, it leaves the state
+      pub spent_step : promotion_of outcomes.Spent job cells₁ store ≡ promote_on (area_of j cells store) p → (c : List ℕ) (n i : ℕ)
+          → by_choice (choice.choose (machine_of (area_of j cells store)).log) (machine_of (area_of j cells store)) i (λ q. execution c n (promote_step (machine_of (area_of j cells store)) q) i)
+          ≡ ended spent (machine_of (area_of job cells₁ store)) i
+      spent_step by c n i =
+          way_place outcomes.Spent by c n i
+          ∙ unfold outcome_of by_outcome changed_by in
+          ap (λ (x : Area). ended spent (machine_of x) i) (sym (area_is outcomes.Spent by))
 
-      pub promoted_left : (entries i : ℕ) → ValidArea (area_of job cells₁ store) → StepPostcondition entries i j cells store (step_promoted o job) cells₁ store
-      promoted_left entries i s = by o area_is
-        where
-          by : (x : outcome.Outcome) → area_of job cells₁ store ≡ changed_by (outcome_of x) (area_of j cells store) (written (area_of j cells store) (promote_step (machine_of (area_of j cells store)) p))
-              → StepPostcondition entries i j cells store (step_promoted x job) cells₁ store
-          by outcomes.Spent e = unfold step_promoted in same_area (unfold outcome_of changed_by in e)
-          by outcomes.Promoted e = unfold step_promoted in s
+      -- promoted, it leaves the next one
+      pub promoted_step : promotion_of outcomes.Promoted job cells₁ store ≡ promote_on (area_of j cells store) p → (c : List ℕ) (n i : ℕ)
+          → by_choice (choice.choose (machine_of (area_of j cells store)).log) (machine_of (area_of j cells store)) i (λ q. execution c n (promote_step (machine_of (area_of j cells store)) q) i)
+          ≡ execution c n (machine_of (area_of job cells₁ store)) i
+      promoted_step by c n i =
+          way_place outcomes.Promoted by c n i
+          ∙ unfold outcome_of by_outcome changed_by in
+          ap (λ (y : Machine). execution c n y i) (sym (next_state (area_is outcomes.Promoted by)))

@@ -1,12 +1,13 @@
 -- A whole run: what start leaves in storage of the run's own, and the text of a file case by case.
 -- Assumes nothing.
-use mathlib.Core.Path.{◌≡◌, refl, ap, sym, ◌∙◌, subst}
+use mathlib.Core.Path.{◌≡◌, refl, ap, ap₂, sym, ◌∙◌}
 use mathlib.Core.Bool.{cond}
 use mathlib.Core.List.{List}
 use Prim.Native.Nat.{ℕ, ◌/◌, ◌<◌, ◌≤◌}
 use native.Mathlib.Omega.{arith}
 use borrow.Author.Tests.{lt-ltb, le-ltb, ne_eqb}
 use lib.Dec.{eqb}
+use Rattle.std.specs.Prelude.{Ok, Err}
 use lib.IntN.{ℤ, pos}
 use lib.ListN.{length}
 use Rattle.area.specs.declared.Settings.{Settings}
@@ -22,14 +23,18 @@ use Rattle.writing.specs.Changes.{root_record}
 use Rattle.writing.specs.ValidArea.{ValidArea}
 use Rattle.writing.proofs.Facts.{write_facts}
 use Rattle.writing.proofs.After.{written_valid}
+use Rattle.calls.proofs.Found.{not_zero}
 use Rattle.calls.proofs.Accepted.{startable}
 use Rattle.calls.proofs.Written.{written_state}
 use Rattle.jobfile.specs.Form.{Fault, formed, broken, form_of, entry_count}
 use Rattle.reporting.specs.Text.{refusal_text}
-use Rattle.running.specs.declared.RunStatus.TheVariants as statuses
+use Rattle.running.specs.declared.Refusal.{Refusal}
+use Rattle.running.specs.declared.RefusalCause.{RefusalCause}
+use Rattle.running.specs.declared.RefusalCause.TheVariants as causes
+use Rattle.running.specs.declared.TooShort.{TooShort}
 use Rattle.running.specs.Execution.{own_lengths, refused_at, execution, step_limit, start_byte, start_cause, result_in, result_of, file_settings}
 use Rattle.running.specs.Report.{text_in, text_of}
-use Rattle.running.specs.Code.{Printed, written_for, answer_in, run_on}
+use Rattle.running.specs.Code.{number_of, Printed, written_for, answer_in, run_on}
 
 -- ---- what start leaves
 
@@ -60,54 +65,40 @@ module _ (g : Settings) (none : first_cause (start_causes own_lengths g) ≡ 0) 
 
 -- ---- the text of a file
 
-module _ (c : List ℕ) (n : ℕ) (before after : List ℕ) (end : ℕ) where
+has_number : (x : RefusalCause) → number_of x ≡ 0 → ⊥
+has_number causes.Header e = omega (arith, e)
+has_number causes.Entry e = omega (arith, e)
+has_number causes.Readings e = omega (arith, e)
+has_number (causes.Call d) e = not_zero d e
+
+module _ (c : List ℕ) where
   -- of the wrong form
-  pub form_refused : (f : Fault) → form_of c ≡ broken f → Printed (refusal_text f.number f.byte) before after end → Printed (text_of c) before after end
-  form_refused f e p = subst (λ x. Printed x before after end) (sym text_is) p
-    where
-      text_is : text_of c ≡ refusal_text f.number f.byte
-      text_is = unfold text_of result_of result_in text_in in ap (λ x. text_in (entry_count c) (result_in x c)) e
+  pub broken_text : (f : Fault) → form_of c ≡ broken f → text_of c ≡ refusal_text f.number f.byte
+  unfolding text_of result_of result_in text_in
+  broken_text f e = ap (λ x. text_in (entry_count c) (result_in x c)) e
 
+  -- of the right form: start refuses, or it goes its course
   module _ (right : form_of c ≡ formed) where
-    of_form : text_of c ≡ text_in (entry_count c) (cond (eqb (start_cause c) 0) (execution c step_limit (started (file_settings c)) 0) (refused_at (start_cause c) (start_byte (start_cause c))))
-    unfolding text_of result_of result_in
-    of_form = ap (λ x. text_in (entry_count c) (result_in x c)) right
+    of_form : result_of c ≡ cond (eqb (start_cause c) 0) (execution c step_limit (started (file_settings c)) 0) (refused_at (start_cause c) (start_byte (start_cause c)))
+    unfolding result_of result_in
+    of_form = ap (λ x. result_in x c) right
 
-    -- start refuses
-    pub start_refused : (k byte : ℕ) → k ≡ start_cause c → (k ≡ 0 → ⊥) → start_byte k ≡ byte → Printed (refusal_text k byte) before after end → Printed (text_of c) before after end
-    start_refused k byte e some b p = subst (λ x. Printed x before after end) (sym text_is) p
-      where
-        text_is : text_of c ≡ refusal_text k byte
-        text_is =
-            of_form
-            ∙ ap (λ x. text_in (entry_count c) (cond (eqb x 0) (execution c step_limit (started (file_settings c)) 0) (refused_at x (start_byte x)))) (sym e)
-            ∙ ap (λ t. text_in (entry_count c) (cond t (execution c step_limit (started (file_settings c)) 0) (refused_at k (start_byte k)))) (ne_eqb k 0 some)
-            ∙ ap (λ x. text_in (entry_count c) (refused_at k x)) b
-            ∙ unfold text_in in refl
+    pub refused_start : (start_cause c ≡ 0 → ⊥) → result_of c ≡ refused_at (start_cause c) (start_byte (start_cause c))
+    refused_start f = of_form ∙ ap (λ t. cond t (execution c step_limit (started (file_settings c)) 0) (refused_at (start_cause c) (start_byte (start_cause c)))) (ne_eqb (start_cause c) 0 f)
 
-    -- it goes its course
-    pub runs : start_cause c ≡ 0 → Printed (text_in (entry_count c) (execution c 1025 (started (file_settings c)) 0)) before after end → Printed (text_of c) before after end
-    runs e p =
-        subst (λ x. Printed x before after end)
-        (sym (of_form ∙ ap (λ x. text_in (entry_count c) (cond (eqb x 0) (execution c step_limit (started (file_settings c)) 0) (refused_at x (start_byte x)))) e)) p
+    pub start_text : (r : Refusal) → number_of r.cause ≡ start_cause c → r.byte ≡ start_byte (start_cause c) → refusal_text (number_of r.cause) r.byte ≡ text_of c
+    unfolding text_of text_in
+    start_text r n b = ap₂ refusal_text n b ∙ sym (ap (text_in (entry_count c)) (refused_start (λ e. has_number r.cause (n ∙ e))))
+
+    pub executed : start_cause c ≡ 0 → result_of c ≡ execution c step_limit (started (file_settings c)) 0
+    executed e = of_form ∙ ap (λ k. cond (eqb k 0) (execution c step_limit (started (file_settings c)) 0) (refused_at k (start_byte k))) e
 
 -- ---- what run leaves
 
-pub too_short_lem : (c buffer : List ℕ) → length buffer < 512 → record { answer = answer_in c statuses.TooShort; buffer = buffer } ≡ run_on c buffer
+pub too_short_lem : (c buffer : List ℕ) (e : TooShort) → length buffer < 512 → record { answer = answer_in c (Err e); buffer = buffer } ≡ run_on c buffer
 unfolding run_on answer_in
-too_short_lem c buffer h = rw (lt-ltb (length buffer) 512 h) refl
+too_short_lem c buffer e h = rw (lt-ltb (length buffer) 512 h) refl
 
-pub printed : (c before after : List ℕ) (end : ℕ) → 512 ≤ length before → Printed (text_of c) before after end → record { answer = answer_in c (statuses.Written end); buffer = after } ≡ run_on c before
+pub printed : (c before after : List ℕ) (end : ℕ) → 512 ≤ length before → Printed (text_of c) before after end → record { answer = answer_in c (Ok end); buffer = after } ≡ run_on c before
 unfolding run_on answer_in
 printed c before after end h p = (λ i. record { answer = written_for (entry_count c) (result_of c) (p.count i); buffer = p.bytes i }) ∙ rw (le-ltb (length before) 512 h) refl
-
--- the cause is 2 where it is not 1
-pub later-byte : (k : ℕ) → (k ≡ 1 → ⊥) → start_byte k ≡ 4
-unfolding start_byte
-later-byte k f = ap (λ t. cond {A = ℕ} t 0 4) (ne_eqb k 1 f)
-
--- the number of entries read from the file
-pub same_run : (c before after : List ℕ) (end : ℕ) {g : Settings} {entries : ℕ} → g ≡ file_settings c → entries ≡ entry_count c
-    → Printed (text_in entries (execution c 1025 (started g) 0)) before after end
-    → Printed (text_in (entry_count c) (execution c 1025 (started (file_settings c)) 0)) before after end
-same_run c before after end e n p = rw (sym e, sym n) p

@@ -1,57 +1,58 @@
 -- What the code's answers come to.
-use Rattle.std.specs.Prelude.{◌≡◌, cond, List, ◌++◌, ℕ, ◌+◌, ◌-◌, ◌<◌, ltb, ℤ, length, drop}
-use Rattle.area.specs.declared.JobRecord.{JobRecord}
+use Rattle.std.specs.Prelude.{◌≡◌, cond, List, ◌++◌, ℕ, ◌+◌, ◌-◌, ◌<◌, ltb, ℤ, length, drop, ◌≤◌, Ok, Err, Option, Some, None}
+use Rattle.std.specs.Prelude as std
 use Rattle.area.specs.Log.{Machine}
 use Rattle.area.specs.Encoding.{area_of, machine_of}
 use Rattle.writing.specs.ValidArea.{ValidArea}
-use Rattle.promotion.specs.declared.Outcome as outcome
-use Rattle.promotion.specs.declared.Outcome.TheVariants as outcomes
-use Rattle.reporting.specs.declared.Ending.TheVariants as endings
-use Rattle.reporting.specs.Code.{ending_in}
-use Rattle.reporting.specs.Text.{ReportValues}
+use Rattle.calls.specs.Cause.{number_of_cause}
+use Rattle.reporting.specs.declared.ReportValues as coded
+use Rattle.reporting.specs.Code.{ending_in, report_values_in}
+use Rattle.reporting.specs.Text.{ReportValues, report_text, refusal_text}
 use Rattle.jobfile.specs.Form.{entry_count}
-use Rattle.running.specs.declared.EntryDelivery as delivery
-use Rattle.running.specs.declared.EntryDelivery.TheVariants as deliveries
-use Rattle.running.specs.declared.Step as step
-use Rattle.running.specs.declared.Step.TheVariants as steps
-use Rattle.running.specs.declared.RunStatus as status
-use Rattle.running.specs.declared.RunStatus.TheVariants as statuses
+use Rattle.running.specs.declared.Refusal.{Refusal}
+use Rattle.running.specs.declared.RefusalCause.{RefusalCause}
+use Rattle.running.specs.declared.RefusalCause.TheVariants as causes
+use Rattle.running.specs.declared.Execution.{Execution}
+use Rattle.reporting.specs.declared.Ending.{Ending}
+use Rattle.jobfile.specs.Facts.{FormedFile}
+use Rattle.running.specs.declared.TooShort.{TooShort}
 use Rattle.running.specs.Execution.{Result, refused_at, ended, unfinished, execution, result_of}
 use Rattle.running.specs.Report.{report_values_of, text_of}
 
--- The result of a run that goes on with a delivery, n steps at most after it: c are the file's bytes, i the entry, `cells` and `store` what
--- the delivery left.
-unfoldable pub after_delivery : List ℕ → (n i : ℕ) → delivery.EntryDelivery → (cells : List ℕ) (store : List ℤ) → Result
-after_delivery c n i (deliveries.Refused number byte) cells store = refused_at number byte
-after_delivery c n i (deliveries.Done job) cells store = execution c n (machine_of (area_of job cells store)) (i + 1)
+-- The number of a refusal's cause: 10, 12 or 13 for the part of the file whose form is broken, and a call's cause has its own.
+abbrev pub number_of : RefusalCause → ℕ
+number_of causes.Header = 10
+number_of causes.Entry = 12
+number_of causes.Readings = 13
+number_of (causes.Call cause) = number_of_cause cause
 
--- What was delivered left a valid area.
-abbrev pub ValidDelivery : delivery.EntryDelivery → List ℕ → List ℤ → Type 0
-ValidDelivery (deliveries.Refused number byte) cells store = Unit {0}
-ValidDelivery (deliveries.Done job) cells store = ValidArea (area_of job cells store)
+-- The state of an execution under way.
+abbrev pub state_of : Execution → Machine
+state_of r = machine_of (area_of r.job r.cells r.store)
 
--- A delivery, and a promotion's outcome, as a step.
-unfoldable pub step_of_delivery : delivery.EntryDelivery → step.Step
-step_of_delivery (deliveries.Refused number byte) = steps.Refused number byte
-step_of_delivery (deliveries.Done job) = steps.Delivered job
+-- It is the execution of a file c of the right form, in a valid area.
+pub record ValidExecution (c : List ℕ) (r : Execution) : Type 0 where
+  pub bytes : r.bytes.now ≡ c
+  pub formed : FormedFile c
+  pub entries : r.entries ≡ entry_count c
+  pub used : r.used ≤ r.entries
+  pub area : ValidArea (area_of r.job r.cells r.store)
 
-unfoldable pub step_promoted : outcome.Outcome → JobRecord → step.Step
-step_promoted outcomes.Spent job = steps.Ended endings.Spent
-step_promoted outcomes.Promoted job = steps.Promoted job
+-- The result of an execution of c that goes on with a delivery, n steps at most after it: r is what the delivery left.
+unfoldable pub after_delivery : List ℕ → (n : ℕ) → Execution → std.Result (Unit {0}) Refusal → Result
+after_delivery c n r (Err e) = refused_at (number_of e.cause) e.byte
+after_delivery c n r (Ok _) = execution c n (state_of r) r.used
 
--- The result of a run that goes on with a step from the state m with i entries delivered.
-unfoldable pub after_step : List ℕ → (n i : ℕ) → Machine → step.Step → (cells : List ℕ) (store : List ℤ) → Result
-after_step c n i m (steps.Refused number byte) cells store = refused_at number byte
-after_step c n i m (steps.Ended e) cells store = ended (ending_in e) m i
-after_step c n i m (steps.Delivered job) cells store = execution c n (machine_of (area_of job cells store)) (i + 1)
-after_step c n i m (steps.Promoted job) cells store = execution c n (machine_of (area_of job cells store)) i
+-- The same with a step, which says whether the execution has ended.
+unfoldable pub after_step : List ℕ → (n : ℕ) → Execution → std.Result (Option Ending) Refusal → Result
+after_step c n r (Err e) = refused_at (number_of e.cause) e.byte
+after_step c n r (Ok (Some e)) = ended (ending_in e) (state_of r) r.used
+after_step c n r (Ok None) = execution c n (state_of r) r.used
 
--- A step that goes on left a valid area, and delivered one of the entries; one that ends the run left the area. n are the entries.
-abbrev pub StepPostcondition : (n i : ℕ) → JobRecord → List ℕ → List ℤ → step.Step → List ℕ → List ℤ → Type 0
-StepPostcondition n i j c s (steps.Refused number byte) cells store = Unit {0}
-StepPostcondition n i j c s (steps.Ended e) cells store = area_of j cells store ≡ area_of j c s
-StepPostcondition n i j c s (steps.Delivered job) cells store = ValidArea (area_of job cells store) × (i < n)
-StepPostcondition n i j c s (steps.Promoted job) cells store = ValidArea (area_of job cells store)
+-- The text for what a run gives: the report of its figures, or the line of its refusal.
+abbrev pub text_for : std.Result coded.ReportValues Refusal → List ℕ
+text_for (Ok values) = report_text (report_values_in values)
+text_for (Err r) = refusal_text (number_of r.cause) r.byte
 
 -- A text at the beginning of a buffer, and its length.
 pub record Printed (text before after : List ℕ) (end : ℕ) : Type 0 where
@@ -78,9 +79,9 @@ written_for n unfinished count = nothing count
 
 -- The code's answer on the file c, case by case. Reports and refusals have one case: which of the two was written, with which figures or which
 -- number and byte, the file decides.
-unfoldable pub answer_in : (c : List ℕ) → status.RunStatus → RunAnswer
-answer_in c statuses.TooShort = too_short
-answer_in c (statuses.Written count) = written_for (entry_count c) (result_of c) count
+unfoldable pub answer_in : (c : List ℕ) → std.Result ℕ TooShort → RunAnswer
+answer_in c (Err _) = too_short
+answer_in c (Ok count) = written_for (entry_count c) (result_of c) count
 
 -- What `run` leaves: its answer and the buffer. A buffer of fewer than 512 bytes is left as it was.
 pub record RunResult : Type 0 where

@@ -1,6 +1,6 @@
 -- What a run comes to, for every list of bytes; that it ends by itself, the limit on its steps being never what ends it; and that 512 bytes
 -- suffice for its text.
-use Rattle.std.specs.Prelude.{◌≡◌, ◌⊎◌, false, List, ◌++◌, ℕ, ◌+◌, ◌*◌, ◌-◌, ◌<◌, ◌≤◌, ℤ, pos, length, get_or, take, drop}
+use Rattle.std.specs.Prelude.{◌≡◌, ◌⊎◌, false, List, ◌++◌, ℕ, ◌+◌, ◌*◌, ◌-◌, ◌<◌, ◌≤◌, ℤ, pos, length, get_or, take, drop, Ok}
 use Rattle.grid.specs.Terms.{IsReading}
 use Rattle.area.specs.Log.{Machine}
 use Rattle.encoding.specs.Entries.{SoundMachine}
@@ -10,7 +10,6 @@ use Rattle.jobfile.specs.Bytes.{four, signed_four}
 use Rattle.jobfile.specs.Form.{Fault, formed, broken, form_of, entry_count, entry_byte}
 use Rattle.jobfile.specs.File.{entry_of}
 use Rattle.reporting.specs.Text.{Ending, ReportValues, report_text, refusal_text}
-use Rattle.running.specs.declared.RunStatus.TheVariants as statuses
 use Rattle.running.specs.Execution.{Result, refused_at, ended, unfinished, first_out_of_range, delivery_byte, result_of}
 use Rattle.running.specs.Report.{report_values_of, text_of}
 use Rattle.running.specs.Code.{too_short, report, refusal, answer_in, run_on}
@@ -76,7 +75,7 @@ pub record ExecutionFacts : Type 0 where
   pub ends : (c : List ℕ) → result_of c ≡ unfinished → ⊥
   pub room : (c : List ℕ) → length (text_of c) ≤ 512
   -- so what an answer counts are bytes of the buffer
-  pub within : (c buffer : List ℕ) (n : ℕ) → answer_in c (statuses.Written n) ≡ (run_on c buffer).answer → n ≤ length buffer
+  pub within : (c buffer : List ℕ) (n : ℕ) → answer_in c (Ok n) ≡ (run_on c buffer).answer → n ≤ length buffer
   -- too short has no number and leaves the buffer
   pub short_buffer : (c buffer : List ℕ) → length buffer < 512 → run_on c buffer ≡ record { answer = too_short; buffer = buffer }
   -- a refusal is written with its number and byte, and a report with its figures, each at the front of the buffer, whose later bytes stay

@@ -1,271 +1,240 @@
 #![tactic(auto)]
 // A job file's run, from bytes to report.
-ghost use Rattle.std.specs.Prelude.{◌≡◌, List, ◌++◌, ℕ, suc, ◌+◌, ◌*◌, ◌<◌, ◌≤◌, length, drop};
+ghost use Rattle.std.specs.Prelude.{◌≡◌, List, not, ℕ, suc, ◌+◌, ◌-◌, ◌*◌, ◌<◌, ◌≤◌, leb, nat_abs, length, position, Ok, Err, OnOk};
 ghost use Rattle.area.specs.Encoding.{area_of, entries_of, machine_of};
 ghost use Rattle.machine.specs.Log.{first_wanted};
 ghost use Rattle.machine.specs.Choose.{choose};
+ghost use Rattle.machine.specs.Causes.{first_cause, start_causes};
 ghost use Rattle.machine.specs.Steps.{started, deliver, promote_step};
 ghost use Rattle.writing.specs.ValidArea.{ValidArea};
 ghost use Rattle.promotion.specs.Outcomes.{choice_of};
-ghost use Rattle.jobfile.specs.Form.{formed, form_of, entry_count};
+ghost use Rattle.calls.specs.Cause.{number_of_cause};
+ghost use Rattle.jobfile.specs.Form.{formed, broken, form_of, form_in, entry_count};
 ghost use Rattle.jobfile.specs.File.{readings_at, entry_of};
 ghost use Rattle.jobfile.specs.Facts.{FormedFile};
-ghost use Rattle.running.specs.Execution.{own_lengths, file_settings, first_out_of_range, unless_refused, by_choice, execution as execution_of};
-ghost use Rattle.machine.specs.Causes.{first_cause, start_causes};
-ghost use Rattle.reporting.specs.Text.{report_text};
-ghost use Rattle.reporting.specs.Code.{ending_in};
-ghost use Rattle.running.specs.Report.{report_values_of, text_in, text_of};
-ghost use Rattle.running.specs.Code.{after_delivery, ValidDelivery, step_of_delivery, step_promoted, after_step, StepPostcondition, Printed, answer_in, run_on};
+ghost use Rattle.running.specs.Execution.{own_lengths, file_settings, start_cause, start_byte, unless_refused, by_choice, execution as execution_of};
+ghost use Rattle.reporting.specs.Code.{ending_in, report_values_in};
+ghost use Rattle.running.specs.Report.{report_values_of, text_of};
+ghost use Rattle.running.specs.Code.{number_of, state_of, ValidExecution, after_delivery, after_step, text_for, answer_in, run_on};
 
-// What a run answers: the buffer is too short for a report, or the text is in it, so many bytes long. `answer_in` (specs/Code.antt) says what
-// each case stands for.
+// The buffer is too short for a report. This is no cause of the table, and has no number.
+#[derive(Clone, Copy, PartialEq, Eq)]
+pub struct TooShort;
+
+// Why a file is refused: a rule of form is broken in one of its parts, or a call refuses. A fault of form has its byte inside the case, where the definition of the
+// form has it; here the cause stands alone, as a refusal's line says it.
 #[derive(Clone, Copy)]
-pub enum RunStatus {
-    TooShort,
-    Written(usize),
+enum RefusalCause {
+    Header,
+    Entry,
+    Readings,
+    Call(calls::Cause),
 }
 
-// One step of a run: refused by a cause that names a byte, ended, or the job record after a delivery or a promotion.
-#[derive(Clone, Copy)]
-enum Step {
-    Refused(u32, usize),
-    Ended(reporting::Ending),
-    Delivered(area::JobRecord),
-    Promoted(area::JobRecord),
-}
+impl From<RefusalCause> for u32 {
+    ghost from_gives = { λ cause number. number ≡ number_of cause };
 
-// An entry delivered, with the job record after it, or refused by a cause that names a byte.
-#[derive(Clone, Copy)]
-enum EntryDelivery {
-    Refused(u32, usize),
-    Done(area::JobRecord),
-}
-
-// Reads readings from the file's bytes into the front of a block; what lies past them stays.
-fn read_block(bytes: &[u8], from: usize, count: usize, block: &mut [i32])
-    requires { (from + 4 * count ≤ length bytes.now) × (count ≤ length block.old) }
-    ensures { block.new ≡ readings_at bytes.now count from ++ drop count block.old }
-{
-    let mut n: usize = 0;
-    while n < count {
-        block[n] = jobfile::signed_at(bytes, from + 4 * n);
-        n += 1;
-    }
-}
-
-// How many readings come before the first that is out of range.
-fn first_out_of_range(readings: &[i32]) -> usize
-    ensures { result ≡ first_out_of_range readings.now }
-{
-    let count = readings.len();
-    let mut n: usize = 0;
-    while n < count {
-        let reading = readings[n];
-        if reading < -1048576 {
-            return n;
-        }
-        if 1048576 < reading {
-            return n;
-        }
-        n += 1;
-    }
-    n
-}
-
-// Delivers entry i of the file, whose readings go through `block`, as the first wanted block, which is that at `place`.
-fn deliver_entry(
-    job: area::JobRecord,
-    place: usize,
-    i: usize,
-    bytes: &[u8],
-    block: &mut [i32],
-    cells: &mut [u32],
-    store: &mut [i32],
-) -> EntryDelivery
-    requires valid_area { ValidArea (area_of job cells.old store.old) × (place ≡ first_wanted (entries_of (area_of job cells.old store.old))) × (place < job.held) }
-    requires formed_file { FormedFile bytes.now × (i < entry_count bytes.now) × (8192 ≤ length block.old) }
-    ensures is { (n : ℕ) → unless_refused bytes.now (machine_of (area_of job cells.old store.old)) i (execution_of bytes.now n (deliver (machine_of (area_of job cells.old store.old)) (entry_of bytes.now i).readings (entry_of bytes.now i).indicator) (i + 1)) ≡ after_delivery bytes.now n i result cells.new store.new }
-    ensures valid { ValidDelivery result cells.new store.new }
-{
-    let at = 24 + 12 * i;
-    let indicator = jobfile::four_at(bytes, at);
-    let count = jobfile::four_at(bytes, at + 4) as usize;
-    let from = jobfile::four_at(bytes, at + 8) as usize;
-    let settings = job.settings;
-    let size = area::reading_count(settings, area::levels_at(cells, place));
-    if count != size {
-        return EntryDelivery::Refused(7, at + 4);
-    }
-    read_block(bytes, from, count, block);
-    let bad = first_out_of_range(&block[..count]);
-    if bad < count {
-        return EntryDelivery::Refused(8, from + 4 * bad);
-    }
-    let after = delivery::deliver(job, place, &block[..count], indicator, cells, store);
-    EntryDelivery::Done(after)
-}
-
-// A delivery as a step.
-fn step_of_delivery(delivery: EntryDelivery) -> Step
-    ensures { result ≡ step_of_delivery delivery }
-{
-    match delivery {
-        EntryDelivery::Refused(number, byte) => Step::Refused(number, byte),
-        EntryDelivery::Done(job) => Step::Delivered(job),
-    }
-}
-
-// A promotion as a step.
-fn step_of_promotion(outcome: promotion::Outcome, job: area::JobRecord) -> Step
-    ensures { result ≡ step_promoted outcome job }
-{
-    match outcome {
-        promotion::Outcome::Spent => Step::Ended(reporting::Ending::Spent),
-        promotion::Outcome::Promoted => Step::Promoted(job),
-    }
-}
-
-// The place chosen is promoted; met and capped end the run.
-fn promote_chosen(
-    job: area::JobRecord,
-    choice: promotion::Choice,
-    cells: &mut [u32],
-    store: &[i32],
-) -> Step
-    requires valid_area { ValidArea (area_of job cells.old store.now) × (length (entries_of (area_of job cells.old store.now)) ≤ first_wanted (entries_of (area_of job cells.old store.now))) }
-    requires choice_value { choice_of choice ≡ choose (machine_of (area_of job cells.old store.now)).log }
-    ensures is { (bytes : List ℕ) (n used : ℕ) → by_choice (choice_of choice) (machine_of (area_of job cells.old store.now)) used (λ p. execution_of bytes n (promote_step (machine_of (area_of job cells.old store.now)) p) used) ≡ after_step bytes n used (machine_of (area_of job cells.old store.now)) result cells.new store.now }
-    ensures left { (n used : ℕ) → StepPostcondition n used job cells.old store.now result cells.new store.now }
-{
-    match choice {
-        promotion::Choice::Met => Step::Ended(reporting::Ending::Met),
-        promotion::Choice::Capped => Step::Ended(reporting::Ending::Capped),
-        promotion::Choice::Place(place) => {
-            let budget = job.settings.budget;
-            let promotion = promotion::refine(job, place, budget, cells, store);
-            let outcome = promotion.outcome;
-            let after = promotion.job;
-            step_of_promotion(outcome, after)
+    fn from(cause: RefusalCause) -> u32 {
+        match cause {
+            RefusalCause::Header => 10,
+            RefusalCause::Entry => 12,
+            RefusalCause::Readings => 13,
+            RefusalCause::Call(cause) => u32::from(cause),
         }
     }
 }
 
-// One step: the next entry is delivered while a block is wanted, else it chooses, and promotes the place that is chosen.
-fn next_step(
-    job: area::JobRecord,
-    used: usize,
+// A refusal: its cause, and the byte that it names.
+#[derive(Clone, Copy)]
+struct Refusal {
+    cause: RefusalCause,
+    byte: usize,
+}
+
+impl From<jobfile::FormError> for Refusal {
+    ghost from_gives = { λ error refusal. form_in (Err error) ≡ broken (record { number = number_of refusal.cause; byte = refusal.byte }) };
+
+    fn from(error: jobfile::FormError) -> Refusal {
+        match error {
+            jobfile::FormError::Header(byte) => Refusal {
+                cause: RefusalCause::Header,
+                byte,
+            },
+            jobfile::FormError::Entry(byte) => Refusal {
+                cause: RefusalCause::Entry,
+                byte,
+            },
+            jobfile::FormError::Readings(byte) => Refusal {
+                cause: RefusalCause::Readings,
+                byte,
+            },
+        }
+    }
+}
+
+// Reads readings from the file's bytes into a block, which they fill.
+fn read_block(bytes: &[u8], from: usize, block: &mut [i32])
+    requires { from + 4 * length block.old ≤ length bytes.now }
+    ensures { block.new ≡ readings_at bytes.now (length block.old) from }
+{
+    for (n, reading) in block.iter_mut().enumerate() {
+        *reading = jobfile::signed_at(bytes, from + 4 * n);
+    }
+}
+
+// Which reading is the first that is out of range.
+fn first_out_of_range(readings: &[i32]) -> Option<usize>
+    ensures { result ≡ position (λ x. not (leb (nat_abs x) 1048576)) readings.now }
+{
+    readings
+        .iter()
+        .position(|reading| !checking::is_reading(*reading))
+}
+
+// A run under way: the file's bytes and the number of its entries, how many of them are delivered, and the area, with a block through which
+// readings go. 512 records, and 8,192 readings for the store and for a block. What holds of it (`ValidExecution`) is a clause of its methods and no ghost
+// field: of a run that was refused it is not said. The arrays are those of the program, which has no heap.
+#[derive(Drop)]
+struct Execution<'a> {
+    bytes: &'a [u8],
     entries: usize,
-    bytes: &[u8],
-    block: &mut [i32],
-    cells: &mut [u32],
-    store: &mut [i32],
-) -> Step
-    requires { ValidArea (area_of job cells.old store.old) × FormedFile bytes.now × (entries ≡ entry_count bytes.now) × (8192 ≤ length block.old) }
-    ensures is { (n : ℕ) → execution_of bytes.now (suc n) (machine_of (area_of job cells.old store.old)) used ≡ after_step bytes.now n used (machine_of (area_of job cells.old store.old)) result cells.new store.new }
-    ensures left { StepPostcondition entries used job cells.old store.old result cells.new store.new }
-{
-    let held = job.held as usize;
-    let place = delivery::first_wanted(held, cells);
-    if place < held {
-        if entries <= used {
-            return Step::Ended(reporting::Ending::Short);
-        }
-        let delivery = deliver_entry(job, place, used, bytes, block, cells, store);
-        return step_of_delivery(delivery);
-    }
-    let choice = promotion::choose(job, cells, store);
-    promote_chosen(job, choice, cells, store)
-}
-
-// Writes the report of a run that has ended.
-fn put_ended(
-    job: area::JobRecord,
-    ending: reporting::Ending,
-    unused: usize,
-    cells: &[u32],
-    store: &[i32],
-    report: &mut [u8],
-) -> usize
-    requires { ValidArea (area_of job cells.now store.now) × (unused ≤ 512) × (512 ≤ length report.old) }
-    ensures { Printed (report_text (report_values_of (ending_in ending) (machine_of (area_of job cells.now store.now)) unused)) report.old report.new result }
-{
-    let counts = counting::result(job, cells, store);
-    let values = reporting::ReportValues {
-        axes: job.settings.axes,
-        old: counts.old,
-        active: counts.active,
-        wanted: counts.wanted,
-        reserved: counts.reserved,
-        pending: counts.pending,
-        carried: counts.carried,
-        ceiling: counts.ceiling,
-        scaled: counts.mean,
-        unused: unused as u32,
-        ending,
-    };
-    reporting::put_report(values, report)
-}
-
-// Goes on with a run, so many steps at most. It calls itself once for each step.
-fn run_from(
-    left: usize,
-    job: area::JobRecord,
     used: usize,
-    entries: usize,
-    bytes: &[u8],
-    block: &mut [i32],
-    cells: &mut [u32],
-    store: &mut [i32],
-    report: &mut [u8],
-) -> usize
-    requires valid_area { ValidArea (area_of job cells.old store.old) × FormedFile bytes.now × (entries ≡ entry_count bytes.now) × (8192 ≤ length block.old) }
-    requires used_le_entries { (used ≤ entries) × (512 ≤ length report.old) }
-    ensures { Printed (text_in entries (execution_of bytes.now left (machine_of (area_of job cells.old store.old)) used)) report.old report.new result }
-{
-    if left == 0 {
-        return 0;
+    job: area::JobRecord,
+    cells: [u32; 13824],
+    store: [i32; 8192],
+    block: [i32; 8192],
+}
+
+impl<'a> Execution<'a> {
+    // Starts the job, in an area of its own.
+    fn start(settings: area::Settings, bytes: &'a [u8]) -> Execution<'a>
+        requires { FormedFile bytes.now × (first_cause (start_causes own_lengths settings) ≡ 0) }
+        ensures is { (state_of result ≡ started settings) × (result.used ≡ 0) }
+        ensures valid { ValidExecution bytes.now result }
+    {
+        let mut cells = [0u32; 13824];
+        let job = delivery::start(settings, &mut cells);
+        Execution {
+            bytes,
+            entries: jobfile::four_at(bytes, 16) as usize,
+            used: 0,
+            job,
+            cells,
+            store: [0i32; 8192],
+            block: [0i32; 8192],
+        }
     }
-    let next = next_step(job, used, entries, bytes, block, cells, store);
-    match next {
-        Step::Refused(number, byte) => reporting::put_refusal(number, byte, report),
-        Step::Ended(ending) => { put_ended(job, ending, entries - used, cells, store, report) }
-        Step::Delivered(after) => run_from(
-            left - 1,
-            after,
-            used + 1,
-            entries,
-            bytes,
-            block,
-            cells,
-            store,
-            report,
-        ),
-        Step::Promoted(after) => run_from(
-            left - 1,
-            after,
-            used,
-            entries,
-            bytes,
-            block,
-            cells,
-            store,
-            report,
-        ),
+
+    // Delivers the next entry as the first wanted block, which is that at `place`.
+    fn deliver_entry(&mut self, place: usize) -> Result<(), Refusal>
+        requires { ValidExecution self.old.bytes.now self.old × (place ≡ first_wanted (entries_of (area_of self.old.job self.old.cells self.old.store))) × (place < self.old.job.held) × (self.old.used < self.old.entries) }
+        ensures is { (n : ℕ) → unless_refused self.old.bytes.now (state_of self.old) self.old.used (execution_of self.old.bytes.now n (deliver (state_of self.old) (entry_of self.old.bytes.now self.old.used).readings (entry_of self.old.bytes.now self.old.used).indicator) (self.old.used + 1)) ≡ after_delivery self.old.bytes.now n self.new result }
+        ensures valid { OnOk result (ValidExecution self.old.bytes.now self.new) }
+    {
+        let bytes = self.bytes;
+        let job = self.job;
+        let at = 24 + 12 * self.used;
+        let cells = &mut self.cells[..];
+        let store = &mut self.store[..];
+        let block = &mut self.block[..];
+        let indicator = jobfile::four_at(bytes, at);
+        let count = jobfile::four_at(bytes, at + 4) as usize;
+        let from = jobfile::four_at(bytes, at + 8) as usize;
+        let held = area::IndexRecords::first(cells, job.held as usize);
+        let size = area::reading_count(job.settings, held.levels(place));
+        if count != size {
+            return Err(Refusal {
+                cause: RefusalCause::Call(calls::Cause::ReadingsMiscounted),
+                byte: at + 4,
+            });
+        }
+        let readings = &mut block[..count];
+        read_block(bytes, from, readings);
+        if let Some(bad) = first_out_of_range(readings) {
+            return Err(Refusal {
+                cause: RefusalCause::Call(calls::Cause::ReadingOutOfRange),
+                byte: from + 4 * bad,
+            });
+        }
+        self.job = delivery::deliver(job, place, readings, indicator, cells, store);
+        self.used += 1;
+        Ok(())
+    }
+
+    // Chooses, and promotes the place that is chosen; met, capped and spent end the run.
+    fn promote(&mut self) -> Option<reporting::Ending>
+        requires { ValidExecution self.old.bytes.now self.old × (length (entries_of (area_of self.old.job self.old.cells self.old.store)) ≤ first_wanted (entries_of (area_of self.old.job self.old.cells self.old.store))) }
+        ensures is { (n : ℕ) → by_choice (choose (state_of self.old).log) (state_of self.old) self.old.used (λ p. execution_of self.old.bytes.now n (promote_step (state_of self.old) p) self.old.used) ≡ after_step self.old.bytes.now n self.new (Ok result) }
+        ensures valid { ValidExecution self.old.bytes.now self.new }
+    {
+        let budget = self.job.settings.budget;
+        let job = &mut self.job;
+        let cells = &mut self.cells[..];
+        let store = &self.store[..];
+        match promotion::choose(*job, cells, store) {
+            promotion::Choice::Met => Some(reporting::Ending::Met),
+            promotion::Choice::Capped => Some(reporting::Ending::Capped),
+            promotion::Choice::Place(place) => {
+                match promotion::refine(job, place, budget, cells, store) {
+                    promotion::Outcome::Spent => Some(reporting::Ending::Spent),
+                    promotion::Outcome::Promoted => None,
+                }
+            }
+        }
+    }
+
+    // One step: the next entry is delivered while a block is wanted, else it chooses, and promotes the place that is chosen.
+    fn step(&mut self) -> Result<Option<reporting::Ending>, Refusal>
+        requires { ValidExecution self.old.bytes.now self.old }
+        ensures is { (n : ℕ) → execution_of self.old.bytes.now (suc n) (state_of self.old) self.old.used ≡ after_step self.old.bytes.now n self.new result }
+        ensures valid { OnOk result (ValidExecution self.old.bytes.now self.new) }
+    {
+        let held = area::IndexRecords::first(&self.cells, self.job.held as usize);
+        if let Some(place) = delivery::first_wanted(&held) {
+            if self.entries <= self.used {
+                return Ok(Some(reporting::Ending::Short));
+            }
+            self.deliver_entry(place)?;
+            return Ok(None);
+        }
+        Ok(self.promote())
+    }
+
+    // The figures of a run that has ended.
+    fn report_values(&self, ending: reporting::Ending) -> reporting::ReportValues
+        requires { ValidExecution self.now.bytes.now self.now }
+        ensures { report_values_in result ≡ report_values_of (ending_in ending) (state_of self.now) (self.now.entries - self.now.used) }
+    {
+        let counts = counting::result(self.job, &self.cells, &self.store);
+        reporting::ReportValues {
+            axes: self.job.settings.axes,
+            old: counts.old,
+            active: counts.active,
+            wanted: counts.wanted,
+            reserved: counts.reserved,
+            pending: counts.pending,
+            carried: counts.carried,
+            ceiling: counts.ceiling,
+            scaled: counts.mean,
+            unused: (self.entries - self.used) as u32,
+            ending,
+        }
     }
 }
 
-// Runs a job that start accepts, with the area in locals: 512 records, and 8,192 readings for the store and for a block.
-fn run_started(settings: area::Settings, entries: usize, bytes: &[u8], report: &mut [u8]) -> usize
-    requires { (first_cause (start_causes own_lengths settings) ≡ 0) × FormedFile bytes.now × (entries ≡ entry_count bytes.now) × (512 ≤ length report.old) }
-    ensures { Printed (text_in entries (execution_of bytes.now 1025 (started settings) 0)) report.old report.new result }
+// Executes a file of the right form that start accepts. Every step but the last delivers an entry or makes an index old, at most 512 of each, so
+// that a run ends within 1,025 steps.
+fn execute(settings: area::Settings, bytes: &[u8]) -> Result<reporting::ReportValues, Refusal>
+    requires { (form_of bytes.now ≡ formed) × (settings ≡ file_settings bytes.now) × (start_cause bytes.now ≡ 0) }
+    ensures { text_for result ≡ text_of bytes.now }
 {
-    let mut cells = [0u32; 13824];
-    let mut store = [0i32; 8192];
-    let mut block = [0i32; 8192];
-    let job = delivery::start(settings, &mut cells);
-    run_from(
-        1025, job, 0, entries, bytes, &mut block, &mut cells, &mut store, report,
-    )
+    let mut execution = Execution::start(settings, bytes);
+    for _ in 0..1025u32 {
+        if let Some(ending) = execution.step()? {
+            return Ok(execution.report_values(ending));
+        }
+    }
+    unreachable!()
 }
 
 // What a file's header starts its job with.
@@ -280,37 +249,50 @@ fn file_settings(bytes: &[u8]) -> area::Settings
     }
 }
 
-// Runs a file of the right form.
-fn run_formed(bytes: &[u8], report: &mut [u8]) -> usize
-    requires { (form_of bytes.now ≡ formed) × (512 ≤ length report.old) }
-    ensures { Printed (text_of bytes.now) report.old report.new result }
+// A refusal of start, with the field of the header that it names.
+fn start_refusal(cause: calls::Cause) -> Refusal
+    ensures cause { number_of result.cause ≡ number_of_cause cause }
+    ensures byte { result.byte ≡ start_byte (number_of_cause cause) }
 {
+    let byte = match cause {
+        calls::Cause::AxesOutOfRange => 0,
+        _ => 4,
+    };
+    Refusal {
+        cause: RefusalCause::Call(cause),
+        byte,
+    }
+}
+
+// Runs a job file: the figures of its report, or why it is refused.
+fn run_file(bytes: &[u8]) -> Result<reporting::ReportValues, Refusal>
+    ensures { text_for result ≡ text_of bytes.now }
+{
+    jobfile::parse(bytes)?;
     let settings = file_settings(bytes);
-    let entries = jobfile::four_at(bytes, 16) as usize;
-    let cause = calls::start_cause(settings, 512, 8192);
-    if cause == 1 {
-        return reporting::put_refusal(1, 0, report);
-    }
-    if cause != 0 {
-        return reporting::put_refusal(cause, 4, report);
-    }
-    run_started(settings, entries, bytes, report)
+    calls::start_cause(settings, 512, 8192).map_err(start_refusal)?;
+    execute(settings, bytes)
 }
 
 // Runs a job file, and writes its report, or the line of its refusal, at the beginning of the buffer. 512 bytes suffice.
-pub fn run(bytes: &[u8], report: &mut [u8]) -> RunStatus
+pub fn run(bytes: &[u8], report: &mut [u8]) -> Result<usize, TooShort>
     ensures { record { answer = answer_in bytes.now result; buffer = report.new } ≡ run_on bytes.now report.old }
 {
     if report.len() < 512 {
-        return RunStatus::TooShort;
+        return Err(TooShort);
     }
-    let form = jobfile::parse(bytes);
-    match form {
-        jobfile::Form::Formed => RunStatus::Written(run_formed(bytes, report)),
-        jobfile::Form::Header(byte) => RunStatus::Written(reporting::put_refusal(10, byte, report)),
-        jobfile::Form::Entry(byte) => RunStatus::Written(reporting::put_refusal(12, byte, report)),
-        jobfile::Form::Readings(byte) => RunStatus::Written(reporting::put_refusal(
-            13, byte, report,
-        )),
+    match run_file(bytes) {
+        Ok(values) => Ok(reporting::put_report(values, report)),
+        Err(refusal) => Ok(reporting::put_refusal(u32::from(refusal.cause), refusal.byte, report)),
+    }
+}
+
+// The text that a job file gives, at the beginning of a buffer that is long enough for every one.
+pub fn text<'a>(bytes: &[u8], buffer: &'a mut [u8; 512]) -> &'a [u8]
+    ensures { result.now ≡ text_of bytes.now }
+{
+    match run(bytes, buffer) {
+        Ok(count) => &buffer[..count],
+        Err(TooShort) => unreachable!(),
     }
 }

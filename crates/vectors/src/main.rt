@@ -2,25 +2,19 @@
 // then for each its name and its bytes, both with their length in front. Numbers have four bytes.
 #![tactic(auto)]
 
-ghost use Rattle.std.specs.Prelude.{◌≡◌, ◌≤◌, min};
 ghost use Rattle.std.specs.Io.{ReadsAtMost};
 ghost use Rattle.vectors.specs.Reading.{TakesBuffer};
 
 use std::io;
 
-fn min_of(a: usize, b: usize) -> usize
-    ensures bounds { (result ≤ a) × (result ≤ b) }
-    ensures value { result ≡ min a b }
-{
-    if a < b { a } else { b }
-}
-
 // Reads until the buffer is full or the input ends, and gives how many bytes came. The rest of the buffer stays as it was.
+// The program integrator has a twin, by way of a chunk, which its edits bytes_lost and chunks_at_the_front change.
 fn read_full<R: io::Read>(input: &mut R, buffer: &mut [u8]) -> io::Result<usize>
     ensures bound { ReadsAtMost result buffer.new }
     ensures bytes { TakesBuffer buffer.new (R.remaining input.old) (R.remaining input.new) result }
 {
     let mut at: usize = 0;
+    // No index is counted: the place moves by what came. read_exact refuses an input that ends first, and io::copy reads on after an interruption.
     while at < buffer.len() {
         let count = input.read(&mut buffer[at..])?;
         if count == 0 {
@@ -42,7 +36,7 @@ fn read_number<R: io::Read>(input: &mut R) -> io::Result<usize> {
 fn read_part<R: io::Read>(input: &mut R, buffer: &mut [u8]) -> io::Result<usize>
     ensures { ReadsAtMost result buffer.new }
 {
-    let length = min_of(read_number(input)?, buffer.len());
+    let length = read_number(input)?.min(buffer.len());
     read_full(input, &mut buffer[..length])?;
     Ok(length)
 }
@@ -55,21 +49,13 @@ fn copy_name<R: io::Read, W: io::Write>(input: &mut R, output: &mut W) -> io::Re
     output.write_all(b"\n")
 }
 
-// Runs a job file and prints what it gives.
-fn print_report<W: io::Write>(output: &mut W, bytes: &[u8]) -> io::Result<()> {
-    let mut report = [0u8; 512];
-    match running::run(bytes, &mut report) {
-        running::RunStatus::TooShort => Ok(()),
-        running::RunStatus::Written(count) => output.write_all(&report[..count]),
-    }
-}
-
-// Runs the next file.
+// Runs the next file, and prints what it gives.
 fn run_next<R: io::Read, W: io::Write>(input: &mut R, output: &mut W) -> io::Result<()> {
     copy_name(input, output)?;
     let mut file = [0u8; 38937];
     let length = read_part(input, &mut file)?;
-    print_report(output, &file[..length])
+    let mut report = [0u8; 512];
+    output.write_all(running::text(&file[..length], &mut report))
 }
 
 fn main(rt: HostRuntime) -> io::Result<()> {

@@ -1,8 +1,8 @@
 -- What the steps change in storage, lowest first.
-pub mod Linking
 pub mod Fields
 pub mod Places
 pub mod Links
+pub mod Linking
 pub mod Named
 pub mod Words
 pub mod Kept

@@ -1,10 +1,10 @@
 #![tactic(auto)]
 // What each step changes in storage, record by record: one record given another state or link, and an index appended with links
-// set both ways.
+// set both ways. What writes takes the cells themselves and says how long they are, since an `IndexRecords` only reads.
 ghost use Rattle.std.specs.Prelude.{◌≡◌, ◌⊎◌, ℕ, ◌+◌, ◌*◌, ◌<◌, ◌≤◌, length, get_or};
 ghost use Rattle.area.specs.Records.{records_of, run_of, stored, held_in, levels_of};
-ghost use Rattle.area.specs.Encoding.{none, place_of};
-ghost use Rattle.area.specs.Packed.{FitsByte, PackedIf};
+ghost use Rattle.area.specs.Encoding.{none};
+ghost use Rattle.area.specs.Packed.{FitsByte, PackedWords};
 ghost use Rattle.quadrature.specs.Readings.{record_at};
 ghost use Rattle.writing.specs.Changes.{with_state, with_forward_link, new_links, named_from, appended};
 
@@ -13,7 +13,7 @@ pub fn set_state(place: usize, state: u32, indicator: u32, cells: &mut [u32])
     requires { place * 27 + 27 ≤ length cells.old }
     ensures { run_of cells.new ≡ stored (run_of cells.old) place (with_state (record_at (records_of cells.old) place) state indicator) }
 {
-    let mut index = area::load(cells, place);
+    let mut index = area::IndexRecords::all(cells).record(place);
     index.state = state;
     index.indicator = indicator;
     area::store(cells, place, index);
@@ -24,54 +24,29 @@ fn link_forward(place: usize, axis: usize, to: u32, cells: &mut [u32])
     requires { (place * 27 + 27 ≤ length cells.old) × (axis < 8) }
     ensures { run_of cells.new ≡ stored (run_of cells.old) place (with_forward_link (record_at (records_of cells.old) place) axis to) }
 {
-    let mut index = area::load(cells, place);
-    let mut links = index.links;
-    links[axis] = to;
-    index.links = links;
+    let mut index = area::IndexRecords::all(cells).record(place);
+    index.links[axis] = to;
     area::store(cells, place, index);
 }
 
 // The links of an index about to be appended: each backward neighbour is the level list copied with one level lowered, and is
 // looked up; no forward neighbour is held.
-fn new_links(
-    held: usize,
-    levels: [u32; 8],
-    cells: &[u32],
-    words: &[u64; 512],
-    packed: bool,
-) -> [u32; 16]
-    requires held_in_bounds { (held * 27 ≤ length cells.now) × (held ≤ 512) }
-    requires packed_if { PackedIf packed words.now (held_in cells.now held) }
-    ensures { result ≡ new_links (levels_of (held_in cells.now held)) levels }
+fn new_links(held: &area::IndexRecords, levels: [u32; 8], words: &area::HeldWords) -> [u32; 16]
+    requires few_held { length held.now ≤ 512 }
+    requires packed { PackedWords words.now held.now }
+    ensures { result ≡ new_links (levels_of held.now) levels }
 {
     let mut links = [area::NONE; 16];
-    let mut axis: usize = 0;
-    while axis < 8 {
+    for axis in 0..8 {
         let has_backward = 1 < levels[axis];
         if has_backward {
-            links[8 + axis] = place_of(
-                held,
-                grid::backward_neighbour(levels, axis),
-                cells,
-                words,
-                packed,
-            );
+            let behind = grid::backward_neighbour(levels, axis);
+            if let Some(place) = words.lookup(held, behind) {
+                links[8 + axis] = place as u32;
+            }
         }
-        axis += 1;
     }
     links
-}
-
-// The place of an index among the held as a link: none where it isn't held.
-fn place_of(held: usize, levels: [u32; 8], cells: &[u32], words: &[u64; 512], packed: bool) -> u32
-    requires held_in_bounds { (held * 27 ≤ length cells.now) × (held ≤ 512) }
-    requires packed_if { PackedIf packed words.now (held_in cells.now held) }
-    ensures { result ≡ place_of (levels_of (held_in cells.now held)) levels }
-{
-    match area::lookup_packed(cells, held, levels, words, packed) {
-        area::LookupResult::At(place) => place as u32,
-        area::LookupResult::NotFound => area::NONE,
-    }
 }
 
 // Gives each backward neighbour in `links` the place `held` as its forward link.
@@ -79,13 +54,11 @@ fn name_back(held: usize, links: [u32; 16], cells: &mut [u32])
     requires { (held ≤ 512) × ((a : ℕ) → a < 8 → (get_or links (8 + a) 0 ≡ none) ⊎ (get_or links (8 + a) 0 < length (records_of cells.old))) }
     ensures { run_of cells.new ≡ record { records = named_from 8 0 links held (records_of cells.old); rest = (run_of cells.old).rest } }
 {
-    let mut axis: usize = 0;
-    while axis < 8 {
+    for axis in 0..8 {
         let behind = links[8 + axis];
         if behind != area::NONE {
             link_forward(behind as usize, axis, held as u32, cells);
         }
-        axis += 1;
     }
 }
 
@@ -95,15 +68,14 @@ pub fn append(
     first: usize,
     levels: [u32; 8],
     cells: &mut [u32],
-    words: &mut [u64; 512],
-    packed: bool,
+    words: &mut area::HeldWords,
 )
     requires held_in_bounds { (held * 27 + 27 ≤ length cells.old) × (held < 512) × (first ≤ 8192) }
-    requires packed_if { PackedIf packed words.old (held_in cells.old held) }
+    requires packed { PackedWords words.old (held_in cells.old held) }
     ensures cells_after { run_of cells.new ≡ record { records = appended (records_of cells.old) held first levels; rest = (run_of cells.old).rest } }
-    ensures words { FitsByte levels → PackedIf packed words.new (held_in cells.new (held + 1)) }
+    ensures words { FitsByte levels → PackedWords words.new (held_in cells.new (held + 1)) }
 {
-    let links = new_links(held, levels, cells, words, packed);
+    let links = new_links(&area::IndexRecords::first(cells, held), levels, words);
     name_back(held, links, cells);
     let index = area::IndexRecord {
         levels,
@@ -113,5 +85,5 @@ pub fn append(
         links,
     };
     area::store(cells, held, index);
-    area::put_word(held, levels, words);
+    words.put(held, levels);
 }

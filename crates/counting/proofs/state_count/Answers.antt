@@ -1,21 +1,15 @@
--- `counting::state_count` meets its contract: the count so far and that of the records left are the whole. Assumes nothing.
-use mathlib.Core.Path.{sym, ◌∙◌}
+-- `counting::state_count` meets its contract: the places with the state are kept and counted. Assumes nothing.
+use borrow.Author.Rules.{rules}
+use borrow.Author.Tests.{tests}
+use mathlib.Core.Path.{◌∙◌}
 use native.Mathlib.Omega.{arith}
-use Rattle.counting.proofs.Tallies.{count_one, count_none, count_end}
-use Rattle.counting.proofs.state_count.Goals.{then-state_at-state, else-state_at-state}
+use Rattle.std.proofs.lemmas.Iterator.{YieldsList-from_range}
+use Rattle.std.proofs.lemmas.Iterator.Consumers.{YieldsList-from_filter, count_from_yields_List}
+use Rattle.counting.proofs.Tallies.{has_state, counted_all}
 use Rattle.counting.proofs.state_count.Goals as goal
-
-pub loop-place-preserved : goal.loop-place-preserved
-loop-place-preserved c =
-    let l = c.loop-place in
-    let cells = c.args.cells.now in
-    let state = c.state_at.ensures in
-    elim c.if-state_at-state.branch [
-      | then-state_at-state w ↦ (omega arith, omega (arith, w.count-is), omega (arith, w.count-is, l.invariant.2, count_one cells c.args.held l.place (omega arith) c.args.state (omega arith) (sym state ∙ w.if-state_at-state.true)))
-      | else-state_at-state w ↦ (omega arith, omega (arith, w.count-is), omega (arith, w.count-is, l.invariant.2, count_none cells c.args.held l.place (omega arith) c.args.state (omega arith) (λ e. w.if-state_at-state.false (state ∙ e))))
-    ]
 
 pub returns : goal.returns
 returns c =
-    let l = c.loop-place in
-    omega (arith, l.invariant.2, count_end c.args.cells.now c.args.held l.place (omega arith) c.args.state (omega arith))
+    count_from_yields_List c.filter.result c.count.result c.count.ensures.ran
+    (YieldsList-from_filter _ (has_state c.args.held.now c.args.state) (YieldsList-from_range 0 c.len.result c.len.result c.filter.ensures.source (omega arith)) c.filter.ensures.closure (λ x b q k. search (rules, tests)))
+    ∙ counted_all c.args.held.now c.args.state c.len.result c.len.ensures

@@ -16,6 +16,7 @@ use Rattle.sums.proofs.Sizes.{abs_add}
 use Rattle.grid.specs.Difference.{scaled_difference}
 use Rattle.area.specs.declared.JobRecord.{JobRecord}
 use Rattle.area.specs.Settings.{reading_count}
+use Rattle.area.proofs.Records.{length-records_of}
 use Rattle.area.specs.Records.{records_of, run_of, stored}
 use Rattle.area.specs.Entry.{reading_in}
 use Rattle.area.specs.Encoding.{area_of, entries_of}
@@ -35,6 +36,9 @@ module _ (j : JobRecord) (c : List ℕ) (s rs : List ℤ) (i place : ℕ) (valid
     (whole : length rs ≡ reading_count j.settings (wanted_index (entries_of (area_of j c s)))) (range : in_range rs ≡ true) where
   wanted-first : first_wanted (entries_of (area_of j c s)) < j.held
   wanted-first = omega (arith, is, wanted)
+
+  there : place < length (records_of c)
+  there = omega (arith, valid.sound.held_lent, wanted)
 
   room : place * 27 + 27 ≤ length c
   room = omega (arith, held_there j c s rs i valid wanted-first whole range, wanted)
@@ -73,38 +77,37 @@ module _ (j : JobRecord) (c : List ℕ) (s rs : List ℤ) (i place : ℕ) (valid
     mean_small : (x : ℤ) → nat_abs x ≤ 2 ^ 40 → nat_abs (j.mean +ℤ x) ≤ 2 ^ 62
     mean_small x h = le_trans (abs_add j.mean x) (omega (arith, h, mean_fits j c s rs i valid wanted-first whole range))
 
-pub first_at-first-requires : goal.first_at-first-requires
-first_at-first-requires c = room c.args.job c.args.cells.now c.args.store.now c.args.readings.now c.args.indicator c.args.place c.requires.valid_area.0 c.requires.valid_area.1 c.requires.valid_area.2 c.requires.readings_len.0 c.requires.readings_len.1
+-- @c.args.job c.args.cells.now c.args.store.now c.args.readings.now c.args.indicator c.args.place c.requires.valid_area.0 c.requires.valid_area.1 c.requires.valid_area.2 c.requires.readings_len.0 c.requires.readings_len.1
+pub first_reading-first-requires : goal.first_reading-first-requires
+first_reading-first-requires c = rw c.all.ensures (there c.args.job c.args.cells.now c.args.store.now c.args.readings.now c.args.indicator c.args.place c.requires.valid_area.0 c.requires.valid_area.1 c.requires.valid_area.2 c.requires.readings_len.0 c.requires.readings_len.1)
 
 pub put_readings-requires : goal.put_readings-requires
-put_readings-requires c =
-    block_room c.args.job c.args.cells.now c.args.store.now c.args.readings.now c.args.indicator c.args.place c.requires.valid_area.0 c.requires.valid_area.1 c.requires.valid_area.2 c.requires.readings_len.0 c.requires.readings_len.1
-    c.first_at-first.result c.first_at-first.ensures
+put_readings-requires c = block_room c.args.job c.args.cells.now c.args.store.now c.args.readings.now c.args.indicator c.args.place c.requires.valid_area.0 c.requires.valid_area.1 c.requires.valid_area.2 c.requires.readings_len.0 c.requires.readings_len.1 c.first_reading-first.result (rw c.all.ensures at c.first_reading-first.ensures)
 
 pub set_state-requires : goal.set_state-requires
 set_state-requires c = room c.args.job c.args.cells.now c.args.store.now c.args.readings.now c.args.indicator c.args.place c.requires.valid_area.0 c.requires.valid_area.1 c.requires.valid_area.2 c.requires.readings_len.0 c.requires.readings_len.1
 
-pub levels_at-levels-requires : goal.levels_at-levels-requires
-levels_at-levels-requires c =
-    omega (arith, room c.args.job c.args.cells.now c.args.store.now c.args.readings.now c.args.indicator c.args.place c.requires.valid_area.0 c.requires.valid_area.1 c.requires.valid_area.2 c.requires.readings_len.0 c.requires.readings_len.1)
+pub levels-levels-requires : goal.levels-levels-requires
+levels-levels-requires c = rw c.all-records.ensures (omega (arith, length-records_of c.set_state.new.cells, room c.args.job c.args.cells.now c.args.store.now c.args.readings.now c.args.indicator c.args.place c.requires.valid_area.0 c.requires.valid_area.1 c.requires.valid_area.2 c.requires.readings_len.0 c.requires.readings_len.1))
 
 pub scaled_difference-difference-requires : goal.scaled_difference-difference-requires
 scaled_difference-difference-requires c =
-    ready_at c.args.job c.args.cells.now c.args.store.now c.args.readings.now c.args.indicator c.args.place c.requires.valid_area.0 c.requires.valid_area.1 c.requires.valid_area.2 c.requires.readings_len.0 c.requires.readings_len.1
-    c.set_state.new.cells c.put_readings.new.store c.first_at-first.result c.first_at-first.ensures c.set_state.ensures c.put_readings.ensures
-    c.levels_at-levels.result c.levels_at-levels.ensures
+    rw c.all-records.ensures
+    (ready_at c.args.job c.args.cells.now c.args.store.now c.args.readings.now c.args.indicator c.args.place c.requires.valid_area.0 c.requires.valid_area.1 c.requires.valid_area.2 c.requires.readings_len.0 c.requires.readings_len.1
+    c.set_state.new.cells c.put_readings.new.store c.first_reading-first.result (rw c.all.ensures at c.first_reading-first.ensures) c.set_state.ensures c.put_readings.ensures
+    c.levels-levels.result (rw c.all-records.ensures at c.levels-levels.ensures))
 
-pub overflow_add-after : goal.overflow_add-after
-overflow_add-after c =
+pub overflow_add-result : goal.overflow_add-result
+overflow_add-result c =
     omega (arith, pending_fits c.args.job c.args.cells.now c.args.store.now c.args.readings.now c.args.indicator c.requires.valid_area.0 (omega (arith, c.requires.valid_area.1, c.requires.valid_area.2)) c.requires.readings_len.0 c.requires.readings_len.1 (search rules) (omega (arith, c.ranges.indicator)))
 
-pub overflow_add-after-2 : goal.overflow_add-after-2
-overflow_add-after-2 c =
+pub overflow_add-result-2 : goal.overflow_add-result-2
+overflow_add-result-2 c =
     let x = c.scaled_difference-difference.result in
     let m = c.args.job.mean in
     let fits : SFits w64 m = search rules in
     sum_fits m x (m +ℤ x) fits (sfits_of c.scaled_difference-difference.type_inv) refl
-    (mean_small c.args.job c.args.cells.now c.args.store.now c.args.readings.now c.args.indicator c.args.place c.requires.valid_area.0 c.requires.valid_area.1 c.requires.valid_area.2 c.requires.readings_len.0 c.requires.readings_len.1 c.set_state.new.cells c.put_readings.new.store c.first_at-first.result c.first_at-first.ensures c.set_state.ensures c.put_readings.ensures x c.scaled_difference-difference.ensures.small)
+    (mean_small c.args.job c.args.cells.now c.args.store.now c.args.readings.now c.args.indicator c.args.place c.requires.valid_area.0 c.requires.valid_area.1 c.requires.valid_area.2 c.requires.readings_len.0 c.requires.readings_len.1 c.set_state.new.cells c.put_readings.new.store c.first_reading-first.result (rw c.all.ensures at c.first_reading-first.ensures) c.set_state.ensures c.put_readings.ensures x c.scaled_difference-difference.ensures.small)
 
 pub returns : goal.returns
 returns c =
@@ -113,7 +116,7 @@ returns c =
     let fits : SFits w64 m = search rules in
     let sum =
     sum_is m x (m +ℤ x) fits (sfits_of c.scaled_difference-difference.type_inv) refl
-    (mean_small c.args.job c.args.cells.now c.args.store.now c.args.readings.now c.args.indicator c.args.place c.requires.valid_area.0 c.requires.valid_area.1 c.requires.valid_area.2 c.requires.readings_len.0 c.requires.readings_len.1 c.set_state.new.cells c.put_readings.new.store c.first_at-first.result c.first_at-first.ensures c.set_state.ensures c.put_readings.ensures x c.scaled_difference-difference.ensures.small) in
-    let difference = difference_at_lem c.args.job c.args.cells.now c.args.store.now c.args.readings.now c.args.indicator c.args.place c.requires.valid_area.0 c.requires.valid_area.1 c.requires.valid_area.2 c.requires.readings_len.0 c.requires.readings_len.1 c.set_state.new.cells c.put_readings.new.store c.first_at-first.result c.first_at-first.ensures c.set_state.ensures c.put_readings.ensures c.levels_at-levels.result x c.levels_at-levels.ensures c.scaled_difference-difference.ensures.is in
-    let w = area_and_valid c.args.job c.args.cells.now c.args.store.now c.args.readings.now c.args.indicator c.args.place c.requires.valid_area.0 c.requires.valid_area.1 c.requires.valid_area.2 c.requires.readings_len.0 c.requires.readings_len.1 c.set_state.new.cells c.put_readings.new.store c.first_at-first.result c.first_at-first.ensures c.set_state.ensures c.put_readings.ensures (to_z w64 (of_z w64 (to_z w64 (of_z w64 m) +ℤ to_z w64 (of_z w64 x)))) (sum ∙ ap (λ d. m +ℤ d) difference) in
-    record { is = w.0; valid = w.1 }
+    (mean_small c.args.job c.args.cells.now c.args.store.now c.args.readings.now c.args.indicator c.args.place c.requires.valid_area.0 c.requires.valid_area.1 c.requires.valid_area.2 c.requires.readings_len.0 c.requires.readings_len.1 c.set_state.new.cells c.put_readings.new.store c.first_reading-first.result (rw c.all.ensures at c.first_reading-first.ensures) c.set_state.ensures c.put_readings.ensures x c.scaled_difference-difference.ensures.small) in
+    let difference = difference_at_lem c.args.job c.args.cells.now c.args.store.now c.args.readings.now c.args.indicator c.args.place c.requires.valid_area.0 c.requires.valid_area.1 c.requires.valid_area.2 c.requires.readings_len.0 c.requires.readings_len.1 c.set_state.new.cells c.put_readings.new.store c.first_reading-first.result (rw c.all.ensures at c.first_reading-first.ensures) c.set_state.ensures c.put_readings.ensures c.levels-levels.result x (rw c.all-records.ensures at c.levels-levels.ensures) (rw c.all-records.ensures at c.scaled_difference-difference.ensures.is) in
+    let w = area_and_valid c.args.job c.args.cells.now c.args.store.now c.args.readings.now c.args.indicator c.args.place c.requires.valid_area.0 c.requires.valid_area.1 c.requires.valid_area.2 c.requires.readings_len.0 c.requires.readings_len.1 c.set_state.new.cells c.put_readings.new.store c.first_reading-first.result (rw c.all.ensures at c.first_reading-first.ensures) c.set_state.ensures c.put_readings.ensures (to_z w64 (of_z w64 (to_z w64 (of_z w64 m) +ℤ to_z w64 (of_z w64 x)))) (sum ∙ ap (λ d. m +ℤ d) difference) in
+    record { is = rw c.from.ensures w.0; valid = rw c.from.ensures w.1 }

@@ -10,7 +10,7 @@ use Rattle.delivery.proofs.point.Goals as goal
 
 pub returns : goal.returns
 returns c =
-    let levels = c.levels_at.ensures in
+    let levels = c.levels.ensures in
     let point = c.point_of.result in
     let hl : length point ≡ 8 = search rules in
     c.put_point.ensures

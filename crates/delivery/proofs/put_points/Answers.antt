@@ -29,7 +29,7 @@ one_more d k n w b few h =
 
 pub loop-written-init : goal.loop-written-init
 unfolding positions_of
-loop-written-init c = (omega arith, refl, refl)
+loop-written-init c = (refl, refl)
 
 pub overflow_add-n : goal.overflow_add-n
 overflow_add-n c =
@@ -43,8 +43,8 @@ loop-written-preserved c =
     let few : length c.args.levels ≡ 8 = search rules in
     let is =
     c.put_point.ensures
-    ∙ ap (λ x. sets x (l.written * c.args.axes) (take c.args.axes c.point_of-point.result)) l.invariant.2
+    ∙ ap (λ x. sets x (l.written * c.args.axes) (take c.args.axes c.point_of-point.result)) l.invariant.1
     ∙ ap (λ x. sets (sets b 0 (bytes c.args.axes c.args.levels c.args.n l.written)) (l.written * c.args.axes) (take c.args.axes x)) c.point_of-point.ensures
     ∙ one_more c.args.axes c.args.levels c.args.n l.written b (omega (arith, few, c.requires.0)) (omega (arith, c.requires.3))
     in
-    (omega arith, ap length is ∙ length-sets b 0 (bytes c.args.axes c.args.levels c.args.n (l.written + 1)), is)
+    (ap length is ∙ length-sets b 0 (bytes c.args.axes c.args.levels c.args.n (l.written + 1)), is)

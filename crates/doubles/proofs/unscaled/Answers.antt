@@ -4,18 +4,13 @@ use mathlib.Core.Path.{◌≡◌, sym, subst}
 use mathlib.Core.Bool.{false}
 use Prim.Native.Nat.{◌^◌}
 use native.Mathlib.Nat.{le_of_lt}
-use lib.Dec.{T}
 use lib.IntN.{ℤ, pos}
-use lib.Ieee.{fin, binary64, in_float, of_bits, of_int, div}
+use lib.Ieee.{fin, binary64, of_bits, of_int, div}
 use mir.Syntax.{w64}
 use mir.ValLaws.{to_z-of_z}
 use Rattle.doubles.specs.Double.{double}
-use Rattle.doubles.proofs.Facts.{cast_fine, over_is}
+use Rattle.doubles.proofs.Facts.{over_is}
 use Rattle.doubles.proofs.unscaled.Goals as goal
-
-pub int_to_float-result : goal.int_to_float-result
-int_to_float-result c =
-    subst (λ (z : ℤ). T (in_float binary64 z)) (sym (to_z-of_z w64 c.args.z c.ranges.z)) (cast_fine binary64 c.args.z (le_of_lt c.requires))
 
 pub returns : goal.returns
 unfolding of_bits

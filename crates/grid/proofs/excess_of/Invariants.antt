@@ -1,13 +1,7 @@
 -- `grid::excess_of` meets its contract: the excess so far and that of the axes left are the whole. Assumes nothing.
-use mathlib.Core.Path.{◌≡◌}
-use Prim.Native.Nat.{◌+◌, ◌*◌, ◌-◌, ◌≤◌}
-use lib.ListN.{length}
-use lib.ListN.{drop}
+use Rattle.std.proofs.Common.{◌≡◌, ◌≤◌, ◌+◌, ◌*◌, drop}
 use Rattle.grid.specs.Index.{excess}
 use Rattle.grid.proofs.excess_of.Given as goal
 
-abbrev pub invariant-loop-axis : goal.invariant-loop-axis
-invariant-loop-axis l = (l.axis ≤ 8) × (length l.levels ≡ 8) × (l.sum ≤ 8 * l.axis) × (excess l.levels ≡ l.sum + excess (drop l.axis l.levels))
-
-abbrev pub decreases-loop-axis : goal.decreases-loop-axis
-decreases-loop-axis l = 8 - l.axis
+abbrev pub invariant-loop-level : goal.invariant-loop-level
+invariant-loop-level l = (l.sum ≤ 7 * l.level-index) × (excess l.fn.levels ≡ l.sum + excess (drop l.level-index l.fn.levels))

@@ -1,12 +1,9 @@
 -- `grid::point_of` meets its contract: the positions passed are stored, their rank is carried, and the number left is that of the point
 -- over the axes left. Assumes nothing.
-use borrow.Author.Rules.{rules}
-use mathlib.Core.Path.{◌≡◌, refl, sym, ap, ap₂, ◌∙◌, subst}
-use mathlib.Core.List.{List, ◌∷◌, ◌++◌, append-nil}
-use Prim.Native.Nat.{ℕ, ◌+◌, ◌*◌, ◌/◌, ◌%◌, ◌<◌}
-use native.Mathlib.Nat.{le_trans, zero-mul, div-add-mod'}
-use native.Mathlib.Omega.{arith}
-use lib.ListN.{length, take, drop, set, length-set}
+use Rattle.std.proofs.Common.{◌≡◌, ◌<◌, ℕ, List, ◌∷◌, ◌++◌, ◌+◌, ◌*◌, ◌/◌, ◌%◌, length, take, drop, set, arith, refl, sym, ap, ap₂, ◌∙◌, subst}
+use mathlib.Core.List.{append-nil}
+use native.Mathlib.Nat.{le_trans, div-add-mod'}
+use lib.ListN.{length-set}
 use lib.Seq.{take_all}
 use Rattle.rule.specs.Points.{new_count, new_point}
 use Rattle.grid.specs.Index.{level, Within}
@@ -58,66 +55,35 @@ module _ (k : List ℕ) (a s n : ℕ) (h : a < length k) (w : Within k) (e : s �
       ∙ ap (λ (y : ℕ). y ∷ point_after (r * n + i / (s / n)) (drop (a + 1) k) (i % (s / n))) (sym q))
       ∙ sym (store_next pt (point_after (r * n + i / (s / n)) (drop (a + 1) k) (i % (s / n))) a x (omega arith))
 
-pub block_size-size-requires : goal.block_size-size-requires
-block_size-size-requires c = c.requires.0
-
 pub loop-axis-init : goal.loop-axis-init
 unfolding point_of
-loop-axis-init c = (
-  omega arith,
-  search rules,
-  refl,
-  c.block_size-size.ensures,
-  subst (λ x. c.args.n < x) (sym c.block_size-size.ensures) c.requires.1,
-  refl,
-  omega (arith, zero-mul c.block_size-size.result),
-)
-
-pub offset_bounds-levels-axis : goal.offset_bounds-levels-axis
-offset_bounds-levels-axis c = omega arith
-
-pub bounds-levels-axis : goal.bounds-levels-axis
-bounds-levels-axis c = omega arith
-
-pub new_count-count-requires : goal.new_count-count-requires
-new_count-count-requires c = c.requires.0.high c.loop-axis.axis (omega arith)
+loop-axis-init c =
+    let size = c.block_size-size.ensures in
+    record { eight = refl; size = size; left = subst (λ x. c.args.n < x) (sym size) c.requires.1; point = refl; rank = omega arith }
 
 pub nonzero_div-size : goal.nonzero_div-size
 nonzero_div-size c =
     let l = c.loop-axis in
-    counted c.args.levels l.axis l.size c.new_count-count.result (omega arith) c.requires.0 l.invariant.3 c.new_count-count.ensures
+    counted c.args.levels l.axis l.size c.new_count-count.result (omega arith) c.requires.0 l.invariant.size c.new_count-count.ensures
 
 pub nonzero_div-q : goal.nonzero_div-q
 nonzero_div-q c =
     let l = c.loop-axis in
-    size_next_pos c.args.levels l.axis l.size c.new_count-count.result (omega arith) c.requires.0 l.invariant.3 c.new_count-count.ensures
+    size_next_pos c.args.levels l.axis l.size c.new_count-count.result (omega arith) c.requires.0 l.invariant.size c.new_count-count.ensures
 
 pub number_visited-requires : goal.number_visited-requires
 number_visited-requires c =
     let l = c.loop-axis in
-    let k = c.args.levels in
-    let w = c.requires.0 in
-    subst (λ x. l.left / (l.size / c.new_count-count.result) < x) (sym c.new_count-count.ensures)
-    (first-digit k l.axis l.size c.new_count-count.result (omega arith) w l.invariant.3 c.new_count-count.ensures l.left l.invariant.4)
-
-pub new_point-requires : goal.new_point-requires
-new_point-requires c =
-    let l = c.loop-axis in
-    let w = c.requires.0 in (
-      w.low l.axis (omega arith),
-      w.high l.axis (omega arith),
-      subst (λ x. c.number_visited.result < x) c.new_count-count.ensures c.number_visited.ensures.1,
-    )
-
-pub bounds-point-axis : goal.bounds-point-axis
-bounds-point-axis c = omega arith
+    let n = c.new_count-count in
+    subst (λ x. l.left / (l.size / n.result) < x) (sym n.ensures)
+    (first-digit c.args.levels l.axis l.size n.result (omega arith) c.requires.0 l.invariant.size n.ensures l.left l.invariant.left)
 
 pub overflow_mul-rank : goal.overflow_mul-rank
 overflow_mul-rank c =
     let l = c.loop-axis in
     omega (
       arith,
-      rank_small c.args.levels l.axis l.size c.new_count-count.result (omega arith) c.requires.0 l.invariant.3 c.new_count-count.ensures l.rank l.left c.args.n l.invariant.6 c.requires.1,
+      rank_small c.args.levels l.axis l.size c.new_count-count.result (omega arith) c.requires.0 l.invariant.size c.new_count-count.ensures l.rank l.left c.args.n l.invariant.rank c.requires.1,
     )
 
 pub overflow_add-rank : goal.overflow_add-rank
@@ -125,39 +91,31 @@ overflow_add-rank c =
     let l = c.loop-axis in
     omega (
       arith,
-      rank_small c.args.levels l.axis l.size c.new_count-count.result (omega arith) c.requires.0 l.invariant.3 c.new_count-count.ensures l.rank l.left c.args.n l.invariant.6 c.requires.1,
+      rank_small c.args.levels l.axis l.size c.new_count-count.result (omega arith) c.requires.0 l.invariant.size c.new_count-count.ensures l.rank l.left c.args.n l.invariant.rank c.requires.1,
     )
 
 pub nonzero_rem-left : goal.nonzero_rem-left
 nonzero_rem-left c =
     let l = c.loop-axis in
-    size_next_pos c.args.levels l.axis l.size c.new_count-count.result (omega arith) c.requires.0 l.invariant.3 c.new_count-count.ensures
-
-pub overflow_add-axis : goal.overflow_add-axis
-overflow_add-axis c = omega arith
-
-pub loop-axis-smaller : goal.loop-axis-smaller
-loop-axis-smaller c = omega arith
+    size_next_pos c.args.levels l.axis l.size c.new_count-count.result (omega arith) c.requires.0 l.invariant.size c.new_count-count.ensures
 
 pub loop-axis-preserved : goal.loop-axis-preserved
 loop-axis-preserved c =
     let l = c.loop-axis in
+    let i = l.invariant in
     let k = c.args.levels in
     let w = c.requires.0 in
     let q = c.new_count-count.ensures in
-    let n = c.new_count-count.result in (
-      omega arith,
-      l.invariant.1,
-      length-set l.point l.axis c.new_point.result ∙ l.invariant.2,
-      size_next k l.axis l.size n (omega arith) w l.invariant.3 q,
-      rest_digit k l.axis l.size n (omega arith) w l.invariant.3 q l.left l.invariant.4,
-      l.invariant.5 ∙ next_point k l.axis l.size n (omega arith) w l.invariant.3 q l.point l.rank l.left c.new_point.result l.invariant.2 (omega arith) (c.new_point.ensures ∙ ap (new_point (level k l.axis)) c.number_visited.ensures.0),
-      next_rank k l.axis l.size n (omega arith) w l.invariant.3 q l.rank l.left ∙ l.invariant.6,
-    )
+    let n = c.new_count-count.result in record {
+      eight = length-set l.point l.axis c.new_point.result ∙ i.eight;
+      size = size_next k l.axis l.size n (omega arith) w i.size q;
+      left = rest_digit k l.axis l.size n (omega arith) w i.size q l.left i.left;
+      point = i.point ∙ next_point k l.axis l.size n (omega arith) w i.size q l.point l.rank l.left c.new_point.result i.eight (omega arith) (c.new_point.ensures ∙ ap (new_point (level k l.axis)) c.number_visited.ensures.0);
+      rank = next_rank k l.axis l.size n (omega arith) w i.size q l.rank l.left ∙ i.rank;
+    }
 
 pub returns : goal.returns
 returns c =
     let l = c.loop-axis in
-    let k = c.args.levels in
-    sym (l.invariant.5 ∙ ap (λ x. take l.axis l.point ++ x) (point_done l.rank k l.axis l.left (omega arith))
+    sym (l.invariant.point ∙ ap (λ x. take l.axis l.point ++ x) (point_done l.rank c.args.levels l.axis l.left (omega arith))
     ∙ append-nil (take l.axis l.point) ∙ take_all l.axis l.point (omega arith))

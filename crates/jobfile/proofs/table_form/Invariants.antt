@@ -8,10 +8,6 @@ use Rattle.jobfile.proofs.table_form.Given as goal
 
 abbrev pub invariant-loop-i : goal.invariant-loop-i
 invariant-loop-i l =
-    (l.i ≤ l.entries)
-    × (l.before ≤ 8192)
+    (l.before ≤ 8192)
     × (l.before ≡ total_before l.bytes l.i)
     × ((next : ℕ → Form) → table_form l.bytes l.entries 0 0 next ≡ table_form l.bytes (l.entries - l.i) l.i l.before next)
-
-abbrev pub decreases-loop-i : goal.decreases-loop-i
-decreases-loop-i l = l.entries - l.i

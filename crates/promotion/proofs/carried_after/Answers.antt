@@ -8,7 +8,7 @@ use Rattle.promotion.proofs.carried_after.Goals as goal
 pub returns-then-at_ceiling : goal.returns-then-at_ceiling
 returns-then-at_ceiling c =
     let a = c.args in
-    ap (λ t. a.carried + cond t a.indicator 0) (sym c.if-at_ceiling.true ∙ c.at_ceiling.ensures)
+    ap (λ n. a.carried + n) c.from.ensures ∙ ap (λ t. a.carried + cond t a.indicator 0) (sym c.if-at_ceiling.true ∙ c.at_ceiling.ensures)
 
 pub returns-else-at_ceiling : goal.returns-else-at_ceiling
 returns-else-at_ceiling c =

@@ -1,12 +1,8 @@
 -- `promotion::select` meets its contract: the best of the places passed is kept. Assumes nothing.
-use Prim.Native.Nat.{◌≤◌}
-use Rattle.area.specs.Records.{held_in}
+use Rattle.std.proofs.Common.{◌<◌, length, unwrap_or, IfSome}
 use Rattle.writing.specs.Heads.{heads_of}
 use Rattle.promotion.proofs.Best.{Best}
 use Rattle.promotion.proofs.select.Given as goal
 
 abbrev pub invariant-loop-place : goal.invariant-loop-place
-invariant-loop-place l = (l.place ≤ l.held) × Best (heads_of (held_in l.cells l.held)) l.place l.best l.largest
-
-abbrev pub decreases-loop-place : goal.decreases-loop-place
-decreases-loop-place l = l.place
+invariant-loop-place l = Best (heads_of l.held) l.place (unwrap_or l.best (length l.held)) l.largest × IfSome l.best (λ p. p < length l.held)

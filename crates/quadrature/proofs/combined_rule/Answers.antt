@@ -1,22 +1,22 @@
--- `quadrature::combined_rule` meets its contract: by the state that was read, and the product of a product_size c.coefficient.result c.tensor_rule-full.result c.coefficient.ensures.small c.tensor_rule-full.ensures.smalloefficient and a rule fits.
+-- `quadrature::combined_rule` meets its contract: by the state that was read, and the product of a coefficient and a rule fits.
 -- Assumes nothing.
 use borrow.Author.Rules.{sfits_of}
 use borrow.Author.Tests.{le-leb, lt-leb}
-use mathlib.Core.Path.{◌≡◌, refl, sym, ap, ap₂, ◌∙◌, subst}
+use mathlib.Core.Path.{◌≡◌, refl, sym, ap, ap₂, ◌∙◌}
 use mathlib.Core.List.{List}
 use Prim.Native.Nat.{ℕ, ◌≤◌}
 use native.Mathlib.Omega.{arith}
 use lib.IntN.{ℤ, pos, nat_abs, ◌*ℤ◌}
+use lib.ListN.{take}
+use lib.Seq.{get_or-take}
 use Rattle.sums.proofs.Words.{product_fits, product_is}
 use Rattle.grid.specs.Tensor.{tensor_rule}
 use Rattle.grid.specs.Coefficient.{coefficient}
 use Rattle.area.specs.declared.IndexRecord.{IndexRecord}
-use Rattle.area.specs.Records.{records_of, held_in}
+use Rattle.area.specs.Records.{blank}
 use Rattle.quadrature.specs.Readings.{record_at, stored_reading}
-use Rattle.quadrature.specs.Ready.{Ready}
 use Rattle.quadrature.specs.Linked.{delivered_in}
 use Rattle.quadrature.specs.Parts.{combined_rule}
-use Rattle.quadrature.proofs.Held.{held_record}
 use Rattle.quadrature.proofs.Totals.{product_size}
 use Rattle.quadrature.proofs.combined_rule.Goals as goal
 
@@ -30,21 +30,6 @@ module _ (hs rs : List IndexRecord) (store : List ℤ) (p : ℕ) where
   unfolding combined_rule
   delivered_is h = rw (le-leb 1 (record_at rs p).state h)
 
-pub state_at-state-requires : goal.state_at-state-requires
-state_at-state-requires c = omega (arith, c.requires.linked.1, c.requires.linked.2)
-
-pub levels_at-requires : goal.levels_at-requires
-levels_at-requires c = omega (arith, c.requires.linked.1, c.requires.linked.2)
-
-pub tensor_rule-full-requires : goal.tensor_rule-full-requires
-tensor_rule-full-requires c =
-    subst (λ k. Ready c.args.axes (records_of c.args.cells.now) c.args.store.now k) (sym c.levels_at.ensures)
-    (c.requires.ready (omega (arith, c.state_at-state.ensures, c.if-state-eq-WANTED.false)))
-
-pub coefficient-requires : goal.coefficient-requires
-coefficient-requires c =
-    (c.requires.linked.0, c.requires.linked.1, omega (arith, c.requires.linked.2))
-
 pub overflow_mul-result : goal.overflow_mul-result
 overflow_mul-result c =
     product_fits c.coefficient.result c.tensor_rule-full.result c.tensor_rule-full.result (sfits_of c.coefficient.type_inv) (sfits_of c.tensor_rule-full.type_inv) refl
@@ -53,22 +38,21 @@ overflow_mul-result c =
 pub returns-then-state-eq-WANTED : goal.returns-then-state-eq-WANTED
 returns-then-state-eq-WANTED c =
     record {
-      is = sym (wanted-zero (held_in c.args.cells.now c.args.held) (records_of c.args.cells.now) c.args.store.now c.args.place (sym c.state_at-state.ensures ∙ c.if-state-eq-WANTED.true));
+      is = sym (wanted-zero (take c.args.held c.args.records.now) c.args.records.now c.args.store.now c.args.place (sym c.state-state.ensures ∙ c.if-state-eq-WANTED.true));
       small = omega arith;
     }
 
 pub returns-else-state-eq-WANTED : goal.returns-else-state-eq-WANTED
 returns-else-state-eq-WANTED c =
-    let cells = c.args.cells.now in
-    let hs = held_in cells c.args.held in
-    let rs = records_of cells in
+    let rs = c.args.records.now in
+    let hs = take c.args.held rs in
     let is =
     product_is c.coefficient.result c.tensor_rule-full.result c.tensor_rule-full.result (sfits_of c.coefficient.type_inv) (sfits_of c.tensor_rule-full.type_inv) refl
     (omega (arith, product_size c.coefficient.result c.tensor_rule-full.result c.coefficient.ensures.small c.tensor_rule-full.ensures.small)) in
-    let own = held_record cells c.args.held c.requires.linked.1 c.args.place c.requires.linked.2 in record {
+    let own = get_or-take c.args.held rs c.args.place blank c.requires.linked.2 in record {
       is = is
-          ∙ ap₂ ◌*ℤ◌ (c.coefficient.ensures.is ∙ ap (λ (r : IndexRecord). coefficient (delivered_in hs) r.levels) own)
-          (c.tensor_rule-full.ensures.is ∙ ap (λ k. tensor_rule k (stored_reading rs c.args.store.now)) c.levels_at.ensures)
-          ∙ sym (delivered_is hs rs c.args.store.now c.args.place (omega (arith, c.state_at-state.ensures, c.if-state-eq-WANTED.false)));
+          ∙ ap₂ ◌*ℤ◌ (rw c.front.ensures at c.coefficient.ensures.is ∙ ap (λ (r : IndexRecord). coefficient (delivered_in hs) r.levels) own)
+          (c.tensor_rule-full.ensures.is ∙ ap (λ k. tensor_rule k (stored_reading rs c.args.store.now)) c.levels.ensures)
+          ∙ sym (delivered_is hs rs c.args.store.now c.args.place (omega (arith, c.state-state.ensures, c.if-state-eq-WANTED.false)));
       small = omega (arith, ap nat_abs is, product_size c.coefficient.result c.tensor_rule-full.result c.coefficient.ensures.small c.tensor_rule-full.ensures.small);
     }

@@ -17,9 +17,8 @@ use Rattle.area.specs.declared.IndexRecord.{IndexRecord}
 use Rattle.quadrature.specs.Readings.{stored_reading}
 use Rattle.quadrature.specs.Ready.{Ready}
 use Rattle.quadrature.specs.Parts.{left_at, walk_left}
-use Rattle.quadrature.proofs.Shifts.{left_all}
 use Rattle.quadrature.proofs.WalkInvariants.{invariant_start, first-level}
-use Rattle.quadrature.proofs.Walks.{walk_all}
+use Rattle.quadrature.proofs.Walks.{left_all, walk_all}
 use Rattle.quadrature.proofs.scaled_difference.Goals as goal
 
 module _ {d : ℕ} {rs : List IndexRecord} {s : List ℤ} {k : List ℕ} (ready : Ready d rs s k) where
@@ -44,7 +43,7 @@ pub level_walk-sum-requires : goal.level_walk-sum-requires
 level_walk-sum-requires c =
     let ready = c.requires in
     record {
-      ready = (ready, invariant_start ready);
+      stands = invariant_start ready;
       axis_le_axes = (omega arith, λ h. sym (first-level ready));
       target_bound = room_start ready;
     }
@@ -52,7 +51,7 @@ level_walk-sum-requires c =
 pub scaled-requires : goal.scaled-requires
 scaled-requires c =
     let ready = c.requires in
-    (ready.ceilings, units_in ready, subst (λ x. nat_abs x ≤ 2 ^ 40) (sym (walk_is ready _ (back c.level_walk-sum.result (sfits_of c.level_walk-sum.type_inv) ∙ c.level_walk-sum.ensures))) (small ready))
+    subst (λ x. nat_abs x ≤ 2 ^ 40) (sym (walk_is ready _ (back c.level_walk-sum.result (sfits_of c.level_walk-sum.type_inv) ∙ c.level_walk-sum.ensures))) (small ready)
 
 pub returns : goal.returns
 returns c =

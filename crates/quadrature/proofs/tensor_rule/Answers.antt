@@ -11,19 +11,15 @@ use Rattle.sums.proofs.Words.{back}
 use Rattle.grid.specs.Difference.{units}
 use Rattle.grid.specs.Tensor.{tensor_sum, tensor_rule}
 use Rattle.grid.proofs.Differences.{tensor_size}
-use Rattle.grid.proofs.Levels.{units_small}
 use Rattle.area.specs.declared.IndexRecord.{IndexRecord}
 use Rattle.quadrature.specs.Readings.{stored_reading}
 use Rattle.quadrature.specs.Ready.{Ready}
 use Rattle.quadrature.specs.Parts.{left_at}
-use Rattle.quadrature.proofs.Shifts.{left_all}
+use Rattle.quadrature.proofs.Walks.{left_all}
 use Rattle.quadrature.proofs.WalkInvariants.{invariant_start, first-level}
 use Rattle.quadrature.proofs.tensor_rule.Goals as goal
 
 module _ {d : ℕ} {rs : List IndexRecord} {s : List ℤ} {k : List ℕ} (ready : Ready d rs s k) where
-  units_in : units k ≤ 20
-  units_in = units_small k ready.eight ready.ceilings
-
   -- the sum from the root gives the rule in the units of k
   rule_is : (x : ℤ) → x ≡ tensor_sum (drop 0 k) (left_at rs s 0 0 0) → pos (2 ^ (20 - units k)) *ℤ x ≡ tensor_rule k (stored_reading rs s)
   unfolding tensor_rule
@@ -36,14 +32,14 @@ pub tensor_sum-sum-requires : goal.tensor_sum-sum-requires
 tensor_sum-sum-requires c =
     let ready = c.requires in
     record {
-      ready = (ready, invariant_start ready);
+      stands = invariant_start ready;
       axis_le_axes = (omega arith, λ h. first-level ready);
     }
 
 pub scaled-requires : goal.scaled-requires
 scaled-requires c =
     let ready = c.requires in
-    (ready.ceilings, units_in ready, subst (λ x. nat_abs x ≤ 2 ^ 40) (sym (rule_is ready _ (back c.tensor_sum-sum.result (sfits_of c.tensor_sum-sum.type_inv) ∙ c.tensor_sum-sum.ensures))) (small ready))
+    subst (λ x. nat_abs x ≤ 2 ^ 40) (sym (rule_is ready _ (back c.tensor_sum-sum.result (sfits_of c.tensor_sum-sum.type_inv) ∙ c.tensor_sum-sum.ensures))) (small ready)
 
 pub returns : goal.returns
 returns c =

@@ -1,10 +1,5 @@
 -- `quadrature::unit_sum` meets its contract: the units so far and those of the axes left are the whole. Assumes nothing.
-use borrow.Author.Rules.{rules}
-use mathlib.Core.Path.{◌≡◌, refl}
-use mathlib.Core.List.{List}
-use Prim.Native.Nat.{ℕ, zero, suc, ◌+◌, ◌≤◌, ◌<◌}
-use native.Mathlib.Omega.{arith}
-use lib.ListN.{length, drop}
+use Rattle.std.proofs.Common.{◌≡◌, ◌≤◌, ◌<◌, ◌+◌, ℕ, zero, suc, List, length, drop, refl, arith}
 use Rattle.rule.specs.Rules.{unit}
 use Rattle.grid.specs.Index.{level}
 use Rattle.grid.specs.Difference.{units}
@@ -32,38 +27,19 @@ at_one zero h = refl
 at_one (suc zero) h = refl
 at_one (suc (suc l)) h = absurd (omega arith)
 
-pub loop-axis-init : goal.loop-axis-init
-loop-axis-init c = (omega arith, search rules, omega arith, omega arith)
-
-pub offset_bounds-target-axis : goal.offset_bounds-target-axis
-offset_bounds-target-axis c = omega arith
-
-pub bounds-target-axis : goal.bounds-target-axis
-bounds-target-axis c = omega arith
-
 pub overflow_add-units : goal.overflow_add-units
-overflow_add-units c = omega (arith, c.requires.high c.loop-axis.axis (omega arith))
+overflow_add-units c = omega (arith, c.requires.high c.loop-level.level-index (omega arith))
 
-pub overflow_add-axis : goal.overflow_add-axis
-overflow_add-axis c = omega arith
-
-pub loop-axis-smaller : goal.loop-axis-smaller
-loop-axis-smaller c = omega arith
-
-pub loop-axis-preserved : goal.loop-axis-preserved
-loop-axis-preserved c =
+pub loop-level-preserved : goal.loop-level-preserved
+loop-level-preserved c =
     let k = c.args.target in
-    let l = c.loop-axis in
-    let x = level k l.axis in
-    let high : x ≤ 8 = c.requires.high l.axis (omega arith) in
-    let e = step k l.axis (omega arith) in
+    let i = c.loop-level.level-index in
+    let high : level k i ≤ 8 = c.requires.high i (omega arith) in
+    let e = step k i (omega arith) in
     elim c.if-level-gt1.branch [
-      | then-level-gt1 w ↦ (omega arith, l.invariant.1, omega (arith, w.units-is), omega (arith, w.units-is, above x w.if-level-gt1.true))
-      | else-level-gt1 w ↦ (omega arith, l.invariant.1, omega (arith, w.units-is), omega (arith, w.units-is, at_one x w.if-level-gt1.false))
+      | then-level-gt1 w ↦ (omega arith, omega (arith, above (level k i) w.if-level-gt1.true))
+      | else-level-gt1 w ↦ (omega arith, omega (arith, at_one (level k i) w.if-level-gt1.false))
     ]
 
 pub returns : goal.returns
-returns c =
-    let k = c.args.target in
-    let l = c.loop-axis in
-    omega (arith, l.invariant.3, done k l.axis (omega arith))
+returns c = omega (arith, done c.args.target c.loop-level.level-index (omega arith))

@@ -1,33 +1,26 @@
 -- `records::deliver` meets its contract: the call on the first records, with what it changed stored back, is the call on all. Assumes nothing.
-use mathlib.Core.Path.{◌≡◌, subst}
-use mathlib.Core.List.{List}
-use native.Mathlib.Omega.{arith}
+use borrow.Author.Rules.{rules}
+use mathlib.Core.Path.{◌≡◌}
 use lib.ListN.{length}
-use Rattle.area.specs.declared.IndexRecord.{IndexRecord}
-use Rattle.area.specs.Records.{records_of}
+use Rattle.calls.specs.Cause.{number_of_cause}
+use Rattle.calls.specs.Replies.{accepted}
 use Rattle.calls.specs.Table as table
-use Rattle.calls.specs.Calls.{call_on}
-use Rattle.records.specs.Lent.{area_on, call_result_on, over}
-use Rattle.records.proofs.Overs.{min-left, min_right}
-use Rattle.records.proofs.Lent.{front_leaves}
+use Rattle.calls.proofs.Found.{handed_on}
+use Rattle.records.proofs.Stored.{stored_held, refused_none}
 use Rattle.records.proofs.deliver.Goals as goal
 
-pub flat_deliver-done-requires : goal.flat_deliver-done-requires
-flat_deliver-done-requires c = omega (arith, c.flatten-flat.ensures.0, min_right (length c.args.records.now) 512)
-
-pub put_back-requires : goal.put_back-requires
-put_back-requires c =
-    let flat = c.flatten-flat in
-    let done = c.flat_deliver-done in
-    (omega (arith, done.ensures.0, flat.ensures.0, min-left (length c.args.records.now) 512), omega (arith, done.ensures.0, flat.ensures.0, min_right (length c.args.records.now) 512))
+pub returns-in_err-deliver : goal.returns-in_err-deliver
+returns-in_err-deliver c =
+    let d = c.in_err-deliver.field-0.0 in
+    let flat = c.of-count.result in
+    let words : length c.of-count.result.words ≡ 13824 = search rules in
+    rw (handed_on c.from_residual.result d c.from_residual.ensures)
+    (refused_none c.args.job.now c.args.records.now c.args.store.now flat.count flat.words c.deliver.new.cells c.deliver.new.job c.deliver.new.store c.of-count.ensures.count words c.of-count.ensures.front c.deliver.auto.cells
+    (table.deliver c.args.readings.now c.args.indicator) (number_of_cause d) c.in_err-deliver.ensures)
 
 pub returns : goal.returns
 returns c =
-    let rs = c.args.records.now in
-    let flat = c.flatten-flat in
-    let done = c.flat_deliver-done in
-    let asked = table.deliver c.args.readings.now c.args.indicator in
-    front_leaves c.args.job rs c.args.store.now asked done.result.answer done.result.words c.flat_deliver-done.new.store c.put_back.new.records flat.result.count done.result.stored
-    flat.ensures.0 done.ensures.0
-    (subst (λ (l : List IndexRecord). call_result_on done.result.answer (over done.result.stored (records_of done.result.words) l) c.flat_deliver-done.new.store ≡ call_on (area_on c.args.job l c.args.store.now) asked) flat.ensures.1 done.ensures.1)
-    c.put_back.ensures
+    let flat = c.of-count.result in
+    let words : length c.of-count.result.words ≡ 13824 = search rules in
+    stored_held c.args.job.now c.args.records.now c.args.store.now flat.count flat.words c.deliver.new.cells (table.deliver c.args.readings.now c.args.indicator) accepted c.deliver.new.job c.deliver.new.store c.of-count.ensures.count words
+    c.of-count.ensures.front c.deliver.auto.cells c.in_ok-deliver.ensures c.store_back.new.records c.store_back.ensures

@@ -1,21 +1,10 @@
 -- `records::points` meets its contract: the call on the first records answers as on all. Assumes nothing.
 use mathlib.Core.Path.{◌∙◌}
-use native.Mathlib.Omega.{arith}
-use lib.ListN.{length}
-use Rattle.area.specs.Encoding.{Area}
-use Rattle.records.proofs.Overs.{min_right}
 use Rattle.calls.specs.Table as table
-use Rattle.calls.specs.Calls.{call_on}
-use Rattle.records.proofs.Lent.{front-answer}
-use Rattle.records.proofs.Fronted.{at_front}
+use Rattle.records.proofs.Lent.{answer_on_cells}
 use Rattle.records.proofs.points.Goals as goal
-
-pub flat_points-requires : goal.flat_points-requires
-flat_points-requires c = omega (arith, c.flatten-flat.ensures.0, min_right (length c.args.records.now) 512)
 
 pub returns : goal.returns
 returns c =
-    let flat = c.flatten-flat in
-    let asked = table.points c.args.n c.args.buffer.now in
-    at_front (λ (a : Area). (call_on a asked).answer) c.args.job c.args.records.now c.args.store.now flat.ensures.0 flat.ensures.1 c.flat_points.ensures
-    ∙ front-answer c.args.job c.args.records.now c.args.store.now asked
+    c.points.ensures
+    ∙ answer_on_cells c.args.job c.args.records.now c.args.store.now c.of-flat.result.words _ (table.points c.args.n c.args.buffer.now) c.of-flat.ensures.count c.of-flat.ensures.front c.cells.ensures

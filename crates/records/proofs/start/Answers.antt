@@ -1,20 +1,23 @@
--- `records::start` meets its contract: start goes by the number of the records, and what it stores is stored back. Assumes nothing.
-use mathlib.Core.Path.{sym, ap, ◌∙◌}
-use mathlib.Core.List.{List}
-use native.Mathlib.Omega.{arith}
-use Rattle.area.specs.declared.IndexRecord.{IndexRecord}
-use Rattle.records.specs.Lent.{call_result_on}
-use Rattle.records.proofs.Overs.{min-left, min_right}
+-- `records::start` meets its contract: start goes by the number of the records, and what it changed is stored back. Assumes nothing.
+use borrow.Author.Rules.{rules}
+use mathlib.Core.Path.{◌≡◌}
+use lib.ListN.{length}
+use Rattle.calls.specs.Cause.{number_of_cause}
+use Rattle.calls.proofs.Found.{handed_on}
+use Rattle.records.proofs.Started.{start_refused, start_accepted}
 use Rattle.records.proofs.start.Goals as goal
 
-pub put_back-requires : goal.put_back-requires
-put_back-requires c =
-    let lent = c.count-lent in
-    let done = c.flat_start-done in
-    (omega (arith, done.ensures.0, lent.ensures, min-left lent.result 512), omega (arith, done.ensures.0, min_right lent.result 512))
+pub returns-in_err-start : goal.returns-in_err-start
+returns-in_err-start c =
+    let d = c.in_err-start.field-0.0 in
+    let room = c.room-count.result in
+    let words : length c.room-count.result.words ≡ 13824 = search rules in
+    rw (handed_on c.from_residual.result d c.from_residual.ensures)
+    (start_refused c.args.job.now c.args.records.now c.args.store.now room.count room.words c.start.new.cells c.args.settings c.start.new.job c.room-count.ensures words c.start.auto.cells (number_of_cause d) c.in_err-start.ensures)
 
 pub returns : goal.returns
 returns c =
-    let done = c.flat_start-done in
-    ap (λ (l : List IndexRecord). call_result_on done.result.answer l c.args.store.now) c.put_back.ensures
-    ∙ done.ensures.1 c.args.records.now (sym c.count-lent.ensures)
+    let room = c.room-count.result in
+    let words : length c.room-count.result.words ≡ 13824 = search rules in
+    start_accepted c.args.job.now c.args.records.now c.args.store.now room.count room.words c.start.new.cells c.args.settings c.start.new.job c.room-count.ensures words c.start.auto.cells c.store_back.new.records c.in_ok-start.ensures
+    c.store_back.ensures

@@ -1,25 +1,12 @@
 -- `reporting::put_refusal` meets its contract: its parts, one after the other. Assumes nothing.
-use native.Mathlib.Omega.{arith}
-use Rattle.reporting.proofs.Reports.{at_room, byte_room, feed_room, end_small, refusal_written}
+use mathlib.Core.Path.{◌≡◌}
+use Rattle.reporting.specs.Text.{refusal_text}
+use Rattle.reporting.proofs.Texts.{refusal_parts}
 use Rattle.reporting.proofs.put_refusal.Goals as goal
-
-pub put_word-at-requires : goal.put_word-at-requires
-put_word-at-requires c =
-    at_room c.args.number c.args.byte c.requires c.put_word-refused.ensures c.put_number-named.ensures
-
-pub put_number-end-requires : goal.put_number-end-requires
-put_number-end-requires c =
-    byte_room c.args.number c.args.byte c.requires c.put_word-refused.ensures c.put_number-named.ensures c.put_word-at.ensures
-
-pub bounds-buffer-end : goal.bounds-buffer-end
-bounds-buffer-end c =
-    feed_room c.args.number c.args.byte c.requires c.put_word-refused.ensures c.put_number-named.ensures c.put_word-at.ensures c.put_number-end.ensures
-
-pub overflow_add-result : goal.overflow_add-result
-overflow_add-result c =
-    omega (arith, end_small c.args.number c.args.byte c.requires c.put_word-refused.ensures c.put_number-named.ensures c.put_word-at.ensures c.put_number-end.ensures)
 
 pub returns : goal.returns
 returns c =
-    let w = refusal_written c.args.number c.args.byte c.requires c.put_word-refused.ensures c.put_number-named.ensures c.put_word-at.ensures c.put_number-end.ensures in
-    record { bytes = w.0; count = w.1 }
+    let is : c.push.new.self ≡ refusal_text c.args.number c.args.byte =
+    rw (c.push.ensures, c.push_number-2.ensures.is, c.push_word-2.ensures, c.push_number.ensures.is, c.from.ensures, c.push_word.ensures, c.new-text.ensures)
+    (refusal_parts c.args.number c.args.byte) in
+    record { bytes = rw (c.copy_to.ensures.bytes, is); count = rw (c.copy_to.ensures.count, is) }

@@ -1,15 +1,14 @@
 -- `rule::difference_weight` meets its contract: each arm returns the definition's case. Assumes nothing.
 use mathlib.Core.Path.{sym, ◌∙◌}
+use mathlib.Core.Logic.{⊎_elim}
 use native.Mathlib.Omega.{arith}
 use Rattle.rule.proofs.Cases.{difference_none, difference_beyond, difference_one, difference_two_ends, difference_two_centre}
 use Rattle.rule.proofs.Cases.{difference_new, difference_older, ends_minus_one_lem, ends_minus_one_other}
 use Rattle.rule.proofs.difference_weight.Goals as goal
 
 pub returns-then-point-eq0 : goal.returns-then-point-eq0
-returns-then-point-eq0 c = sym (difference_none _ _ (omega arith))
-
-pub returns-then-rule-point : goal.returns-then-rule-point
-returns-then-rule-point c = sym (difference_beyond _ _ (omega arith))
+returns-then-point-eq0 c =
+    sym (⊎_elim (difference_none c.args.rule c.args.point) (λ h. difference_beyond c.args.rule c.args.point h.1) c.then-point-eq0.either)
 
 pub returns-in-2-point : goal.returns-in-2-point
 returns-in-2-point c = sym (difference_two_ends _ _ (omega arith) (omega arith))

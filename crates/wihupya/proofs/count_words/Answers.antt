@@ -15,5 +15,5 @@ unfolding count_words counts_in
 returns c =
     let n = c.args.counts in
     let fits : SFits w64 c.args.counts.mean = search rules in
-    let mean = c.bits_of-mean.ensures ∙ ap (of_z w64) (back n.mean fits) in
+    let mean = c.cast_unsigned-mean.ensures ∙ ap (of_z w64) (back n.mean fits) in
     λ i. c.low_word.ensures i ∷ c.high_word.ensures i ∷ (c.low_word-2.ensures ∙ ap low_word mean) i ∷ (c.high_word-2.ensures ∙ ap high_word mean) i ∷ n.old ∷ n.active ∷ n.wanted ∷ n.reserved ∷ n.ceiling ∷ c.low_word-3.ensures i ∷ c.high_word-3.ensures i ∷ []

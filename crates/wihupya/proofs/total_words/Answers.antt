@@ -11,5 +11,5 @@ use Rattle.wihupya.proofs.total_words.Goals as goal
 pub returns : goal.returns
 unfolding total_words
 returns c =
-    let bits = c.bits_of-bits.ensures ∙ ap (of_z w64) (back c.args.total c.ranges.total) in
+    let bits = c.cast_unsigned-bits.ensures ∙ ap (of_z w64) (back c.args.total c.ranges.total) in
     λ i. (c.low_word.ensures ∙ ap low_word bits) i ∷ (c.high_word.ensures ∙ ap high_word bits) i ∷ []

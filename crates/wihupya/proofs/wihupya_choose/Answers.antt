@@ -1,41 +1,31 @@
 -- `wihupya::wihupya_choose` meets its contract: the call on the words' job record; a choice is written, a refusal is not. Assumes nothing.
-use mathlib.Core.Path.{sym, ap}
+use mathlib.Core.Path.{◌≡◌, sym, ap, ◌∙◌, refl}
+use Prim.Native.Nat.{ℕ, ◌^◌, ◌<◌}
 use native.Mathlib.Omega.{arith}
-use Rattle.calls.specs.Replies.{reply_of_choose}
-use Rattle.wihupya.specs.Exports.{number_of, choice_words, answer_words}
-use Rattle.area.specs.Encoding.{area_of}
+use Rattle.std.specs.Prelude.{Result, Ok, Err, IfOk}
+use Rattle.area.specs.Encoding.{Area, area_of}
+use Rattle.machine.specs.Choose.{place}
+use Rattle.promotion.specs.declared.Choice.{Choice}
+use Rattle.promotion.specs.Outcomes.{choice_of}
+use Rattle.calls.specs.declared.cause.Cause.{Cause}
+use Rattle.calls.specs.Replies.{chosen, reply_of_choose}
 use Rattle.calls.specs.Table as table
+use Rattle.calls.specs.Calls.{call_on}
 use Rattle.calls.proofs.Facts.{call_facts}
+use Rattle.wihupya.specs.Exports.{number_of, answer_words}
+use Rattle.wihupya.proofs.Refusals.{answer_left}
 use Rattle.wihupya.proofs.wihupya_choose.Goals as goal
 
 -- the place that is chosen is one of 512
-pub overflow_cast-chosen : goal.overflow_cast-chosen
-unfolding reply_of_choose
-overflow_cast-chosen c =
-    let is = ap (λ (x : table.Answer). x.reply) c.in-Chosen.ensures in
-    let small = (call_facts.place_active (area_of c.job_of.result c.args.cells.now c.args.store.now) c.in-Chosen.place (sym is)).2 in
-    record { fits = omega (arith, small) }
+small : (a : Area) (r : Result Choice Cause) → table.answer (reply_of_choose r) ≡ (call_on a table.choose).answer → IfOk r (λ x. (p : ℕ) → choice_of x ≡ place p → p < 2 ^ 32)
+small a (Ok x) is = λ p e. let h = call_facts.place_active a p (sym (ap (λ (y : table.Answer). y.reply) is) ∙ ap chosen e) in omega (arith, h.2)
+small a (Err d) is = tt
 
-pub returns-in-Refused : goal.returns-in-Refused
-unfolding reply_of_choose number_of answer_words
-returns-in-Refused c =
-    let is = ap (λ (x : table.Answer). x.reply) (rw c.job_of.ensures at c.in-Refused.ensures) in
-    (ap number_of is, ap (λ x. answer_words x c.args.choice.now) is)
+pub put_answer-requires : goal.put_answer-requires
+put_answer-requires c = small (area_of c.into.result c.args.cells.now c.args.store.now) c.choose.result c.choose.ensures
 
-pub returns-in-Met : goal.returns-in-Met
-unfolding reply_of_choose number_of choice_words answer_words
-returns-in-Met c =
-    let is = ap (λ (x : table.Answer). x.reply) (rw c.job_of.ensures at c.in-Met.ensures) in
-    (ap number_of is, ap (λ x. answer_words x c.args.choice.now) is)
-
-pub returns-in-Capped : goal.returns-in-Capped
-unfolding reply_of_choose number_of choice_words answer_words
-returns-in-Capped c =
-    let is = ap (λ (x : table.Answer). x.reply) (rw c.job_of.ensures at c.in-Capped.ensures) in
-    (ap number_of is, ap (λ x. answer_words x c.args.choice.now) is)
-
-pub returns-in-Chosen : goal.returns-in-Chosen
-unfolding reply_of_choose number_of choice_words answer_words
-returns-in-Chosen c =
-    let is = ap (λ (x : table.Answer). x.reply) (rw c.job_of.ensures at c.in-Chosen.ensures) in
-    (ap number_of is, ap (λ x. answer_words x c.args.choice.now) is)
+pub returns : goal.returns
+unfolding number_of answer_words
+returns c =
+    let is = ap (λ (x : table.Answer). x.reply) (rw c.into.ensures.0 at c.choose.ensures) in
+    answer_left (λ (x : Choice). chosen (choice_of x)) c.choose.result _ c.put_answer.result c.args.choice.now c.put_answer.new.lent (λ x. refl) is c.put_answer.ensures.number c.put_answer.ensures.words

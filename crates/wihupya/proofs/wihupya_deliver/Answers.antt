@@ -1,20 +1,14 @@
 -- `wihupya::wihupya_deliver` meets its contract: the call on the words' job record, written as words again; a refusal writes none. Assumes nothing.
-use mathlib.Core.Path.{ap, ◌∙◌}
-use Rattle.wihupya.specs.Exports.{exported}
-use Rattle.area.specs.Records.{run_of}
+use mathlib.Core.Path.{refl}
+use Rattle.calls.specs.Replies.{accepted}
 use Rattle.calls.specs.Table as table
-use Rattle.wihupya.proofs.Refusals.{refused_words}
+use Rattle.wihupya.specs.Exports.{number_of}
+use Rattle.wihupya.proofs.Refusals.{words_left}
 use Rattle.wihupya.proofs.wihupya_deliver.Goals as goal
 
-pub returns-then-number-ne0-clause-is : goal.returns-then-number-ne0-clause-is
-unfolding exported
-returns-then-number-ne0-clause-is c =
-    let is = rw c.job_in.ensures.0 at c.deliver-answered.ensures in
-    let job = refused_words c.args.job.now c.args.cells.now c.args.store.now (table.deliver c.args.readings.now c.args.indicator) c.deliver-answered.result c.deliver-answered.new.cells c.deliver-answered.new.store c.number_of-number.result is c.number_of-number.ensures c.if-number-ne0.true c.job_in.ensures.1 in
-    (λ i. record { number = c.number_of-number.ensures i; job = job i; run = run_of c.deliver-answered.new.cells; store = c.deliver-answered.new.store }) ∙ ap exported is
-
 pub returns-clause-is : goal.returns-clause-is
-unfolding exported
+unfolding number_of
 returns-clause-is c =
-    let is = rw c.job_in.ensures.0 at c.deliver-answered.ensures in
-    (λ i. record { number = c.number_of-number.ensures i; job = c.words_of.ensures i; run = run_of c.deliver-answered.new.cells; store = c.deliver-answered.new.store }) ∙ ap exported is
+    let is = rw c.from-after.ensures.0 at c.deliver-delivered.ensures in
+    words_left (λ u. accepted) c.args.job.now c.args.cells.now _ (table.deliver c.args.readings.now c.args.indicator) c.deliver-delivered.result c.deliver-delivered.new.job c.deliver-delivered.new.cells c.deliver-delivered.new.store c.put_job.new.words c.put_job.result
+    (λ u. refl) c.from-after.ensures.1 is c.put_job.ensures.words c.put_job.ensures.number

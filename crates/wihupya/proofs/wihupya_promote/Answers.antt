@@ -1,26 +1,35 @@
 -- `wihupya::wihupya_promote` meets its contract: the call on the words' job record, written as words again; a refusal writes none. Assumes nothing.
-use mathlib.Core.Path.{ap, ◌∙◌}
-use Rattle.wihupya.specs.Exports.{exported, answer_words}
-use Rattle.area.specs.Records.{run_of}
+use mathlib.Core.Path.{◌≡◌, sym, ap, ◌∙◌, refl}
+use mathlib.Core.Bool.{cond}
+use mathlib.Core.List.{[], ◌∷◌}
+use Rattle.std.specs.Prelude.{Result, is_ok}
+use Rattle.calls.specs.declared.cause.Cause.{Cause}
+use Rattle.promotion.specs.declared.Outcome.{Outcome}
+use Rattle.promotion.specs.Outcomes.{outcome_of}
+use Rattle.calls.specs.Cause.{cause_of}
+use Rattle.calls.specs.Replies.{promotion}
 use Rattle.calls.specs.Table as table
 use Rattle.calls.specs.Calls.{CallResult}
-use Rattle.wihupya.proofs.Refusals.{refused_words, refused_outcome}
+use Rattle.wihupya.specs.Words.{words_of}
+use Rattle.wihupya.specs.Exports.{number_of, answer_words}
+use Rattle.wihupya.proofs.Refusals.{words_left}
 use Rattle.wihupya.proofs.wihupya_promote.Goals as goal
-
-pub returns-then-number-ne0-clause-is : goal.returns-then-number-ne0-clause-is
-unfolding exported
-returns-then-number-ne0-clause-is c =
-    let is = rw c.job_in.ensures.0 at c.promote-answered.ensures in
-    let job = refused_words c.args.job.now c.args.cells.now c.args.store.now (table.promote c.args.place) c.promote-answered.result c.promote-answered.new.cells c.args.store.now c.number_of-number.result is c.number_of-number.ensures c.if-number-ne0.true c.job_in.ensures.1 in
-    (λ i. record { number = c.number_of-number.ensures i; job = job i; run = run_of c.promote-answered.new.cells; store = c.args.store.now }) ∙ ap exported is
-
-pub returns-then-number-ne0-clause-outcome : goal.returns-then-number-ne0-clause-outcome
-returns-then-number-ne0-clause-outcome c =
-    let is = rw c.job_in.ensures.0 at c.promote-answered.ensures in
-    refused_outcome c.promote-answered.result.answer c.number_of-number.result c.args.outcome.now c.number_of-number.ensures c.if-number-ne0.true ∙ ap (λ (x : CallResult). answer_words x.answer.reply c.args.outcome.now) is
+use Rattle.wihupya.proofs.wihupya_promote.Goals.{in-Ok, in_default}
 
 pub returns-clause-is : goal.returns-clause-is
-unfolding exported
+unfolding number_of
 returns-clause-is c =
-    let is = rw c.job_in.ensures.0 at c.promote-answered.ensures in
-    (λ i. record { number = c.number_of-number.ensures i; job = c.words_of.ensures i; run = run_of c.promote-answered.new.cells; store = c.args.store.now }) ∙ ap exported is
+    let is = rw c.from-after.ensures.0 at c.promote-promoted.ensures in
+    let same : c.match-promoted.promoted ≡ c.promote-promoted.result = elim c.match-promoted.branch [ in-Ok w ↦ (w.promoted-is ∙ sym w.in-Ok.is) | in_default w ↦ w.promoted-is ] in
+    words_left (λ (o : Outcome). promotion (outcome_of o)) c.args.job.now c.args.cells.now c.args.store.now (table.promote c.args.place) c.promote-promoted.result c.promote-promoted.new.job c.promote-promoted.new.cells c.args.store.now
+    c.put_job.new.words c.put_job.result (λ o. refl) c.from-after.ensures.1 is
+    (c.put_job.ensures.words ∙ ap (λ (r : Result Outcome Cause). cond (is_ok r) (words_of c.promote-promoted.new.job) c.args.job.now) same)
+    (c.put_job.ensures.number ∙ ap (λ (r : Result Outcome Cause). cause_of r) same)
+
+pub returns-clause-outcome : goal.returns-clause-outcome
+unfolding answer_words
+returns-clause-outcome c =
+    elim c.match-promoted.branch [
+      | in-Ok w ↦ (w.outcome-is ∙ ap (λ n. n ∷ []) w.outcome_word.ensures ∙ ap (λ (x : CallResult). answer_words x.answer.reply c.args.outcome.now) (rw c.from-after.ensures.0 at w.in-Ok.ensures))
+      | in_default w ↦ (w.outcome-is ∙ ap (λ (x : CallResult). answer_words x.answer.reply c.args.outcome.now) (rw c.from-after.ensures.0 at w.in_default.ensures))
+    ]

@@ -1,5 +1,5 @@
 -- `writing::name_back` meets its contract: the axes left name back what all of them would. Assumes nothing.
-use mathlib.Core.Path.{◌≡◌, refl, sym, ap, ◌∙◌}
+use mathlib.Core.Path.{◌≡◌, sym, ap, ◌∙◌}
 use mathlib.Core.Logic.{⊎_elim}
 use mathlib.Core.List.{List}
 use Prim.Native.Nat.{ℕ, ◌+◌, ◌-◌}
@@ -22,33 +22,12 @@ records_are before after place r e = ap (λ (u : Run). u.records) e
 rest_is : (before after : List ℕ) (place : ℕ) (r : IndexRecord) → run_of after ≡ stored (run_of before) place r → (run_of after).rest ≡ (run_of before).rest
 rest_is before after place r e = ap (λ (u : Run). u.rest) e
 
-pub loop-axis-init : goal.loop-axis-init
-loop-axis-init c = (omega arith, refl, refl, refl)
-
-pub overflow_add-behind : goal.overflow_add-behind
-overflow_add-behind c = omega arith
-
-pub offset_bounds-links-axis : goal.offset_bounds-links-axis
-offset_bounds-links-axis c = omega arith
-
-pub bounds-links-axis : goal.bounds-links-axis
-bounds-links-axis c = omega arith
-
-pub overflow_cast-held : goal.overflow_cast-held
-overflow_cast-held c = omega (arith, c.requires.0)
-
 pub link_forward-requires : goal.link_forward-requires
 unfolding none
 link_forward-requires c =
     let l = c.loop-axis in
     let here = ⊎_elim (λ e. absurd (c.if-behind.true e)) (λ h. h) (c.requires.1 l.axis (omega arith)) in
-    (omega (arith, here, length-records_of c.args.cells.now, l.invariant.1), omega arith)
-
-pub overflow_add-axis : goal.overflow_add-axis
-overflow_add-axis c = omega arith
-
-pub loop-axis-smaller : goal.loop-axis-smaller
-loop-axis-smaller c = omega arith
+    (omega (arith, here, length-records_of c.args.cells.now, l.invariant.0), omega arith)
 
 pub loop-axis-preserved : goal.loop-axis-preserved
 unfolding none
@@ -59,17 +38,15 @@ loop-axis-preserved c =
     let r = with_forward_link (record_at (records_of l.cells) behind) l.axis c.args.held in
     elim c.if-behind.branch [
       | then-behind w ↦ (
-        omega arith,
-        ap length w.cells-is ∙ w.link_forward.auto.cells ∙ l.invariant.1,
-        ap (λ x. (run_of x).rest) w.cells-is ∙ rest_is l.cells w.link_forward.new.cells behind r w.link_forward.ensures ∙ l.invariant.2,
-        l.invariant.3 ∙ named-one l.axis links c.args.held (records_of l.cells) (omega arith) w.if-behind.true
+        ap length w.cells-is ∙ w.link_forward.auto.cells ∙ l.invariant.0,
+        ap (λ x. (run_of x).rest) w.cells-is ∙ rest_is l.cells w.link_forward.new.cells behind r w.link_forward.ensures ∙ l.invariant.1,
+        l.invariant.2 ∙ named-one l.axis links c.args.held (records_of l.cells) (omega arith) w.if-behind.true
             ∙ ap (named_from (8 - (l.axis + 1)) (l.axis + 1) links c.args.held) (sym (ap records_of w.cells-is ∙ records_are l.cells w.link_forward.new.cells behind r w.link_forward.ensures)),
       )
       | else-behind w ↦ (
-        omega arith,
-        ap length w.cells-is ∙ l.invariant.1,
-        ap (λ x. (run_of x).rest) w.cells-is ∙ l.invariant.2,
-        l.invariant.3 ∙ named_none l.axis links c.args.held (records_of l.cells) (omega arith) w.if-behind.false
+        ap length w.cells-is ∙ l.invariant.0,
+        ap (λ x. (run_of x).rest) w.cells-is ∙ l.invariant.1,
+        l.invariant.2 ∙ named_none l.axis links c.args.held (records_of l.cells) (omega arith) w.if-behind.false
             ∙ ap (λ x. named_from (8 - (l.axis + 1)) (l.axis + 1) links c.args.held (records_of x)) (sym w.cells-is),
       )
     ]
@@ -77,5 +54,5 @@ loop-axis-preserved c =
 pub returns : goal.returns
 returns c =
     let l = c.loop-axis in
-    let e = l.invariant.3 ∙ named_end l.axis c.args.links c.args.held (records_of l.cells) c.loop-axis-test.false in
-    λ i. record { records = sym e i; rest = l.invariant.2 i }
+    let e = l.invariant.2 ∙ named_end l.axis c.args.links c.args.held (records_of l.cells) (omega arith) in
+    λ i. record { records = sym e i; rest = l.invariant.1 i }

@@ -1,12 +1,20 @@
--- `writing::set_state` meets its contract: one record loaded, changed and stored. Assumes nothing.
+-- `writing::set_state` meets its contract: one record read, changed and stored. Assumes nothing.
 use mathlib.Core.Path.{ap, ◌∙◌}
+use native.Mathlib.Omega.{arith}
+use lib.ListN.{length}
 use Rattle.area.specs.declared.IndexRecord.{IndexRecord}
 use Rattle.area.specs.Records.{run_of, stored}
+use Rattle.area.proofs.Records.{length-records_of}
+use Rattle.quadrature.specs.Readings.{record_at}
 use Rattle.writing.specs.Changes.{with_state}
 use Rattle.writing.proofs.set_state.Goals as goal
+
+pub record-index-requires : goal.record-index-requires
+record-index-requires c = omega (arith, c.requires, ap length c.all.ensures, length-records_of c.args.cells.now)
 
 pub returns : goal.returns
 unfolding with_state
 returns c =
     c.store.ensures
-    ∙ ap (λ (r : IndexRecord). stored (run_of c.args.cells.now) c.args.place (record { levels = r.levels; state = c.args.state; indicator = c.args.indicator; first = r.first; links = r.links })) c.load-index.ensures
+    ∙ ap (λ (r : IndexRecord). stored (run_of c.args.cells.now) c.args.place (with_state r c.args.state c.args.indicator))
+    (c.record-index.ensures ∙ ap (λ rs. record_at rs c.args.place) c.all.ensures)

@@ -1,0 +1,9 @@
+-- `IndexRecords::indicator` meets its contract: the cell of the row is the record's. Assumes nothing.
+use mathlib.Core.Path.{ap}
+use Rattle.area.specs.declared.IndexRecord.{IndexRecord}
+use Rattle.area.specs.Records.{record_of}
+use Rattle.area.proofs.index_records.IndexRecords.indicator.Goals as goal
+
+pub returns : goal.returns
+unfolding record_of
+returns c = ap (λ (r : IndexRecord). r.indicator) c.row.ensures.record

@@ -1,0 +1,13 @@
+-- `checking::Tested::all_complete` meets its contract: each place is asked. Assumes nothing.
+use borrow.Author.Rules.{rules}
+use borrow.Author.Tests.{tests}
+use mathlib.Core.Path.{ap, ◌∙◌}
+use Rattle.soundness.specs.Test.{all_from, place_complete_test, all_complete_test}
+use Rattle.checking.proofs.Each.{all_below}
+use Rattle.checking.proofs.Tested.all_complete.Goals as goal
+
+pub returns : goal.returns
+unfolding all_complete_test
+returns c =
+    let f = place_complete_test c.args.self.now.job.settings.axes c.args.self.now.held.now in
+    all_below f c.len.result _ _ c.all.result c.all.ensures.ran (λ x b q k. search (rules, tests)) ∙ ap (λ n. all_from n 0 f) c.len.ensures
