@@ -20,7 +20,7 @@ use Rattle.std.specs.Prelude.{Option, Some, None, option_map}
 use Rattle.area.specs.Records.{records_of, blank, held_in, levels_of}
 use Rattle.area.specs.Lookup.{lookup_from, lookup_in}
 use Rattle.area.specs.Packed.{packed, FitsByte, fits_byte, all_fit_byte, words_with, PackedRun, PackedWords, word_from}
-use Rattle.area.proofs.Records.{length-records_of}
+use Rattle.area.proofs.Records.{length-records_of, eight_levels}
 use Rattle.area.proofs.Packs.{pack_facts}
 
 -- ---- the search
@@ -58,6 +58,15 @@ pub found_packed : (ws : List ℕ) (rs : List IndexRecord) (k : List ℕ) → le
     → lookup_in rs k ≡ word_from 0 (take (length rs) ws) (packed k)
 unfolding lookup_in
 found_packed ws rs k e eight u f = found_words 0 ws rs k (omega (arith, u.room, u.few)) f (λ q l. (eight q l ∙ sym e, u.fit q l, u.word q l))
+
+-- the same over the first n records of cells: each has eight levels, and the words searched are the first n
+pub found_packed_in_cells : (c : List ℕ) (n : ℕ) → n * 27 ≤ length c → (ws k : List ℕ) → length k ≡ 8 → PackedRun ws (held_in c n) → FitsByte k
+    → lookup_in (held_in c n) k ≡ word_from 0 (take n ws) (packed k)
+found_packed_in_cells c n room ws k e u f =
+    found_packed ws (held_in c n) k e
+    (λ p h. ap (λ (r : IndexRecord). length r.levels) (held_there c n room p (omega (arith, h, held_count c n room))) ∙ eight_levels c p (omega (arith, h, held_count c n room, room)))
+    u f
+    ∙ ap (λ m. word_from 0 (take m ws) (packed k)) (held_count c n room)
 
 -- the words left to search from a place on
 module _ (ws : List ℕ) (p w : ℕ) where

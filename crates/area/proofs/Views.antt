@@ -1,11 +1,13 @@
--- The records of an `IndexRecords`, seen as a list, and the cells behind it. Assumes nothing.
+-- The records of an `IndexRecords`, seen as a list, and the cells behind it; the words of a `HeldWords`, seen as words or none. Assumes nothing.
 use mathlib.Core.Path.{◌≡◌, sym, ap, ◌∙◌}
+use mathlib.Core.Bool.{Bool, true, cond}
 use mathlib.Core.List.{List}
 use Prim.Native.Nat.{ℕ, ◌+◌, ◌*◌, ◌-◌, ◌<◌, ◌≤◌}
 use native.Mathlib.Omega.{arith}
 use lib.ListN.{length, get_or, take, drop}
 use lib.Seq.{get_or-take, take-take}
 use Rattle.std.proofs.lemmas.List.{drop-take}
+use Rattle.std.specs.Prelude.{Some, None}
 use Rattle.area.specs.declared.IndexRecord.{IndexRecord}
 use Rattle.area.specs.Records.{records_of, record_of, blank, held_in}
 use Rattle.area.proofs.Records.{record_at_lem, eight_levels}
@@ -43,3 +45,7 @@ module _ (c : List ℕ) (n : ℕ) (rs : List IndexRecord) (room : n * 27 ≤ len
 
     pub eight_seen : length (get_or rs p blank).levels ≡ 8
     eight_seen = ap (λ (r : IndexRecord). length r.levels) (sym there) ∙ eight_levels c p within_cells
+
+-- words that are packed are seen
+pub words_seen : (words : List ℕ) (are_packed : Bool) → are_packed ≡ true → cond are_packed (Some words) None ≡ Some words
+words_seen words are_packed packed = ap (λ t. cond t (Some words) None) packed

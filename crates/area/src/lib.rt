@@ -2,7 +2,7 @@
 // Storage: what a job is started with and how many readings its points have; the job record by value, and index records in one lent
 // slice of cells, 27 words to a record. Only this crate touches a cell: `IndexRecords` reads, `store` writes, and their contracts speak of
 // the records that the cells hold. For a search the levels of records can be packed, eight to a word of 64 bits, beside the cells.
-ghost use Rattle.std.specs.Prelude.{◌≡◌, ◌+◌, ◌*◌, ◌<◌, ◌≤◌, List, ℕ, length, get_or, take, drop, Option, is_some, option_map, IfSome};
+ghost use Rattle.std.specs.Prelude.{◌≡◌, ◌+◌, ◌*◌, ◌<◌, ◌≤◌, List, ℕ, length, get_or, take, drop, Option, None, is_some, option_map, IfSome};
 ghost use Rattle.std.proofs.lemmas.List.Edits.{sets};
 ghost use Rattle.area.specs.Encoding.{none};
 ghost use Rattle.grid.specs.Index.{level, Within};
@@ -56,18 +56,22 @@ pub struct IndexRecord {
     pub links: [u32; 16],
 }
 
-// The levels of the held records, packed eight to a word: none where one of them is larger than a byte. An array, since the library has no heap. Whose words they are
+// The levels of the held records, packed eight to a word: none where one of them is larger than a byte. An array, since the library has no heap, with whether it holds
+// words beside it: an `Option` of the array was tried, and every promotion then copied the words, in three times the stack. Whose words they are
 // is a clause (`PackedWords`) and no invariant: they outlive the loan of the cells, which an append writes.
 #[derive(Drop)]
 pub struct HeldWords {
-    words: Option<[u64; 512]>,
+    words: [u64; 512],
+    are_packed: bool,
 }
 
 // Contracts see the words as they are, or none.
 impl Model for HeldWords {
+    ghost use Rattle.std.specs.Prelude.{Option, Some, None, cond, List, ℕ};
+
     ghost Value = { Option (List ℕ) };
 
-    ghost view = { λ w. w.words };
+    ghost view = { λ w. cond w.are_packed (Some w.words) None };
 }
 
 // How many readings so many points have.
@@ -130,20 +134,41 @@ fn lookup_word(words: &[u64], word: u64) -> Option<usize>
 }
 
 impl HeldWords {
-    // Packs the held records.
+    // No words, so that levels are compared unpacked.
+    pub fn none() -> HeldWords
+        ensures { result ≡ None }
+    {
+        HeldWords {
+            words: [0; 512],
+            are_packed: false,
+        }
+    }
+
+    // Packs the held records, in the place of the words that were there.
+    pub fn hold(&mut self, held: &IndexRecords)
+        requires { length held.now ≤ 512 }
+        ensures packs { is_some self.new ≡ all_fit_byte held.now }
+        ensures words { PackedWords self.new held.now }
+    {
+        self.are_packed = true;
+        for place in 0..held.len() {
+            let Some(word) = pack(held.levels(place)) else {
+                self.are_packed = false;
+                return;
+            };
+            self.words[place] = word;
+        }
+    }
+
+    // The words of the held records, by value. A promotion uses `hold`, which copies none.
     pub fn pack(held: &IndexRecords) -> HeldWords
         requires { length held.now ≤ 512 }
         ensures packs { is_some result ≡ all_fit_byte held.now }
         ensures words { PackedWords result held.now }
     {
-        let mut words = [0; 512];
-        for place in 0..held.len() {
-            let Some(word) = pack(held.levels(place)) else {
-                return HeldWords { words: None };
-            };
-            words[place] = word;
-        }
-        HeldWords { words: Some(words) }
+        let mut words = HeldWords::none();
+        words.hold(held);
+        words
     }
 
     // Writes the word of these levels at a place, where they fit; else no word changes.
@@ -151,9 +176,9 @@ impl HeldWords {
         requires { place < 512 }
         ensures { self.new ≡ option_map (λ ws. words_with ws place levels) self.old }
     {
-        if let Some(words) = &mut self.words {
+        if self.are_packed {
             if let Some(word) = pack(levels) {
-                words[place] = word;
+                self.words[place] = word;
             }
         }
     }
@@ -164,10 +189,10 @@ impl HeldWords {
         requires { PackedWords self.now held.now }
         ensures { result ≡ lookup_in held.now levels }
     {
-        if let Some(words) = &self.words
+        if self.are_packed
             && let Some(word) = pack(levels)
         {
-            return lookup_word(&words[..held.count], word);
+            return lookup_word(&self.words[..held.count], word);
         }
         held.lookup(levels)
     }

@@ -112,7 +112,9 @@ fn put_readings(first: usize, readings: &[i32], store: &mut [i32])
     requires { first + length readings.now ≤ length store.old }
     ensures { store.new ≡ sets store.old first readings.now }
 {
-    store[first..first + readings.len()].copy_from_slice(readings);
+    for (n, reading) in readings.iter().enumerate() {
+        store[first + n] = *reading;
+    }
 }
 
 // Delivers the first wanted block, which is that at `place`.

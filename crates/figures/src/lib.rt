@@ -76,13 +76,15 @@ pub extern "C" fn figures_point(place: usize, n: usize, point: &mut [u8; 8], cel
 }
 
 // The first held place with these levels, or NONE: the held records are packed, then searched.
+#[tactic(auto, using(quadrature::proofs::Held::held_length))]
 #[unsafe(no_mangle)]
 pub extern "C" fn figures_search(held: usize, levels: &[u32; 8], cells: &[u32]) -> usize
     requires { (held * 27 ≤ length cells.now) × (held ≤ 512) }
     ensures { result ≡ place_of (levels_of (held_in cells.now held)) levels.now }
 {
     let records = area::IndexRecords::first(cells, held);
-    let words = area::HeldWords::pack(&records);
+    let mut words = area::HeldWords::none();
+    words.hold(&records);
     words
         .lookup(&records, *levels)
         .unwrap_or(area::NONE as usize)

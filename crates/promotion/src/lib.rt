@@ -211,7 +211,8 @@ pub fn refine(
     let reserved = job.reserved as usize;
     let most = limit as usize;
     let held_records = area::IndexRecords::first(cells, held);
-    let mut words = area::HeldWords::pack(&held_records);
+    let mut words = area::HeldWords::none();
+    words.hold(&held_records);
     let levels = held_records.levels(place);
     let scan = Scan {
         held: &held_records,

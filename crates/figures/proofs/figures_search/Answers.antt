@@ -10,9 +10,6 @@ use Rattle.figures.proofs.figures_search.Goals as goal
 few : (cells : List ℕ) (held : ℕ) → held * 27 ≤ length cells → held ≤ 512 → length (held_in cells held) ≤ 512
 few cells held room h = omega (arith, held_length cells held room)
 
-pub pack-words-requires : goal.pack-words-requires
-pack-words-requires c = rw c.first-records.ensures (few c.args.cells.now c.args.held c.requires.0 c.requires.1)
-
 pub returns : goal.returns
 unfolding none
 returns c =

@@ -10,14 +10,14 @@ use Rattle.promotion.proofs.refine.Goals as goal
 pub first-held_records-requires : goal.first-held_records-requires
 first-held_records-requires c = room c.args.job.now c.args.cells.now c.args.store.now c.requires.valid_area.0
 
-pub pack-words-requires : goal.pack-words-requires
-pack-words-requires c = pack_asks (refinable c.requires.valid_area c.requires.place_lt_held) c.first-held_records.ensures
+pub hold-requires : goal.hold-requires
+hold-requires c = pack_asks (refinable c.requires.valid_area c.requires.place_lt_held) c.first-held_records.ensures
 
 pub levels-levels-requires : goal.levels-levels-requires
 levels-levels-requires c = place_held (refinable c.requires.valid_area c.requires.place_lt_held) c.first-held_records.ensures
 
 pub invariant_of-scan : goal.invariant_of-scan
-invariant_of-scan c = scannable (refinable c.requires.valid_area c.requires.place_lt_held) c.first-held_records.ensures c.pack-words.ensures.words
+invariant_of-scan c = scannable (refinable c.requires.valid_area c.requires.place_lt_held) c.first-held_records.ensures c.hold.ensures.words
 
 pub admitted-neighbours-requires : goal.admitted-neighbours-requires
 admitted-neighbours-requires c =
@@ -47,7 +47,7 @@ append-requires c =
     let i = c.indicator-indicator.result in
     record {
       in_bounds = append_asks t (scanned c.first-held_records.ensures c.levels-levels.ensures c.admitted-neighbours.ensures) (counted c.count-count.ensures.0 c.sizes-sizes.ensures.0) (length e.new.cells) c.readings_for-first.result e.auto.cells c.readings_for-first.ensures c.if-held-count-gt512.false c.if-is_over.false;
-      packed = state_words cells e.new.cells c.pack-words.result c.args.job.now.held c.args.place 2 i e.ensures (subst (PackedWords c.pack-words.result) c.first-held_records.ensures c.pack-words.ensures.words);
+      packed = state_words cells e.new.cells c.hold.new.self c.args.job.now.held c.args.place 2 i e.ensures (subst (PackedWords c.hold.new.self) c.first-held_records.ensures c.hold.ensures.words);
     }
 
 pub overflow_sub-job : goal.overflow_sub-job
