@@ -1,6 +1,6 @@
 -- An area that no cause refuses is valid; and what the code reads from its cells is what its entries have.
 -- Assumes nothing.
-use mathlib.Core.Path.{◌≡◌, sym, ap, ◌∙◌, subst}
+use mathlib.Core.Path.{◌≡◌, refl, sym, ap, ◌∙◌, subst}
 use mathlib.Core.Bool.{◌&&◌, true, false}
 use mathlib.Core.List.{List}
 use Prim.Native.Nat.{ℕ, ◌*◌, ◌/◌, ◌<◌, ◌≤◌}
@@ -127,3 +127,12 @@ module _ (j : JobRecord) (cells : List ℕ) (store : List ℤ) (none : 0 ≡ are
         → is_some r ≡ any_wanted (machine_of (area_of j cells store)).log.entries
     is_wanted None e h = sym (nothing e)
     is_wanted (Some p) e h = sym (something p e h)
+
+-- ---- an Option of a place below n, as a place: n stands for none
+pub some_below : (r : Option ℕ) (n p : ℕ) → p ≡ unwrap_or r n → p < n → is_some r ≡ true
+some_below None n p is h = absurd (omega (arith, is, h))
+some_below (Some q) n p is h = refl
+
+pub none_above : (r : Option ℕ) (n p : ℕ) → IfSome r (λ q. q < n) → p ≡ unwrap_or r n → n ≤ p → is_some r ≡ false
+none_above None n p within is h = refl
+none_above (Some q) n p within is h = absurd (omega (arith, is, within, h))

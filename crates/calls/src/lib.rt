@@ -116,7 +116,10 @@ fn choose_cause(job: area::JobRecord, cells: &[u32], store: &[i32]) -> Result<()
 {
     area_cause(job, cells, store)?;
     let held = area::IndexRecords::first(cells, job.held as usize);
-    let is_wanted = delivery::first_wanted(&held).is_some();
+    // Compared as a place, the number of the held where none is wanted, and no `is_some`: an edit changes what it is compared with.
+    let count = held.len();
+    let place = delivery::first_wanted(&held).unwrap_or(count);
+    let is_wanted = place < count;
     if is_wanted {
         return Err(Cause::BlockWanted);
     }

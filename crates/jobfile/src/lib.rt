@@ -71,8 +71,9 @@ fn entry_form(bytes: &[u8], entries: usize, i: usize, before: usize) -> Result<u
 {
     let size = bytes.len();
     let from = 24 + 12 * i;
+    let cut_off = FormError::Entry(size);
     if size < from + 8 {
-        return Err(FormError::Entry(size));
+        return Err(cut_off);
     }
     let count = four_at(bytes, from + 4) as usize;
     let many = 8192 < before + count;
@@ -80,7 +81,7 @@ fn entry_form(bytes: &[u8], entries: usize, i: usize, before: usize) -> Result<u
         return Err(FormError::Entry(from + 4));
     }
     if size < from + 12 {
-        return Err(FormError::Entry(size));
+        return Err(cut_off);
     }
     let first = 24 + 12 * entries + 4 * before;
     if four_at(bytes, from + 8) as usize != first {

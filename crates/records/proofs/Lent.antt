@@ -11,15 +11,16 @@ use lib.ListN.{length, take, drop, take-append-drop, drop_of_length-le}
 use lib.Seq.{take_all, length-take-le}
 use Rattle.area.specs.declared.IndexRecord.{IndexRecord}
 use Rattle.area.specs.declared.JobRecord.{JobRecord}
-use Rattle.area.specs.Records.{Run, run_of}
+use Rattle.area.specs.Records.{Run, records_of, run_of}
 use Rattle.area.specs.Encoding.{Area, area_of}
 use Rattle.soundness.specs.Clauses.{checked}
 use Rattle.calls.specs.Replies.{Reply}
 use Rattle.calls.specs.Table.{Call}
 use Rattle.calls.specs.Calls.{CallResult, call_on}
 use Rattle.records.specs.Facts.{longer, call_result_longer}
-use Rattle.records.specs.Lent.{area_on, call_result_on, front}
+use Rattle.records.specs.Lent.{area_on, call_result_on, over, front}
 use Rattle.std.proofs.lemmas.Bool.{cases_lt}
+use Rattle.records.proofs.Overs.{over-front_of}
 use Rattle.records.proofs.Cuts.{alone}
 use Rattle.records.proofs.Longer.{call-longer, checked-longer}
 
@@ -43,12 +44,15 @@ module _ (j : JobRecord) (rs : List IndexRecord) (s : List ℤ) (n : ℕ) (n_is 
   few h = take_all n rs (omega (arith, n_is, h))
 
   -- what only answers
-  front_answers : {X : Type 0} (f : Area → X) → ((a : Area) (more : List IndexRecord) → 512 ≤ length a.run.records → f (longer a more) ≡ f a) → f part ≡ f all
+  pub front_answers : {X : Type 0} (f : Area → X) → ((a : Area) (more : List IndexRecord) → 512 ≤ length a.run.records → f (longer a more) ≡ f a) → f part ≡ f all
   front_answers f same =
       elim (cases_lt (length rs) 512) [
         | inl h ↦ ap (λ (l : List IndexRecord). f (area_on j l s)) (few (omega (arith, h)))
         | inr h ↦ (sym (same part (drop n rs) (room h)) ∙ ap f whole)
       ]
+
+  pub front-answer : (c : Call) → (call_on part c).answer ≡ (call_on all c).answer
+  front-answer c = front_answers (λ (a : Area). (call_on a c).answer) (λ a more h. ap (λ (x : CallResult). x.answer) (call-longer a more h c))
 
   -- what also writes
   unlonger : (x : CallResult) → call_result_longer x [] ≡ x
@@ -66,6 +70,13 @@ module _ (j : JobRecord) (rs : List IndexRecord) (s : List ℤ) (n : ℕ) (n_is 
   pub front_leaves : (c : Call) (r : Reply) (j' : JobRecord) (x : List IndexRecord) (t : List ℤ) → call_result_on r j' x t ≡ call_on part c
       → call_result_on r j' (x ++ drop n rs) t ≡ call_on all c
   front_leaves c r j' x t is = ap (λ (y : CallResult). call_result_longer y (drop n rs)) is ∙ front_calls c
+
+  -- the call on all leaves the first m records of cells over the lent ones, where that on the front leaves them over the front
+  pub front_stored : (c : Call) (r : Reply) (j' : JobRecord) (w : List ℕ) (t : List ℤ) (l : List IndexRecord) (m : ℕ) → m ≤ n
+      → call_result_on r j' (over m (records_of w) (take n rs)) t ≡ call_on part c → l ≡ over m (records_of w) rs → call_result_on r j' l t ≡ call_on all c
+  front_stored c r j' w t l m small is put =
+      ap (λ (x : List IndexRecord). call_result_on r j' x t) (put ∙ sym (over-front_of m n (records_of w) rs small (omega (arith, n_is))))
+      ∙ front_leaves c r j' (over m (records_of w) (take n rs)) t is
 
 -- what is answered on cells that hold the front of the records is answered on the records
 on_cells : {X : Type 0} {n : ℕ} (f : Area → X) (j : JobRecord) (rs : List IndexRecord) (s : List ℤ) (ws cells : List ℕ)

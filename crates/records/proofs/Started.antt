@@ -18,7 +18,10 @@ use Rattle.area.specs.Records.{Run, records_of}
 use Rattle.area.specs.Encoding.{area_of, records_for, encoded_from, run_with, store_with, job_with, written}
 use Rattle.machine.specs.Causes.{first_cause, start_causes}
 use Rattle.machine.specs.Steps.{started}
-use Rattle.calls.specs.Replies.{Reply, refused, accepted}
+use Rattle.std.specs.Prelude.{Result, Ok, Err, is_ok, ⊤}
+use Rattle.calls.specs.declared.cause.Cause.{Cause}
+use Rattle.calls.specs.Cause.{number_of_cause}
+use Rattle.calls.specs.Replies.{Reply, refused, accepted, reply_of}
 use Rattle.calls.specs.Table.{start, answer, row, causes_of, effect_of, accepted_answer, refused_answer, refusal}
 use Rattle.calls.specs.Calls.{CallResult, area_after, refusal_on, call_on, call_result_of}
 use Rattle.calls.proofs.CauseCases.{accepted_call, refused_call, either}
@@ -149,3 +152,15 @@ module _ (j : JobRecord) (rs : List IndexRecord) (s : List ℤ) (n : ℕ) (ws w 
       ∙ ap (λ m. over (min j'.held m) (front n after) (take n rs) ++ drop n rs) (sym lt))
       ∙ front_leaves j rs s n n_is (start g) accepted j' (over (min j'.held (length (take n rs))) (front n after) (take n rs)) s
       (accepted_over j g s (front n ws) (take n rs) (front n after) j' as_many (on_front accepted is) (omega (arith, lt, front_length n after small (cut_whole n ws small count w same))))
+
+  none_over : (xs ys : List IndexRecord) → over (min 0 n) xs ys ≡ ys
+  unfolding over
+  none_over xs ys = let none : min 0 n ≡ 0 = omega arith in ap (λ m. take m xs ++ drop m ys) none
+
+  -- and whichever it is, so many records are stored back
+  pub start_either : (r : Result ⊤ Cause) (l : List IndexRecord) (k : ℕ) → call_result_of (reply_of r) j' w s ≡ call_on (area_of j (take (n * 27) ws) s) (start g)
+      → k ≡ cond (is_ok r) j'.held 0 → l ≡ over (min k n) (records_of after) rs → call_result_on (reply_of r) j' l s ≡ call_on (area_on j rs s) (start g)
+  start_either (Ok u) l k is kept e = start_accepted l is (e ∙ ap (λ m. over (min m n) (records_of after) rs) kept)
+  start_either (Err d) l k is kept e =
+      ap (λ (x : List IndexRecord). call_result_on (refused (number_of_cause d)) j' x s) (e ∙ ap (λ m. over (min m n) (records_of after) rs) kept ∙ none_over (records_of after) rs)
+      ∙ start_refused (number_of_cause d) is

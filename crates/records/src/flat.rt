@@ -6,13 +6,13 @@ ghost use Rattle.records.specs.Lent.{over, over_run, front};
 // As many records as a job can hold.
 const MOST: usize = 512;
 
-// Records as cells: so many of them, 27 words to a record. There is room for 512 since no job holds more. The words are an array with the number beside it,
-// since the library has fixed memory and no heap. A call that writes takes both out: with the array in the struct this was tried, and a proof did not learn what was written to a part of it.
-#[derive(Drop)]
-pub(crate) struct Flat {
-    pub(crate) count: usize,
-    pub(crate) words: [u32; 13824],
-    ghost few: { count ≤ 512 },
+// Records as cells: so many of them, 27 words to a record. There is room for 512 since no job holds more; that there are no more is a clause, since anyone may make one.
+// The words are an array with the number beside it, since the library has fixed memory and no heap. A call that writes takes both out: with the array in the struct this was
+// tried, and a proof did not learn what was written to a part of it.
+#[derive(Clone, Copy)]
+pub struct Flat {
+    pub count: usize,
+    pub words: [u32; 13824],
 }
 
 // The records, into the cells.
@@ -58,6 +58,7 @@ impl Flat {
 
     // The cells of the records.
     pub(crate) fn cells(&self) -> &[u32]
+        requires { self.now.count ≤ 512 }
         ensures { run_of result.now ≡ record { records = front self.now.count self.now.words; rest = [] } }
     {
         &self.words[..self.count * 27]
@@ -65,7 +66,7 @@ impl Flat {
 
     // Stores so many of the records back, or all where that is more.
     pub(crate) fn store_back(&self, held: usize, records: &mut [area::IndexRecord])
-        requires { self.now.count ≤ length records.old }
+        requires { (self.now.count ≤ 512) × (self.now.count ≤ length records.old) }
         ensures { records.new ≡ over (min held self.now.count) (records_of self.now.words) records.old }
     {
         let n = held.min(self.count);

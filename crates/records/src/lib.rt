@@ -2,7 +2,7 @@
 // The calls over a lent run of index record structs. Each but start makes the call on the records as cells; start reads none. One that changed the
 // area stores the records then held, start record 0 alone; a refused call stores none. A job holds at most 512 records, so no more are made
 // cells; a call never looks at the others or changes them.
-ghost use Rattle.std.specs.Prelude.{◌≡◌};
+ghost use Rattle.std.specs.Prelude.{◌≡◌, cond, is_ok};
 ghost use Rattle.soundness.specs.Clauses.{checked};
 ghost use Rattle.calls.specs.Replies.{reply_of, reply_of_points, reply_of_choose, reply_of_promote, reply_of_result, reply_of_doubles, reply_of_total};
 ghost use Rattle.calls.specs.Table.{start, point, points, deliver, choose, promote, result as result_call, doubles, cross_total, answer};
@@ -12,7 +12,14 @@ ghost use Rattle.records.specs.Lent.{area_on, call_result_on};
 // Each call that reads makes the records cells and calls: one function that takes the call as a closure would save one of its two lines.
 mod flat;
 
-use flat::Flat;
+pub use flat::Flat;
+
+// How many records start stores back: those that are then held, and none where it is refused. (A function of its own, and no `?`: an edit changes the number of a refusal.)
+fn to_store(started: Result<(), calls::Cause>, held: u32) -> usize
+    ensures { result ≡ cond (is_ok started) held 0 }
+{
+    if started.is_ok() { held as usize } else { 0 }
+}
 
 // Starts a job in the place of the old one.
 pub fn start(
@@ -25,9 +32,10 @@ pub fn start(
 {
     let Flat { count, mut words } = Flat::room(records.len());
     let cells = &mut words[..count * 27];
-    calls::start(job, settings, cells, store)?;
-    Flat { count, words }.store_back(job.held as usize, records);
-    Ok(())
+    let started = calls::start(job, settings, cells, store);
+    let kept = to_store(started, job.held);
+    Flat { count, words }.store_back(kept, records);
+    started
 }
 
 // Writes the positions of the n-th point of the first wanted block into the buffer, later bytes untouched.

@@ -1,9 +1,12 @@
 -- `calls::choose_cause` meets its contract: the tests in the table's order. Assumes nothing.
-use mathlib.Core.Path.{sym, ◌∙◌}
+use mathlib.Core.Path.{◌≡◌, sym, ap, ◌∙◌}
+use native.Mathlib.Omega.{arith}
+use lib.ListN.{length}
+use Rattle.std.specs.Prelude.{unwrap_or}
 use Rattle.area.specs.Encoding.{area_of, machine_of}
 use Rattle.soundness.specs.Clauses.{is_sound}
 use Rattle.calls.specs.Replies.{lengths_of}
-use Rattle.calls.proofs.Validity.{held_room, is_wanted}
+use Rattle.calls.proofs.Validity.{held_room, is_wanted, some_below, none_above}
 use Rattle.calls.proofs.Causes.{choose_wanted, choose_free}
 use Rattle.calls.proofs.Found.{handed_on, choose_refused}
 use Rattle.calls.proofs.choose_cause.Goals as goal
@@ -22,7 +25,8 @@ returns-then-is_wanted c =
     let none = c.in_ok-area_cause.ensures in
     let w = c.first_wanted in
     sym (choose_wanted (lengths_of a) (is_sound a) (machine_of a).log (sym none)
-    (sym (is_wanted c.args.job c.args.cells.now c.args.store.now none c.first-held.result c.first-held.ensures w.result w.ensures.place w.ensures.within) ∙ sym c.is_some-is_wanted.ensures ∙ c.if-is_wanted.true))
+    (sym (is_wanted c.args.job c.args.cells.now c.args.store.now none c.first-held.result c.first-held.ensures w.result w.ensures.place w.ensures.within)
+    ∙ some_below w.result (length c.first-held.result) c.unwrap_or-place.result (c.unwrap_or-place.ensures ∙ ap (unwrap_or w.result) c.len-count.ensures) (omega (arith, c.if-is_wanted.true, c.len-count.ensures))))
 
 pub returns : goal.returns
 returns c =
@@ -30,4 +34,5 @@ returns c =
     let none = c.in_ok-area_cause.ensures in
     let w = c.first_wanted in
     sym (choose_free (lengths_of a) (is_sound a) (machine_of a).log (sym none)
-    (sym (is_wanted c.args.job c.args.cells.now c.args.store.now none c.first-held.result c.first-held.ensures w.result w.ensures.place w.ensures.within) ∙ sym c.is_some-is_wanted.ensures ∙ c.if-is_wanted.false))
+    (sym (is_wanted c.args.job c.args.cells.now c.args.store.now none c.first-held.result c.first-held.ensures w.result w.ensures.place w.ensures.within)
+    ∙ none_above w.result (length c.first-held.result) c.unwrap_or-place.result w.ensures.within (c.unwrap_or-place.ensures ∙ ap (unwrap_or w.result) c.len-count.ensures) (omega (arith, c.if-is_wanted.false, c.len-count.ensures))))

@@ -9,4 +9,4 @@ pub returns : goal.returns
 returns c =
     let flat = c.args.self.now in
     let count : length flat.words ≡ 13824 = search rules in
-    cut_run flat.count flat.words flat.few count
+    cut_run flat.count flat.words c.requires count

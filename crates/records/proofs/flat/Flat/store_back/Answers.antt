@@ -17,7 +17,7 @@ unfolding held_in
 deserialize-requires c =
     let flat = c.args.self.now in
     let words : length c.args.self.now.words ≡ 13824 = search rules in
-    let few = flat.few in
+    let few = c.requires.0 in
     let held = ap (λ (l : List IndexRecord). length l) c.first-held.ensures ∙ length-take-le c.min-n.result (records_of flat.words) (omega (arith, words, few, length-records_of flat.words)) in
     omega (arith, held, length-take-le c.min-n.result c.args.records.now (omega arith))
 
