@@ -60,6 +60,11 @@ module _ (c : List ℕ) (n : ℕ) (m : Machine) (i : ℕ) where
 -- ---- in a valid area
 
 module _ (j : JobRecord) (cells : List ℕ) (store : List ℤ) (st : ValidArea (area_of j cells store)) where
+  -- no entry is wanted where the first wanted place comes after the last
+  pub none_wanted : length (entries_of (area_of j cells store)) ≤ first_wanted (entries_of (area_of j cells store)) → any_wanted (machine_of (area_of j cells store)).log.entries ≡ false
+  unfolding machine_of
+  none_wanted h = wanted_no (machine_of (area_of j cells store)).log h
+
   -- what the scan of the held records for a wanted place tells
   module _ (rs : List IndexRecord) (are : rs ≡ held_in cells j.held) where
     first : first_wanted (heads_of rs) ≡ first_wanted (entries_of (area_of j cells store))
@@ -72,8 +77,7 @@ module _ (j : JobRecord) (cells : List ℕ) (store : List ℤ) (st : ValidArea (
     none_there e = omega (arith, first, count, e, entries_count j cells store st)
 
     pub wanted-none : length rs ≡ first_wanted (heads_of rs) → any_wanted (machine_of (area_of j cells store)).log.entries ≡ false
-    unfolding machine_of
-    wanted-none e = wanted_no (machine_of (area_of j cells store)).log (none_there e)
+    wanted-none e = none_wanted (none_there e)
 
     module _ (p : ℕ) (e : p ≡ first_wanted (heads_of rs)) (h : p < length rs) where
       pub place_is : (p ≡ first_wanted (entries_of (area_of j cells store))) × (p < j.held)
@@ -133,6 +137,10 @@ module _ (j : JobRecord) (cells : List ℕ) (store : List ℤ) (st : ValidArea (
           way_place outcomes.Spent by c n i
           ∙ unfold outcome_of by_outcome changed_by in
           ap (λ (x : Area). ended spent (machine_of x) i) (sym (area_is outcomes.Spent by))
+
+      -- and all of the area
+      pub spent_left : promotion_of outcomes.Spent job cells₁ store ≡ promote_on (area_of j cells store) p → area_of job cells₁ store ≡ area_of j cells store
+      spent_left by = unfold outcome_of changed_by in area_is outcomes.Spent by
 
       -- promoted, it leaves the next one
       pub promoted_step : promotion_of outcomes.Promoted job cells₁ store ≡ promote_on (area_of j cells store) p → (c : List ℕ) (n i : ℕ)

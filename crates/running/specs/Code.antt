@@ -3,6 +3,7 @@ use Rattle.std.specs.Prelude.{◌≡◌, cond, List, ◌++◌, ℕ, ◌+◌, ◌
 use Rattle.std.specs.Prelude as std
 use Rattle.area.specs.Log.{Machine}
 use Rattle.area.specs.Encoding.{area_of, machine_of}
+use Rattle.machine.specs.Log.{any_wanted}
 use Rattle.writing.specs.ValidArea.{ValidArea}
 use Rattle.calls.specs.Cause.{number_of_cause}
 use Rattle.reporting.specs.declared.ReportValues as coded
@@ -48,6 +49,20 @@ unfoldable pub after_step : List ℕ → (n : ℕ) → Execution → std.Result 
 after_step c n r (Err e) = refused_at (number_of e.cause) e.byte
 after_step c n r (Ok (Some e)) = ended (ending_in e) (state_of r) r.used
 after_step c n r (Ok None) = execution c n (state_of r) r.used
+
+-- A step that ends the execution leaves the area as it was, and delivers nothing. `after_step` says this of the state alone; here it is said of each cell
+-- and each reading, those past the held ones too.
+abbrev pub LeftAtEnd : Execution → Execution → std.Result (Option Ending) Refusal → Type 0
+LeftAtEnd before after (Err r) = Unit {0}
+LeftAtEnd before after (Ok (Some e)) = (area_of after.job after.cells after.store ≡ area_of before.job before.cells before.store) × (after.used ≡ before.used)
+LeftAtEnd before after (Ok None) = Unit {0}
+
+-- A step that goes on delivers one entry where a block is wanted, and none where a place is promoted. That the entry was one of those left follows,
+-- as the execution stays valid.
+abbrev pub CountedOn : Execution → Execution → std.Result (Option Ending) Refusal → Type 0
+CountedOn before after (Err r) = Unit {0}
+CountedOn before after (Ok (Some e)) = Unit {0}
+CountedOn before after (Ok None) = after.used ≡ cond (any_wanted (state_of before).log.entries) (before.used + 1) before.used
 
 -- The text for what a run gives: the report of its figures, or the line of its refusal.
 abbrev pub text_for : std.Result coded.ReportValues Refusal → List ℕ

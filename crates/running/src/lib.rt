@@ -15,7 +15,7 @@ ghost use Rattle.jobfile.specs.Facts.{FormedFile};
 ghost use Rattle.running.specs.Execution.{own_lengths, file_settings, start_cause, start_byte, unless_refused, by_choice, execution as execution_of};
 ghost use Rattle.reporting.specs.Code.{ending_in, report_values_in};
 ghost use Rattle.running.specs.Report.{report_values_of, text_of};
-ghost use Rattle.running.specs.Code.{number_of, state_of, ValidExecution, after_delivery, after_step, text_for, answer_in, run_on};
+ghost use Rattle.running.specs.Code.{number_of, state_of, ValidExecution, after_delivery, after_step, LeftAtEnd, CountedOn, text_for, answer_in, run_on};
 
 // The buffer is too short for a report. This is no cause of the table, and has no number.
 #[derive(Clone, Copy, PartialEq, Eq)]
@@ -130,6 +130,7 @@ impl<'a> Execution<'a> {
         requires { ValidExecution self.old.bytes.now self.old × (place ≡ first_wanted (entries_of (area_of self.old.job self.old.cells self.old.store))) × (place < self.old.job.held) × (self.old.used < self.old.entries) }
         ensures is { (n : ℕ) → unless_refused self.old.bytes.now (state_of self.old) self.old.used (execution_of self.old.bytes.now n (deliver (state_of self.old) (entry_of self.old.bytes.now self.old.used).readings (entry_of self.old.bytes.now self.old.used).indicator) (self.old.used + 1)) ≡ after_delivery self.old.bytes.now n self.new result }
         ensures valid { OnOk result (ValidExecution self.old.bytes.now self.new) }
+        ensures used { OnOk result (self.new.used ≡ self.old.used + 1) }
     {
         let bytes = self.bytes;
         let job = self.job;
@@ -166,6 +167,8 @@ impl<'a> Execution<'a> {
         requires { ValidExecution self.old.bytes.now self.old × (length (entries_of (area_of self.old.job self.old.cells self.old.store)) ≤ first_wanted (entries_of (area_of self.old.job self.old.cells self.old.store))) }
         ensures is { (n : ℕ) → by_choice (choose (state_of self.old).log) (state_of self.old) self.old.used (λ p. execution_of self.old.bytes.now n (promote_step (state_of self.old) p) self.old.used) ≡ after_step self.old.bytes.now n self.new (Ok result) }
         ensures valid { ValidExecution self.old.bytes.now self.new }
+        ensures left { LeftAtEnd self.old self.new (Ok result) }
+        ensures used { CountedOn self.old self.new (Ok result) }
     {
         let budget = self.job.settings.budget;
         let job = &mut self.job;
@@ -188,6 +191,8 @@ impl<'a> Execution<'a> {
         requires { ValidExecution self.old.bytes.now self.old }
         ensures is { (n : ℕ) → execution_of self.old.bytes.now (suc n) (state_of self.old) self.old.used ≡ after_step self.old.bytes.now n self.new result }
         ensures valid { OnOk result (ValidExecution self.old.bytes.now self.new) }
+        ensures left { LeftAtEnd self.old self.new result }
+        ensures used { CountedOn self.old self.new result }
     {
         let held = area::IndexRecords::first(&self.cells, self.job.held as usize);
         if let Some(place) = delivery::first_wanted(&held) {

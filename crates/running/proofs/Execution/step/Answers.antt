@@ -38,6 +38,13 @@ returns-in-Some-clause-is c n =
     way_deliver a.bytes.now n (state_of a) a.used (wanted_there a.job a.cells a.store c.requires.area c.first-held.result c.first-held.ensures p.place p.ensures.place p.ensures.within) (omega (arith, c.requires.entries, c.if-self.false))
     ∙ c.in_ok-deliver_entry.ensures.is n
 
+pub returns-in-Some-clause-used : goal.returns-in-Some-clause-used
+returns-in-Some-clause-used c =
+    let a = c.args.self.now in
+    let p = c.in-Some in
+    rw (wanted_there a.job a.cells a.store c.requires.area c.first-held.result c.first-held.ensures p.place p.ensures.place p.ensures.within)
+    c.in_ok-deliver_entry.ensures.used
+
 pub promote-requires : goal.promote-requires
 promote-requires c =
     let a = c.args.self.now in
