@@ -9,7 +9,8 @@ use lib.Dec.{eqb}
 use lib.IntN.{ℤ}
 use lib.ListN.{length}
 use Rattle.sums.specs.Sums.{nat_sum_to}
-use Rattle.grid.specs.Index.{at_ceiling}
+use Rattle.grid.specs.Index.{Index, at_ceiling}
+use Rattle.grid.proofs.Ceilings.{ceiling_facts}
 use Rattle.area.specs.declared.IndexRecord.{IndexRecord}
 use Rattle.area.specs.declared.JobRecord.{JobRecord}
 use Rattle.area.specs.Records.{held_in}
@@ -37,22 +38,28 @@ pub count_small : (rs : List IndexRecord) → delivered_count rs ≤ length rs
 unfolding delivered_count
 count_small rs = omega (arith, each_at_most (length rs) 1 (λ p. cond (eqb (state_at rs p) 0) 0 1) (λ p h. at_most_one (eqb (state_at rs p) 0)))
 
--- an index at a ceiling is so among eight axes as among the job's
-pub carried_eight : (d : ℕ) (rs : List IndexRecord) → 1 ≤ d → d ≤ 8 → places_test d rs ≡ true → carried_in 8 rs ≡ carried_in d rs
+-- where each index is at a ceiling among eight axes just if it is among d, the carried errors are the same
+carried_alike : (d : ℕ) (rs : List IndexRecord) → ((p : ℕ) → p < length rs → at_ceiling 8 (levels_at rs p) ≡ at_ceiling d (levels_at rs p)) → carried_in 8 rs ≡ carried_in d rs
 unfolding carried_in nat_sum_to
-carried_eight d rs some few passed = same (length rs) (λ p h. h)
+carried_alike d rs alike = same (length rs) (λ p h. h)
   where
     part : ℕ → ℕ → ℕ
     part e p = cond (eqb (state_at rs p) 2 && at_ceiling e (levels_at rs p)) (record_at rs p).indicator 0
-
-    alike : (p : ℕ) → p < length rs → at_ceiling 8 (levels_at rs p) ≡ at_ceiling d (levels_at rs p)
-    alike p h = axes_alike d (levels_at rs p) some (place_within d rs passed p h) (place_beyond d rs passed few p h) few
 
     same : (n : ℕ) → ((p : ℕ) → p < n → p < length rs) → nat_sum_to n (part 8) ≡ nat_sum_to n (part d)
     same zero h = refl
     same (suc n) h =
         ap₂ (λ x y. x + y) (same n (λ p l. h p (omega (arith, l))))
         (ap (λ t. cond (eqb (state_at rs n) 2 && t) (record_at rs n).indicator 0) (alike n (h n (omega arith))))
+
+-- an index at a ceiling is so among eight axes as among the job's
+pub carried_eight : (d : ℕ) (rs : List IndexRecord) → 1 ≤ d → d ≤ 8 → places_test d rs ≡ true → carried_in 8 rs ≡ carried_in d rs
+carried_eight d rs some few passed =
+    carried_alike d rs (λ p h. axes_alike d (levels_at rs p) some (place_within d rs passed p h) (place_beyond d rs passed few p h) few)
+
+-- the same where each place holds an index of d axes
+pub carried_of_indices : (d : ℕ) (rs : List IndexRecord) → 1 ≤ d → d ≤ 8 → ((p : ℕ) → p < length rs → Index d (levels_at rs p)) → carried_in 8 rs ≡ carried_in d rs
+carried_of_indices d rs some few index = carried_alike d rs (λ p h. ceiling_facts.axes_alike d (levels_at rs p) some few (index p h))
 
 -- ---- the area
 module _ (j : JobRecord) (c : List ℕ) (s : List ℤ) where

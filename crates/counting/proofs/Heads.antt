@@ -12,6 +12,7 @@ use Rattle.area.specs.Records.{held_in}
 use Rattle.area.specs.Encoding.{area_of, entries_of}
 use Rattle.area.proofs.Records.{length-records_of}
 use Rattle.quadrature.specs.Readings.{record_at}
+use Rattle.quadrature.proofs.Held.{held_length}
 use Rattle.machine.specs.Counts.{count_of, ceiling_count}
 use Rattle.writing.specs.Heads.{heads_of}
 use Rattle.writing.specs.ValidArea.{ValidArea}
@@ -28,6 +29,14 @@ module _ (j : JobRecord) (c : List ℕ) (s : List ℤ) (valid : ValidArea (area_
   pub held_within : (p : ℕ) → p < length (held_in c j.held) → Within (record_at (held_in c j.held) p).levels
   unfolding held_in
   held_within p h = (valid.sound.structure.index p h).ceilings
+
+  -- the job record counts at most 512 held indices
+  pub held_few_count : j.held ≤ 512
+  held_few_count = omega (arith, held_few, held_length c j.held held_there)
+
+  -- each place below that count holds an index within the ceilings
+  pub held_within_count : (p : ℕ) → p < j.held → Within (record_at (held_in c j.held) p).levels
+  held_within_count p h = held_within p (omega (arith, h, held_length c j.held held_there))
 
   pub counted : (t : ℕ) → count_of t (heads_of (held_in c j.held)) ≡ count_of t (entries_of (area_of j c s))
   counted t = alike_count (heads_of (held_in c j.held)) (entries_of (area_of j c s)) (heads_are j c s) t

@@ -1,19 +1,20 @@
 -- The part of a full tensor rule that a loop has behind it: one step at a time, and its size.
 -- The idea: one point more is one summand more; the sizes of some summands come to no more than those of all.
 -- Assumes nothing.
-use mathlib.Core.Path.{◌≡◌, refl, sym, ap, ◌∙◌}
+use mathlib.Core.Path.{◌≡◌, refl, sym, ap, ◌∙◌, subst}
 use mathlib.Core.List.{List, [], ◌∷◌}
 use Prim.Native.Nat.{ℕ, zero, suc, ◌+◌, ◌*◌, ◌-◌, ◌^◌, ◌<◌, ◌≤◌, zero-le}
 use native.Mathlib.Nat as NatL
 use native.Mathlib.Nat.{le_refl, le_trans, le_of_eq, mul-le-mul, add-le-add}
+use native.Mathlib.Numerals.{add-one}
 use native.Mathlib.Omega.{arith}
-use lib.IntN.{ℤ, pos, nat_abs, ◌+ℤ◌, ◌*ℤ◌, +ℤ_idl, +ℤ_idr, *ℤ-zero}
+use lib.IntN.{ℤ, pos, nat_abs, ◌+ℤ◌, ◌*ℤ◌, +ℤ_idl, +ℤ_idr, +ℤ_assoc, *ℤ-zero}
 use lib.ListN.{length, drop, replicate}
 use lib.Pow.{pow-add, pow_mono}
 use Rattle.sums.specs.Sums.{sum_to, nat_sum_to}
-use Rattle.sums.proofs.Ring.{one-*ℤ}
+use Rattle.sums.proofs.Ring.{one-*ℤ, distl}
 use Rattle.sums.proofs.Sums.{sum_to-suc}
-use Rattle.sums.proofs.Sizes.{abs_mul, abs_sum_to, nat_sum_to-suc, nat_sum_to_cong, nat_sum_to_const, nat_sum_to_mul, nat_sum_to-some}
+use Rattle.sums.proofs.Sizes.{abs_add, abs_mul, abs_sum_to, nat_sum_to-suc, nat_sum_to_cong, nat_sum_to_const, nat_sum_to_mul, nat_sum_to-some}
 use Rattle.rule.specs.Points.{new_count}
 use Rattle.rule.specs.Rules.{unit}
 use Rattle.rule.specs.Weights.{whole_weight}
@@ -41,6 +42,19 @@ module _ (top : ℕ) (ks : List ℕ) (R : Readings) where
   unfolding points_done sum_to
   no_points l = refl
 
+  -- the points of a level with one point more
+  point_more : (n l : ℕ) → points_done (n + 1) l ks R ≡ points_done n l ks R +ℤ tensor_sum ks (behind R l n)
+  unfolding points_done
+  point_more n l = ap (λ m. sum_to m (λ i. tensor_sum ks (behind R l i))) (add-one n) ∙ sum_to-suc n (λ i. tensor_sum ks (behind R l i))
+
+  -- one point more
+  pub done_point : (l p : ℕ) → tensor_done top l p ks R +ℤ whole_weight top l *ℤ tensor_sum ks (behind R l p) ≡ tensor_done top l (p + 1) ks R
+  unfolding tensor_done
+  done_point l p =
+      +ℤ_assoc (sum_to (l - 1) term) (whole_weight top l *ℤ points_done p l ks R) (whole_weight top l *ℤ tensor_sum ks (behind R l p))
+      ∙ ap (λ x. sum_to (l - 1) term +ℤ x)
+      (sym (distl (whole_weight top l) (points_done p l ks R) (tensor_sum ks (behind R l p))) ∙ ap (λ x. whole_weight top l *ℤ x) (sym (point_more p l)))
+
   -- before the first point of a level
   none_here : (n l : ℕ) → sum_to n term +ℤ whole_weight top l *ℤ points_done 0 l ks R ≡ sum_to n term
   none_here n l = ap (λ x. sum_to n term +ℤ x) (ap (λ x. whole_weight top l *ℤ x) (no_points l) ∙ *ℤ-zero (whole_weight top l)) ∙ +ℤ_idr (sum_to n term)
@@ -59,6 +73,15 @@ module _ (top : ℕ) (ks : List ℕ) (R : Readings) where
   unfolding tensor_done
   done-level zero h = absurd (omega arith)
   done-level (suc l) h = ap (λ x. x +ℤ term l) (none_here (suc l - 1) (suc l) ∙ ap (λ n. sum_to n term) (less l)) ∙ sym (sum_to-suc l term) ∙ sym (done_levels (suc l))
+    where
+      less : (n : ℕ) → suc n - 1 ≡ n
+      less n = omega arith
+
+  -- the points of a level are done
+  pub done_points : (l : ℕ) → 1 ≤ l → tensor_done top l (new_count l) ks R ≡ tensor_done top (l + 1) 0 ks R
+  unfolding tensor_done
+  done_points zero h = absurd (omega arith)
+  done_points (suc l) h = ap (λ n. sum_to n term +ℤ term l) (less l) ∙ sym (sum_to-suc l term) ∙ sym (done_levels (suc l))
     where
       less : (n : ℕ) → suc n - 1 ≡ n
       less n = omega arith
@@ -158,3 +181,24 @@ module _ (b top : ℕ) (ks : List ℕ) (R : Readings) (v : Levels b ks) (r : InR
   levels-size l c =
       le_trans (le_of_eq (ap nat_abs (done_levels top ks R l)))
       (le_trans (levels_part l c) (le_trans (mul-le-mul (first_sizes top l c) (le_refl M)) (le_of_eq whole)))
+
+  -- what it has added up before a point of a level
+  pub done-size : (l p : ℕ) → 1 ≤ l → l ≤ top → p ≤ new_count l → nat_abs (tensor_done top l p ks R) ≤ 2 ^ units (top ∷ ks) * 1048576
+  unfolding tensor_done
+  done-size zero p a c h = absurd (omega arith)
+  done-size (suc i) p a c h =
+      let e : suc i - 1 ≡ i = omega arith in
+      le_trans (abs_add (sum_to (suc i - 1) (term top ks R)) (whole_weight top (suc i) *ℤ points_done p (suc i) ks R))
+      (le_trans (add-le-add (subst (λ n. nat_abs (sum_to n (term top ks R)) ≤ nat_sum_to i (size top) * M) (sym e) (levels_part i (omega arith)))
+      (weighed i (points_done p (suc i) ks R) (points_part p (suc i) a c h))) (both i c))
+
+  -- what a point of a level adds to it
+  pub next_size : (l p : ℕ) → 1 ≤ l → l ≤ top → p < new_count l → nat_abs (whole_weight top l *ℤ tensor_sum ks (behind R l p)) ≤ 2 ^ units (top ∷ ks) * 1048576
+  next_size zero p a c h = absurd (omega arith)
+  next_size (suc i) p a c h =
+      let part : nat_abs (whole_weight top (suc i) *ℤ tensor_sum ks (behind R (suc i) p)) ≤ size top i * M =
+      weighed i (tensor_sum ks (behind R (suc i) p)) (le_trans (point-size (suc i) p a c h) (times (new_count (suc i)) M (omega arith))) in
+      omega (arith, both i c)
+    where
+      times : (n m : ℕ) → 1 ≤ n → m ≤ n * m
+      times n m q = le_trans (le_of_eq (sym (NatL.one-mul m))) (mul-le-mul q (le_refl m))

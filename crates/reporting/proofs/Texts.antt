@@ -45,6 +45,10 @@ report_room f =
     simp (length-append, length-line)
     (omega (arith, most f.axes, most f.old, most f.active, most f.wanted, most f.reserved, most f.pending, most f.carried, most f.ceiling, most_signed f.scaled, most f.unused, most_ending f.ending))
 
-pub refusal_room : (n b : ℕ) → length (refusal_text n b) ≤ 512
+-- a refusal's text has at most 61 bytes
+pub refusal_short : (n b : ℕ) → length (refusal_text n b) ≤ 61
 unfolding refusal_text
-refusal_room n b = simp length-append (omega (arith, most n, most b))
+refusal_short n b = simp length-append (omega (arith, most n, most b))
+
+pub refusal_room : (n b : ℕ) → length (refusal_text n b) ≤ 512
+refusal_room n b = omega (arith, refusal_short n b)
